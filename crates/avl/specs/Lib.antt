@@ -1,0 +1,14 @@
+pub mod Search
+pub mod Ascending
+pub mod View
+pub mod Rotation
+pub mod Frames
+pub mod Fetch
+pub mod Measure
+pub mod Turn
+pub mod Climb
+pub mod Walk
+pub mod Table
+pub mod Remove
+pub mod Holds
+pub mod MapKeeps

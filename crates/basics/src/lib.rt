@@ -1,0 +1,1 @@
+// Facts about lists and choices that every other crate cites; no code.

@@ -1,0 +1,3 @@
+pub mod Fetch
+pub mod Call
+pub mod Examples

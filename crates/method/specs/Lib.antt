@@ -1,0 +1,11 @@
+pub mod Node
+pub mod Prog
+pub mod Answer
+pub mod Plain
+pub mod Map
+pub mod Stack
+pub mod Rounds
+pub mod Call
+pub mod Origin
+pub mod Examples
+pub mod Safe

@@ -1,0 +1,4 @@
+pub mod Format
+pub mod Round
+pub mod Nodes
+pub mod Examples

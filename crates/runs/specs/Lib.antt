@@ -1,0 +1,11 @@
+pub mod SafeLaws
+pub mod Fetches
+pub mod Natural
+pub mod StackNatural
+pub mod MapNatural
+pub mod Leaves
+pub mod EnoughRounds
+pub mod Calls
+pub mod Answers
+pub mod Origins
+pub mod StackRepresents

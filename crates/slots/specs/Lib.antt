@@ -1,0 +1,12 @@
+pub mod LittleEndian
+pub mod LittleEndianLaws
+pub mod Layout
+pub mod LayoutLaws
+pub mod Slot
+pub mod Tree
+pub mod TreeLaws
+pub mod SlotLaws
+pub mod ReadLaws
+pub mod BucketLaws
+pub mod Examples
+pub mod WordLaws

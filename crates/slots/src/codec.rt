@@ -1,0 +1,134 @@
+// What a slot's words are read as, and the words of a node.
+use super::Link;
+use super::Node;
+use super::Reading;
+use super::Slot;
+use super::tree::leaves;
+use super::tree::passes_bucket;
+ghost use mathlib.Core.Path.{_≡_};
+ghost use Prim.Native.Nat.{_≤_};
+ghost use Rattle.slots.specs.Slot.{slotBytes, fieldsIn, nodeOf, encode, allZero, linkGood, wellFormed, readSlot};
+
+// The key of a slot's node.
+pub fn key_of(x: Slot) -> u32
+    ensures { λ r. ⌜ r ≡ fieldsIn (slotBytes x) .key ⌝ }
+{
+    (x.a / 4294967296) as u32
+}
+
+// The position tag of a slot's node.
+pub fn tag_of(x: Slot) -> u16
+    ensures { λ r. ⌜ r ≡ fieldsIn (slotBytes x) .tag ⌝ }
+{
+    (x.c % 65536) as u16
+}
+
+// The node that a slot's fields hold.
+pub fn node_of(x: Slot) -> Node
+    ensures { λ r. ⌜ r ≡ nodeOf (fieldsIn (slotBytes x)) ⌝ }
+{
+    let left = Link {
+        height: (x.a / 256 % 256) as u8,
+        key: (x.b % 4294967296) as u32,
+        tag: (x.c / 65536 % 65536) as u16,
+    };
+    let right = Link {
+        height: (x.a / 65536 % 256) as u8,
+        key: (x.b / 4294967296) as u32,
+        tag: (x.c / 4294967296 % 65536) as u16,
+    };
+    Node {
+        key: (x.a / 4294967296) as u32,
+        value: x.d,
+        tag: (x.c % 65536) as u16,
+        left,
+        right,
+    }
+}
+
+// The slot that holds a node.
+pub fn slot_of(n: Node) -> Slot
+    ensures { λ r. ⌜ slotBytes r ≡ encode n ⌝ }
+{
+    Slot {
+        a: 1
+            + 256 * (n.left.height as u64)
+            + 65536 * (n.right.height as u64)
+            + 4294967296 * (n.key as u64),
+        b: n.left.key as u64 + 4294967296 * (n.right.key as u64),
+        c: n.tag as u64 + 65536 * (n.left.tag as u64) + 4294967296 * (n.right.tag as u64),
+        d: n.value,
+    }
+}
+
+pub fn is_zero(x: Slot) -> bool
+    ensures { λ r. ⌜ r ≡ allZero (slotBytes x) ⌝ }
+{
+    if x.a != 0 {
+        return false;
+    }
+    if x.b != 0 {
+        return false;
+    }
+    if x.c != 0 {
+        return false;
+    }
+    x.d == 0
+}
+
+// A link that no slot is bad for: an absent one has no key or tag, and the tag is a leaf of a tree of that size.
+pub fn link_good(size: usize, link: Link) -> bool
+    requires { ⌜ size ≤ 16 ⌝ }
+    ensures { λ r. ⌜ r ≡ linkGood size link ⌝ }
+{
+    if link.height == 0 {
+        if link.key != 0 {
+            return false;
+        }
+        return link.tag == 0;
+    }
+    (link.tag as usize) < leaves(size)
+}
+
+// A node that no slot is bad for, its bucket not asked about.
+pub fn well_formed(size: usize, n: Node) -> bool
+    requires { ⌜ size ≤ 16 ⌝ }
+    ensures { λ r. ⌜ r ≡ wellFormed size n ⌝ }
+{
+    let left = n.left;
+    let right = n.right;
+    if (n.tag as usize) >= leaves(size) {
+        return false;
+    }
+    if !link_good(size, left) {
+        return false;
+    }
+    link_good(size, right)
+}
+
+// What the slot is read as in a bucket of a tree of that size.
+pub fn reading(x: Slot, size: usize, bucket: usize) -> Reading
+    requires { ⌜ size ≤ 16 ⌝ }
+    ensures { λ r. ⌜ r ≡ readSlot size bucket (slotBytes x) ⌝ }
+{
+    if is_zero(x) {
+        return Reading::Empty;
+    }
+    if x.a % 256 != 1 {
+        return Reading::Bad;
+    }
+    if x.a / 16777216 % 256 != 0 {
+        return Reading::Bad;
+    }
+    if x.c / 281474976710656 != 0 {
+        return Reading::Bad;
+    }
+    let n = node_of(x);
+    if !well_formed(size, n) {
+        return Reading::Bad;
+    }
+    if !passes_bucket(size, n.tag as usize, bucket) {
+        return Reading::Bad;
+    }
+    Reading::Full(n)
+}

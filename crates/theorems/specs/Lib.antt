@@ -1,0 +1,4 @@
+pub mod MapRepresents
+pub mod Represented
+pub mod Links
+pub mod Theorems

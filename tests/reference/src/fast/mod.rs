@@ -1,0 +1,91 @@
+//! The store written for speed: fixed arrays, no allocation in a call.
+
+mod map;
+mod node;
+mod rounds;
+mod stack;
+mod state;
+
+pub use node::Node;
+pub use state::{open, State};
+
+use crate::paper::*;
+use crate::{plain, Store};
+use rounds::Rounds;
+
+pub fn call(
+    state: &mut State,
+    tree: &mut [u8],
+    ticket: &[u8],
+    tape: &[u16],
+    trace: &mut [u16],
+) -> Outcome {
+    if let Err(cause) = check(state, tree.len(), ticket, tape.len(), trace.len()) {
+        return Outcome::refused(cause);
+    }
+    let ticket = Ticket::read(ticket);
+    let structure = state.structure;
+    let mut rounds = Rounds::new(state, tree, tape, trace);
+    let result = match structure {
+        MAP => map::call(&mut rounds, ticket),
+        _ => stack::call(&mut rounds, ticket),
+    };
+    rounds.end();
+    let leaves = rounds.leaves;
+    let answer = result.unwrap_or_else(|cause| {
+        state.mark = cause;
+        Answer::Refused(cause)
+    });
+    Outcome { answer, leaves }
+}
+
+/// The causes 1 to 7, in order.
+fn check(state: &State, tree: usize, ticket: &[u8], tape: usize, trace: usize) -> Result<(), u8> {
+    let unless = |holds: bool, cause: u8| if holds { Ok(()) } else { Err(cause) };
+    unless(state.mark == 0, CLOSED)?;
+    unless(state.is_fit(), STATE_UNFIT)?;
+    unless(tree == tree_bytes(state.size), TREE_LENGTH)?;
+    unless(ticket.len() == TICKET_BYTES, TICKET_LENGTH)?;
+    unless(kind_fits(state.structure, ticket[0]), FOREIGN_KIND)?;
+    let rounds = fetch_rounds(state.structure, state.size);
+    unless(tape > 2 * rounds, TAPE_SHORT)?;
+    unless(trace >= 2 * rounds, TRACE_SHORT)
+}
+
+impl Store for State {
+    fn open(structure: u8, size: u8, tree: &mut [u8]) -> State {
+        open(structure, size, tree)
+    }
+
+    fn call(&mut self, tree: &mut [u8], ticket: &[u8], tape: &[u16], trace: &mut [u16]) -> Outcome {
+        call(self, tree, ticket, tape, trace)
+    }
+
+    fn to_plain(&self) -> plain::State {
+        plain::State {
+            mark: self.mark,
+            structure: self.structure,
+            size: self.size,
+            entries: self.entries,
+            root: self.root,
+            count: self.count,
+            places: self.places.iter().map(Node::slot).collect(),
+        }
+    }
+
+    fn from_plain(state: &plain::State) -> State {
+        let mut places = [Node::EMPTY; PLACES];
+        for (place, slot) in places.iter_mut().zip(&state.places) {
+            *place = Node::read(slot);
+        }
+        State {
+            mark: state.mark,
+            structure: state.structure,
+            size: state.size,
+            entries: state.entries,
+            root: state.root,
+            count: state.count,
+            places,
+        }
+    }
+}

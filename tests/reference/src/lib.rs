@@ -1,0 +1,25 @@
+//! A second, independent implementation of the oblivious settings store.
+//!
+//! - `paper`: the numbers and words of the paper that every part uses.
+//! - `plain`: the store written for reading, over Vecs and recursion.
+//! - `fast`: the same store written for speed, over fixed arrays.
+//! - `origin`: the origin rule, a machine with no buckets and no tape.
+//! - `walk`, `listing`: what the programs print.
+
+pub mod fast;
+pub mod listing;
+pub mod origin;
+pub mod paper;
+pub mod plain;
+pub mod walk;
+
+use paper::Outcome;
+
+/// What `plain` and `fast` both offer.
+pub trait Store: Clone {
+    fn open(structure: u8, size: u8, tree: &mut [u8]) -> Self;
+    fn call(&mut self, tree: &mut [u8], ticket: &[u8], tape: &[u16], trace: &mut [u16]) -> Outcome;
+    /// The state in its plain form, every byte of every place included.
+    fn to_plain(&self) -> plain::State;
+    fn from_plain(state: &plain::State) -> Self;
+}

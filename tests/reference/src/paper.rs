@@ -1,0 +1,189 @@
+//! Numbers and words of the paper.
+
+pub const MAP: u8 = 1;
+pub const STACK: u8 = 2;
+pub const GREATEST_SIZE: u8 = 8;
+
+pub const GET: u8 = 1;
+pub const PUT: u8 = 2;
+pub const REMOVE: u8 = 3;
+pub const PUSH: u8 = 4;
+pub const POP: u8 = 5;
+
+pub const TICKET_BYTES: usize = 13;
+pub const SLOT_BYTES: usize = 32;
+pub const BUCKET_SLOTS: usize = 4;
+pub const BUCKET_BYTES: usize = SLOT_BYTES * BUCKET_SLOTS;
+/// Places for waiting nodes in the state.
+pub const PLACES: usize = 101;
+/// Waiting and held nodes at a round's close.
+pub const WAITING_LIMIT: usize = 64;
+/// Greatest height of a balanced tree with 2^k - 1 entries, for k = 1 to 8.
+pub const GREATEST_HEIGHT: [usize; 8] = [1, 2, 4, 5, 6, 8, 9, 11];
+
+pub const CLOSED: u8 = 1;
+pub const STATE_UNFIT: u8 = 2;
+pub const TREE_LENGTH: u8 = 3;
+pub const TICKET_LENGTH: u8 = 4;
+pub const FOREIGN_KIND: u8 = 5;
+pub const TAPE_SHORT: u8 = 6;
+pub const TRACE_SHORT: u8 = 7;
+pub const DAMAGE: u8 = 8;
+pub const OVERFLOW: u8 = 9;
+pub const FULL: u8 = 10;
+pub const BAD_STRUCTURE: u8 = 11;
+pub const BAD_SIZE: u8 = 12;
+
+pub type Slot = [u8; SLOT_BYTES];
+
+/// Height 0 means no link; its key and tag are then 0.
+#[derive(Clone, Copy, Debug, Default, PartialEq, Eq)]
+pub struct Link {
+    pub height: u8,
+    pub key: u32,
+    pub tag: u16,
+}
+
+impl Link {
+    pub const NONE: Link = Link {
+        height: 0,
+        key: 0,
+        tag: 0,
+    };
+}
+
+#[derive(Clone, Copy, Debug, PartialEq, Eq)]
+pub struct Ticket {
+    pub kind: u8,
+    pub key: u32,
+    pub value: u64,
+}
+
+impl Ticket {
+    pub fn new(kind: u8, key: u32, value: u64) -> Ticket {
+        Ticket { kind, key, value }
+    }
+
+    /// The ticket in 13 bytes.
+    pub fn read(bytes: &[u8]) -> Ticket {
+        Ticket {
+            kind: bytes[0],
+            key: u32::from_le_bytes(bytes[1..5].try_into().unwrap()),
+            value: u64::from_le_bytes(bytes[5..13].try_into().unwrap()),
+        }
+    }
+
+    pub fn bytes(&self) -> [u8; TICKET_BYTES] {
+        let mut bytes = [0; TICKET_BYTES];
+        bytes[0] = self.kind;
+        bytes[1..5].copy_from_slice(&self.key.to_le_bytes());
+        bytes[5..13].copy_from_slice(&self.value.to_le_bytes());
+        bytes
+    }
+}
+
+#[derive(Clone, Copy, Debug, PartialEq, Eq)]
+pub enum Answer {
+    Found(u64),
+    Absent,
+    Replaced(u64),
+    New,
+    Removed(u64),
+    Pushed,
+    Popped(u64),
+    Empty,
+    Refused(u8),
+}
+
+impl Answer {
+    pub fn word(&self) -> &'static str {
+        match self {
+            Answer::Found(_) => "found",
+            Answer::Absent => "absent",
+            Answer::Replaced(_) => "replaced",
+            Answer::New => "new",
+            Answer::Removed(_) => "removed",
+            Answer::Pushed => "pushed",
+            Answer::Popped(_) => "popped",
+            Answer::Empty => "empty",
+            Answer::Refused(_) => "refused",
+        }
+    }
+
+    /// The number after the word: a value, 0 for none, or the cause.
+    pub fn number(&self) -> u64 {
+        match *self {
+            Answer::Found(value)
+            | Answer::Replaced(value)
+            | Answer::Removed(value)
+            | Answer::Popped(value) => value,
+            Answer::Refused(cause) => u64::from(cause),
+            Answer::Absent | Answer::New | Answer::Pushed | Answer::Empty => 0,
+        }
+    }
+}
+
+/// What a call returns: its answer, and how many leaves it revealed.
+#[derive(Clone, Copy, Debug, PartialEq, Eq)]
+pub struct Outcome {
+    pub answer: Answer,
+    pub leaves: usize,
+}
+
+impl Outcome {
+    pub fn refused(cause: u8) -> Outcome {
+        Outcome {
+            answer: Answer::Refused(cause),
+            leaves: 0,
+        }
+    }
+}
+
+pub fn leaf_count(size: u8) -> usize {
+    1 << size
+}
+
+pub fn capacity(size: u8) -> u32 {
+    (1 << size) - 1
+}
+
+pub fn tree_bytes(size: u8) -> usize {
+    BUCKET_BYTES * ((1 << (size + 1)) - 1)
+}
+
+/// F of a structure and size, both in range.
+pub fn fetch_rounds(structure: u8, size: u8) -> usize {
+    if structure == STACK {
+        1
+    } else {
+        3 * GREATEST_HEIGHT[usize::from(size) - 1]
+    }
+}
+
+pub fn kind_fits(structure: u8, kind: u8) -> bool {
+    match structure {
+        MAP => (GET..=REMOVE).contains(&kind),
+        STACK => (PUSH..=POP).contains(&kind),
+        _ => false,
+    }
+}
+
+/// The fewest entries of a balanced tree of this height.
+pub fn least_entries(height: u8) -> u64 {
+    let (mut this, mut next) = (0u64, 1u64);
+    for _ in 0..height {
+        (this, next) = (next, this.saturating_add(next).saturating_add(1));
+    }
+    this
+}
+
+/// Whether some balanced tree has this height and this many entries.
+pub fn height_possible(height: u8, entries: u32) -> bool {
+    let most = if height >= 32 {
+        u64::MAX
+    } else {
+        (1u64 << height) - 1
+    };
+    let entries = u64::from(entries);
+    least_entries(height) <= entries && entries <= most
+}

@@ -1,0 +1,97 @@
+//! The store written for reading: Vecs, copies and recursion.
+
+mod map;
+mod round;
+mod slot;
+mod stack;
+mod state;
+
+pub use slot::{passes, path, read_slot, write_slot, Node, Reading, Side};
+pub use state::{open, State};
+
+use crate::paper::*;
+use crate::Store;
+use round::Run;
+
+pub fn call(
+    state: &mut State,
+    tree: &mut [u8],
+    ticket: &[u8],
+    tape: &[u16],
+    trace: &mut [u16],
+) -> Outcome {
+    if let Some(cause) = refusal(state, tree, ticket, tape, trace) {
+        return Outcome::refused(cause);
+    }
+    let mut run = Run {
+        structure: state.structure,
+        size: state.size,
+        entries: state.entries,
+        root: state.root,
+        waiting: state.waiting(),
+        held: vec![],
+        tree,
+        tape,
+        trace,
+        leaves: 0,
+    };
+    let result = run.rounds(Ticket::read(ticket));
+    let held = run.held.iter().map(|held| held.node).collect();
+    run.wait(held);
+    state.entries = run.entries;
+    state.root = run.root;
+    state.set_waiting(&run.waiting);
+    let answer = result.unwrap_or_else(|cause| {
+        state.mark = cause;
+        Answer::Refused(cause)
+    });
+    Outcome {
+        answer,
+        leaves: run.leaves,
+    }
+}
+
+/// The first of the causes 1 to 7 that holds.
+fn refusal(state: &State, tree: &[u8], ticket: &[u8], tape: &[u16], trace: &[u16]) -> Option<u8> {
+    if state.mark != 0 {
+        return Some(CLOSED);
+    }
+    if !state.is_fit() {
+        return Some(STATE_UNFIT);
+    }
+    if tree.len() != tree_bytes(state.size) {
+        return Some(TREE_LENGTH);
+    }
+    if ticket.len() != TICKET_BYTES {
+        return Some(TICKET_LENGTH);
+    }
+    if !kind_fits(state.structure, ticket[0]) {
+        return Some(FOREIGN_KIND);
+    }
+    let rounds = fetch_rounds(state.structure, state.size);
+    if tape.len() < 2 * rounds + 1 {
+        return Some(TAPE_SHORT);
+    }
+    if trace.len() < 2 * rounds {
+        return Some(TRACE_SHORT);
+    }
+    None
+}
+
+impl Store for State {
+    fn open(structure: u8, size: u8, tree: &mut [u8]) -> State {
+        open(structure, size, tree)
+    }
+
+    fn call(&mut self, tree: &mut [u8], ticket: &[u8], tape: &[u16], trace: &mut [u16]) -> Outcome {
+        call(self, tree, ticket, tape, trace)
+    }
+
+    fn to_plain(&self) -> State {
+        self.clone()
+    }
+
+    fn from_plain(state: &State) -> State {
+        state.clone()
+    }
+}

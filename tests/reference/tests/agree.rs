@@ -1,0 +1,393 @@
+//! `plain` against `fast` on random runs with damage of every sort: answers,
+//! states, trees and traces are compared at every call (see `Pair`).
+
+mod common;
+
+use common::*;
+use reference::listing;
+use reference::paper::*;
+use reference::plain::{path, read_slot, write_slot, Node, Reading, State};
+use std::collections::BTreeMap;
+
+/// How often each outcome was met, by structure.
+#[derive(Default)]
+struct Tally(BTreeMap<(u8, String), usize>);
+
+impl Tally {
+    fn count(&mut self, structure: u8, size: u8, outcome: Outcome) {
+        let name = match outcome.answer {
+            Answer::Refused(cause @ (8 | 9)) => {
+                let fetching = outcome.leaves <= fetch_rounds(structure, size);
+                format!("refused {cause} {}", if fetching { "fetch" } else { "put" })
+            }
+            Answer::Refused(cause) => format!("refused {cause}"),
+            answer => answer.word().to_string(),
+        };
+        *self.0.entry((structure, name)).or_default() += 1;
+    }
+
+    fn assert_met(&self, structure: u8, names: &[&str]) {
+        println!("{:?}", self.0);
+        for name in names {
+            let met = self
+                .0
+                .get(&(structure, name.to_string()))
+                .copied()
+                .unwrap_or(0);
+            assert!(
+                met >= 20,
+                "structure {structure}: {name} was met {met} times"
+            );
+        }
+    }
+}
+
+fn random_tape(random: &mut Random) -> Tape {
+    match random.below(6) {
+        0 => Tape::Zero,
+        1 => Tape::Few(2),
+        2 => Tape::Few(4),
+        _ => Tape::Uniform,
+    }
+}
+
+/// A store after some random calls, not closed.
+fn grown(random: &mut Random, structure: u8, size: u8) -> Pair {
+    let mut pair = Pair::open(structure, size);
+    let tape = random_tape(random);
+    for _ in 0..random.index(3 * leaf_count(size).min(40)) {
+        let before = pair.clone();
+        if random_call(random, &mut pair, tape).answer == Answer::Refused(OVERFLOW) {
+            return before;
+        }
+    }
+    pair
+}
+
+fn random_call(random: &mut Random, pair: &mut Pair, tape: Tape) -> Outcome {
+    let (structure, size) = (pair.plain.structure, pair.plain.size);
+    let ticket = random_ticket(random, structure, size);
+    let numbers = tape.numbers(random, 2 * fetch_rounds(structure, size) + 1);
+    pair.call(ticket, &numbers).0
+}
+
+/// The offsets and nodes of the slots that are not bad.
+fn used(tree: &[u8], size: u8) -> Vec<(usize, Node)> {
+    listing::used_slots(tree, size)
+        .into_iter()
+        .filter_map(|(offset, reading)| match reading {
+            Reading::Node(node) => Some((offset, node)),
+            _ => None,
+        })
+        .collect()
+}
+
+fn damage_link(random: &mut Random, link: &mut Link, keys: &[u32], size: u8) {
+    match random.below(6) {
+        0 => link.height = link.height.wrapping_add(1),
+        1 => link.height = link.height.saturating_sub(1),
+        2 | 3 => link.key = keys[random.index(keys.len())],
+        4 => link.tag = random.below(1 << size) as u16,
+        _ => *link = Link::NONE,
+    }
+}
+
+/// Changes a field of a node to something plausible.
+fn damage_node(random: &mut Random, node: &mut Node, keys: &[u32], size: u8) {
+    match random.below(9) {
+        0 => node.key = keys[random.index(keys.len())],
+        1 => node.key = node.key.wrapping_add(1),
+        2 => node.key = node.key.wrapping_sub(1),
+        3 => node.tag = random.below((1 << size) + 1) as u16,
+        4 => std::mem::swap(&mut node.left, &mut node.right),
+        5 | 6 => damage_link(random, &mut node.left, keys, size),
+        _ => damage_link(random, &mut node.right, keys, size),
+    }
+}
+
+fn damage_tree(random: &mut Random, tree: &mut [u8], size: u8) {
+    let used = used(tree, size);
+    let kind = random.below(8);
+    if used.is_empty() || kind == 0 {
+        tree[random.index(tree.len())] ^= 1 << random.below(8);
+        return;
+    }
+    let keys: Vec<u32> = used.iter().map(|(_, node)| node.key).collect();
+    let (offset, mut node) = used[random.index(used.len())];
+    let slot = offset..offset + SLOT_BYTES;
+    let (other, _) = used[random.index(used.len())];
+    match kind {
+        1 => tree[offset + random.index(SLOT_BYTES)] ^= 1 << random.below(8),
+        2 => tree[slot].fill(0),
+        3 => tree.copy_within(slot, other),
+        4 => tree.copy_within(slot, SLOT_BYTES * random.index(tree.len() / SLOT_BYTES)),
+        _ => {
+            damage_node(random, &mut node, &keys, size);
+            tree[slot].copy_from_slice(&write_slot(&node));
+        }
+    }
+}
+
+/// A node out of the tree comes to wait, in order: the store stays good.
+fn move_to_waiting(random: &mut Random, state: &mut State, tree: &mut [u8]) {
+    let used = used(tree, state.size);
+    let mut waiting = state.waiting();
+    if used.is_empty() || waiting.len() != state.count || waiting.len() >= WAITING_LIMIT {
+        return;
+    }
+    let (offset, node) = used[random.index(used.len())];
+    waiting.push(node);
+    waiting.sort_by_key(|node| node.key);
+    state.set_waiting(&waiting);
+    if !random.one_in(4) {
+        tree[offset..offset + SLOT_BYTES].fill(0);
+    }
+}
+
+/// A node that nothing links to comes to wait.
+fn add_stray(random: &mut Random, state: &mut State) {
+    let mut waiting = state.waiting();
+    if waiting.len() != state.count || waiting.len() >= WAITING_LIMIT {
+        return;
+    }
+    let key = match state.structure {
+        STACK => state.entries.wrapping_add(random.below(3) as u32),
+        _ => random.below(u64::from(capacity(state.size)) * 3 / 2 + 1) as u32,
+    };
+    let tag = random.below(1 << state.size) as u16;
+    waiting.push(stray(key, tag));
+    waiting.sort_by_key(|node| node.key);
+    state.set_waiting(&waiting);
+}
+
+fn damage_state(random: &mut Random, state: &mut State, tree: &mut [u8]) {
+    let keys: Vec<u32> = used(tree, state.size)
+        .iter()
+        .map(|(_, node)| node.key)
+        .collect();
+    let keys = if keys.is_empty() { vec![0] } else { keys };
+    match random.below(14) {
+        0 => state.entries = random.below(1 << state.size) as u32,
+        1 => state.entries = state.entries.wrapping_sub(1),
+        2 => state.entries = state.entries.wrapping_add(1),
+        3 => {
+            let size = state.size;
+            damage_link(random, &mut state.root, &keys, size);
+        }
+        4 => state.root.key = keys[random.index(keys.len())],
+        5 => state.count = random.index(70),
+        6 => {
+            let at = random.index(PLACES);
+            state.places[at][random.index(SLOT_BYTES)] ^= 1 << random.below(8);
+        }
+        7 => state.places.swap(0, 1),
+        8 if state.count > 0 => {
+            let at = random.index(state.count);
+            if let Reading::Node(mut node) = read_slot(&state.places[at], state.size, None) {
+                damage_node(random, &mut node, &keys, state.size);
+                state.places[at] = write_slot(&node);
+            }
+        }
+        9 | 10 => add_stray(random, state),
+        _ => move_to_waiting(random, state, tree),
+    }
+}
+
+/// Gives a node of the tree another key, in its slot and in every link to it:
+/// only its order among the keys is wrong then.
+fn rename(random: &mut Random, state: &mut State, tree: &mut [u8]) {
+    let used = used(tree, state.size);
+    if used.is_empty() {
+        return;
+    }
+    let old = used[random.index(used.len())].1.key;
+    let new = random.below(u64::from(capacity(state.size)) * 3 / 2 + 1) as u32;
+    let renamed = |link: &mut Link| {
+        if link.height != 0 && link.key == old {
+            link.key = new;
+        }
+    };
+    renamed(&mut state.root);
+    for (offset, mut node) in used {
+        renamed(&mut node.left);
+        renamed(&mut node.right);
+        if node.key == old {
+            node.key = new;
+        }
+        tree[offset..offset + SLOT_BYTES].copy_from_slice(&write_slot(&node));
+    }
+}
+
+/// Damages a store, calls it, and opens a closed one again by hand.
+fn damaged_run(random: &mut Random, structure: u8, size: u8, tally: &mut Tally) {
+    let mut pair = grown(random, structure, size);
+    let tape = random_tape(random);
+    for _ in 0..4 {
+        for _ in 0..random.below(3) {
+            pair.edit(|state, tree| match random.below(4) {
+                0 => damage_state(random, state, tree),
+                1 => rename(random, state, tree),
+                _ => damage_tree(random, tree, size),
+            });
+        }
+        for _ in 0..random.below(6) {
+            let outcome = random_call(random, &mut pair, tape);
+            tally.count(structure, size, outcome);
+        }
+        if pair.plain.mark != 0 && random.one_in(2) {
+            pair.edit(|state, _| state.mark = 0);
+        }
+    }
+}
+
+fn damaged_runs(seed: u64, structure: u8, times: usize, names: &[&str]) {
+    let mut random = Random::new(seed);
+    let mut tally = Tally::default();
+    for size in 1..=GREATEST_SIZE {
+        // Small stores are quick, and damage is met sooner in them.
+        let times = times >> usize::from(size.saturating_sub(4));
+        for _ in 0..times {
+            damaged_run(&mut random, structure, size, &mut tally);
+        }
+    }
+    tally.assert_met(structure, names);
+}
+
+#[test]
+fn damaged_maps() {
+    let names = [
+        "found",
+        "absent",
+        "replaced",
+        "new",
+        "removed",
+        "refused 1",
+        "refused 2",
+        "refused 8 fetch",
+        "refused 8 put",
+        "refused 10",
+    ];
+    damaged_runs(21, MAP, 2000, &names);
+}
+
+#[test]
+fn damaged_stacks() {
+    let names = [
+        "pushed",
+        "popped",
+        "empty",
+        "refused 1",
+        "refused 2",
+        "refused 8 fetch",
+        "refused 8 put",
+        "refused 10",
+    ];
+    damaged_runs(22, STACK, 4000, &names);
+}
+
+/// Fills the waiting list near its limit, and the empty slots of a bucket,
+/// with nodes that nothing links to.
+fn crowd(random: &mut Random, pair: &mut Pair, leaf: u64, buckets: &[usize]) {
+    let aim = 58 + random.index(7);
+    let mut waiting = pair.plain.waiting();
+    let mut key = 10_000;
+    while waiting.len() < aim {
+        key += 1 + random.below(3) as u32;
+        waiting.push(stray(key, leaf as u16));
+    }
+    pair.edit(|state, tree| {
+        state.set_waiting(&waiting);
+        for start in buckets.iter().map(|bucket| BUCKET_BYTES * (bucket - 1)) {
+            for slot in tree[start..start + BUCKET_BYTES].chunks_mut(SLOT_BYTES) {
+                if slot[0] == 0 {
+                    key += 1;
+                    slot.copy_from_slice(&write_slot(&stray(key, leaf as u16)));
+                }
+            }
+        }
+    });
+}
+
+fn stray(key: u32, tag: u16) -> Node {
+    Node {
+        key,
+        tag,
+        value: 0,
+        left: Link::NONE,
+        right: Link::NONE,
+    }
+}
+
+/// A waiting list near its limit: fetches overflow where the strays fit the
+/// root bucket alone, new nodes where they fill a whole path.
+fn crowded_run(random: &mut Random, structure: u8, size: u8, tally: &mut Tally) {
+    let mut pair = grown(random, structure, size);
+    pair.edit(|state, _| {
+        let mut waiting = state.waiting();
+        waiting.retain(|node| node.key < 10_000);
+        state.set_waiting(&waiting);
+    });
+    let tape = if random.one_in(2) {
+        crowd(random, &mut pair, (1 << size) - 1, &[1]);
+        Tape::Few(3)
+    } else {
+        crowd(random, &mut pair, 0, &path(0, size));
+        Tape::Zero
+    };
+    for _ in 0..12 {
+        let outcome = random_call(random, &mut pair, tape);
+        tally.count(structure, size, outcome);
+        if pair.plain.mark != 0 {
+            return;
+        }
+    }
+}
+
+#[test]
+fn crowded_stores() {
+    let mut random = Random::new(23);
+    let mut tally = Tally::default();
+    for structure in [MAP, STACK] {
+        for size in 2..=GREATEST_SIZE {
+            for _ in 0..if structure == MAP { 40 } else { 150 } {
+                crowded_run(&mut random, structure, size, &mut tally);
+            }
+        }
+        tally.assert_met(structure, &["refused 9 put", "refused 9 fetch"]);
+    }
+}
+
+/// Foreign kinds and wrong lengths among good calls.
+#[test]
+fn odd_calls() {
+    let mut random = Random::new(24);
+    let mut tally = Tally::default();
+    for structure in [MAP, STACK] {
+        for size in 1..=GREATEST_SIZE {
+            let mut pair = Pair::open(structure, size);
+            let rounds = fetch_rounds(structure, size);
+            for _ in 0..300 {
+                let mut ticket = random_ticket(&mut random, structure, size);
+                if random.one_in(5) {
+                    ticket.kind = random.next() as u8 % 8;
+                }
+                let ticket = ticket.bytes();
+                let ticket = &ticket[..if random.one_in(8) {
+                    random.index(13)
+                } else {
+                    13
+                }];
+                let length = 2 * rounds + 1 + random.index(3) - usize::from(random.one_in(5));
+                let tape = Tape::Uniform.numbers(&mut random, length);
+                let mut trace =
+                    vec![0xabcd; 2 * rounds + random.index(4) - usize::from(random.one_in(3))];
+                let outcome = pair.call_with(ticket, &tape, &mut trace);
+                tally.count(structure, size, outcome);
+            }
+        }
+        tally.assert_met(
+            structure,
+            &["refused 4", "refused 5", "refused 6", "refused 7"],
+        );
+    }
+}

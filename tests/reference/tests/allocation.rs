@@ -1,0 +1,46 @@
+//! `fast` allocates nothing in a call.
+
+use reference::fast;
+use reference::paper::*;
+use std::alloc::{GlobalAlloc, Layout, System};
+use std::cell::Cell;
+
+struct Counting;
+
+thread_local! {
+    static ALLOCATIONS: Cell<usize> = const { Cell::new(0) };
+}
+
+unsafe impl GlobalAlloc for Counting {
+    unsafe fn alloc(&self, layout: Layout) -> *mut u8 {
+        ALLOCATIONS.set(ALLOCATIONS.get() + 1);
+        System.alloc(layout)
+    }
+
+    unsafe fn dealloc(&self, block: *mut u8, layout: Layout) {
+        System.dealloc(block, layout)
+    }
+}
+
+#[global_allocator]
+static COUNTING: Counting = Counting;
+
+#[test]
+fn calls_allocate_nothing() {
+    for structure in [MAP, STACK] {
+        let mut tree = vec![0; tree_bytes(8)];
+        let mut state = fast::open(structure, 8, &mut tree);
+        let tape: Vec<u16> = (0..67).map(|number| number * 31).collect();
+        let mut trace = vec![0; 66];
+        let before = ALLOCATIONS.get();
+        for number in 0..600u32 {
+            let kind = match structure {
+                MAP => [PUT, PUT, GET, REMOVE][number as usize % 4],
+                _ => [PUSH, PUSH, POP][number as usize % 3],
+            };
+            let ticket = Ticket::new(kind, number * 7 % 300, 1).bytes();
+            fast::call(&mut state, &mut tree, &ticket, &tape, &mut trace);
+        }
+        assert_eq!(ALLOCATIONS.get(), before);
+    }
+}

@@ -1,0 +1,274 @@
+//! What the tests share: a generator, and both stores side by side.
+#![allow(dead_code)]
+
+use reference::paper::*;
+use reference::plain::{self, Node, Reading};
+use reference::{fast, listing, Store};
+use std::collections::BTreeMap;
+
+/// Splitmix64. The environment's SEED moves every run.
+pub struct Random(u64);
+
+impl Random {
+    pub fn new(seed: u64) -> Random {
+        let moved = std::env::var("SEED").map_or(0, |text| text.parse().expect("a number"));
+        println!("seed {seed}, SEED {moved}");
+        Random(seed ^ moved << 32)
+    }
+
+    pub fn next(&mut self) -> u64 {
+        self.0 = self.0.wrapping_add(0x9e37_79b9_7f4a_7c15);
+        let mut mixed = self.0;
+        mixed = (mixed ^ mixed >> 30).wrapping_mul(0xbf58_476d_1ce4_e5b9);
+        mixed = (mixed ^ mixed >> 27).wrapping_mul(0x94d0_49bb_1331_11eb);
+        mixed ^ mixed >> 31
+    }
+
+    pub fn below(&mut self, bound: u64) -> u64 {
+        self.next() % bound
+    }
+
+    pub fn index(&mut self, bound: usize) -> usize {
+        self.below(bound as u64) as usize
+    }
+
+    pub fn one_in(&mut self, bound: u64) -> bool {
+        self.below(bound) == 0
+    }
+}
+
+/// Whence the tape's numbers come.
+#[derive(Clone, Copy, Debug)]
+pub enum Tape {
+    Zero,
+    Uniform,
+    /// This many different leaves.
+    Few(u64),
+}
+
+impl Tape {
+    pub fn numbers(self, random: &mut Random, length: usize) -> Vec<u16> {
+        (0..length)
+            .map(|_| match self {
+                Tape::Zero => 0,
+                Tape::Uniform => random.next() as u16,
+                Tape::Few(leaves) => 0x4040 + 13 * random.below(leaves) as u16,
+            })
+            .collect()
+    }
+}
+
+/// `plain` and `fast` on the same calls; every call compares all they leave.
+#[derive(Clone)]
+pub struct Pair {
+    pub plain: plain::State,
+    pub fast: fast::State,
+    pub tree: Vec<u8>,
+}
+
+impl Pair {
+    pub fn open(structure: u8, size: u8) -> Pair {
+        Pair::open_over(structure, size, vec![0xa5; tree_bytes(size)])
+    }
+
+    pub fn open_over(structure: u8, size: u8, tree: Vec<u8>) -> Pair {
+        let (mut plain_tree, mut fast_tree) = (tree.clone(), tree);
+        let plain = plain::open(structure, size, &mut plain_tree);
+        let fast = fast::open(structure, size, &mut fast_tree);
+        assert_eq!(plain, fast.to_plain());
+        assert!(plain_tree == fast_tree);
+        Pair {
+            plain,
+            fast,
+            tree: plain_tree,
+        }
+    }
+
+    pub fn of(state: plain::State, tree: Vec<u8>) -> Pair {
+        let fast = fast::State::from_plain(&state);
+        Pair {
+            plain: state,
+            fast,
+            tree,
+        }
+    }
+
+    /// Changes the state by hand.
+    pub fn edit(&mut self, change: impl FnOnce(&mut plain::State, &mut Vec<u8>)) {
+        change(&mut self.plain, &mut self.tree);
+        self.fast = fast::State::from_plain(&self.plain);
+        assert_eq!(self.plain, self.fast.to_plain());
+    }
+
+    /// A call with a good ticket and a trace buffer of just 2F.
+    pub fn call(&mut self, ticket: Ticket, tape: &[u16]) -> (Outcome, Vec<u16>) {
+        let mut trace = vec![0x7777; 2 * fetch_rounds(self.plain.structure, self.plain.size)];
+        let outcome = self.call_with(&ticket.bytes(), tape, &mut trace);
+        trace.truncate(outcome.leaves);
+        (outcome, trace)
+    }
+
+    pub fn answer(&mut self, ticket: Ticket, tape: &[u16]) -> Answer {
+        self.call(ticket, tape).0.answer
+    }
+
+    pub fn call_with(&mut self, ticket: &[u8], tape: &[u16], trace: &mut [u16]) -> Outcome {
+        let before = (self.plain.clone(), self.tree.clone(), trace.to_vec());
+        let mut fast_tree = self.tree.clone();
+        let mut fast_trace = trace.to_vec();
+        let outcome = plain::call(&mut self.plain, &mut self.tree, ticket, tape, trace);
+        let again = fast::call(
+            &mut self.fast,
+            &mut fast_tree,
+            ticket,
+            tape,
+            &mut fast_trace,
+        );
+        assert_eq!(outcome, again);
+        let state = self.fast.to_plain();
+        if self.plain != state {
+            assert_eq!(
+                listing::state_lines(&self.plain),
+                listing::state_lines(&state)
+            );
+            panic!("unused places differ");
+        }
+        assert!(self.tree == fast_tree);
+        assert_eq!(trace, fast_trace);
+        self.check_what_is_left(outcome, before, trace);
+        outcome
+    }
+
+    fn check_what_is_left(
+        &self,
+        outcome: Outcome,
+        before: (plain::State, Vec<u8>, Vec<u16>),
+        trace: &[u16],
+    ) {
+        assert!(trace[outcome.leaves..] == before.2[outcome.leaves..]);
+        match outcome.answer {
+            Answer::Refused(cause @ 1..=7) => {
+                assert_eq!(outcome.leaves, 0, "{cause}");
+                assert!(
+                    (&self.plain, &self.tree) == (&before.0, &before.1),
+                    "{cause}"
+                );
+            }
+            Answer::Refused(cause @ (8 | 9)) => assert_eq!(self.plain.mark, cause),
+            _ => {
+                let rounds = fetch_rounds(self.plain.structure, self.plain.size);
+                assert_eq!(outcome.leaves, 2 * rounds);
+                assert!(self.plain.count <= WAITING_LIMIT);
+                assert_eq!(self.plain.mark, 0);
+            }
+        }
+    }
+
+    /// Every node in the tree or waiting, by key. None may be there twice.
+    pub fn nodes(&self) -> BTreeMap<u32, Node> {
+        let mut nodes = self.plain.waiting();
+        for (_, reading) in listing::used_slots(&self.tree, self.plain.size) {
+            let Reading::Node(node) = reading else {
+                panic!("bad slot")
+            };
+            nodes.push(node);
+        }
+        let count = nodes.len();
+        let by_key: BTreeMap<u32, Node> = nodes.into_iter().map(|node| (node.key, node)).collect();
+        assert_eq!(by_key.len(), count);
+        by_key
+    }
+
+    /// Whole-store check of a store that met no damage.
+    pub fn audit(&self) {
+        assert!(self.plain.is_fit() && self.fast.is_fit());
+        let nodes = self.nodes();
+        assert_eq!(nodes.len(), self.plain.entries as usize);
+        for bucket in self.tree.chunks(BUCKET_BYTES) {
+            let keys: Vec<u32> = bucket
+                .chunks(SLOT_BYTES)
+                .take_while(|slot| slot[0] == 1)
+                .map(|slot| u32::from_le_bytes(slot[4..8].try_into().unwrap()))
+                .collect();
+            assert!(keys.windows(2).all(|pair| pair[0] < pair[1]));
+            assert!(bucket[SLOT_BYTES * keys.len()..]
+                .iter()
+                .all(|&byte| byte == 0));
+        }
+        match self.plain.structure {
+            MAP => assert_eq!(
+                audit_subtree(&nodes, self.plain.root, -1, 1 << 32),
+                nodes.len()
+            ),
+            _ => audit_stack(&nodes, self.plain.root),
+        }
+    }
+}
+
+fn audit_subtree(nodes: &BTreeMap<u32, Node>, link: Link, low: i64, high: i64) -> usize {
+    if link.height == 0 {
+        assert_eq!(link, Link::NONE);
+        return 0;
+    }
+    let node = nodes[&link.key];
+    let key = i64::from(node.key);
+    assert!(low < key && key < high);
+    assert_eq!(node.link_here(), link);
+    assert!(node.balance().abs() <= 1);
+    1 + audit_subtree(nodes, node.left, low, key) + audit_subtree(nodes, node.right, key, high)
+}
+
+fn audit_stack(nodes: &BTreeMap<u32, Node>, mut link: Link) {
+    for key in (1..=nodes.len() as u32).rev() {
+        let node = nodes[&key];
+        assert_eq!(
+            link,
+            Link {
+                height: 1,
+                key,
+                tag: node.tag
+            }
+        );
+        assert_eq!(node.right, Link::NONE);
+        link = node.left;
+    }
+    assert_eq!(link, Link::NONE);
+}
+
+pub fn get(key: u32) -> Ticket {
+    Ticket::new(GET, key, 0)
+}
+
+pub fn put(key: u32, value: u64) -> Ticket {
+    Ticket::new(PUT, key, value)
+}
+
+pub fn remove(key: u32) -> Ticket {
+    Ticket::new(REMOVE, key, 0)
+}
+
+pub fn push(value: u64) -> Ticket {
+    Ticket::new(PUSH, 0, value)
+}
+
+pub fn pop() -> Ticket {
+    Ticket::new(POP, 0, 0)
+}
+
+/// A random call of the structure; keys lie somewhat beyond the capacity.
+pub fn random_ticket(random: &mut Random, structure: u8, size: u8) -> Ticket {
+    let kind = match structure {
+        MAP => [GET, PUT, PUT, PUT, REMOVE][random.index(5)],
+        _ => [PUSH, PUSH, PUSH, POP, POP][random.index(5)],
+    };
+    random_ticket_of(random, kind, size)
+}
+
+pub fn random_ticket_of(random: &mut Random, kind: u8, size: u8) -> Ticket {
+    let spread = u64::from(capacity(size)) * 3 / 2 + 1;
+    let key = match random.below(40) {
+        0 => u32::MAX - random.below(2) as u32,
+        _ => random.below(spread) as u32,
+    };
+    Ticket::new(kind, key, random.next())
+}

@@ -1,0 +1,167 @@
+//! Random runs without damage against a plain table, a plain list and the
+//! origin rule, with a whole-store check.
+
+mod common;
+
+use common::*;
+use reference::origin::{Machine, Origin};
+use reference::paper::*;
+use std::collections::BTreeMap;
+
+/// The plain table and the plain stack.
+struct Model {
+    size: u8,
+    table: BTreeMap<u32, u64>,
+    list: Vec<u64>,
+}
+
+impl Model {
+    fn answer(&mut self, ticket: Ticket) -> Answer {
+        let capacity = capacity(self.size) as usize;
+        let Ticket { kind, key, value } = ticket;
+        match kind {
+            GET => self
+                .table
+                .get(&key)
+                .map_or(Answer::Absent, |&value| Answer::Found(value)),
+            PUT if self.table.len() == capacity => Answer::Refused(FULL),
+            PUT => self
+                .table
+                .insert(key, value)
+                .map_or(Answer::New, Answer::Replaced),
+            REMOVE => self
+                .table
+                .remove(&key)
+                .map_or(Answer::Absent, Answer::Removed),
+            PUSH if self.list.len() == capacity => Answer::Refused(FULL),
+            PUSH => {
+                self.list.push(value);
+                Answer::Pushed
+            }
+            _ => self.list.pop().map_or(Answer::Empty, Answer::Popped),
+        }
+    }
+}
+
+/// The leaves that the named origins stand for.
+fn named_leaves(named: &[Origin], tapes: &[Vec<u16>], size: u8) -> Vec<u16> {
+    named
+        .iter()
+        .map(|&(call, draw)| tapes[call - 1][draw] % (1 << size))
+        .collect()
+}
+
+/// One run; returns how many calls closed the store (0 or 1).
+fn run(random: &mut Random, structure: u8, size: u8, tape: Tape, calls: usize) -> usize {
+    let mut pair = Pair::open(structure, size);
+    let mut model = Model {
+        size,
+        table: BTreeMap::new(),
+        list: vec![],
+    };
+    let mut machine = Machine::new(structure, size);
+    let mut tapes = vec![];
+    let filling = 1 + random.below(4) as usize;
+    for number in 0..calls {
+        let mut ticket = random_ticket(random, structure, size);
+        if number % (calls / filling + 1) < calls / 8 {
+            ticket.kind = if structure == MAP { PUT } else { PUSH };
+        }
+        let length = 2 * fetch_rounds(structure, size) + 1 + random.index(2);
+        tapes.push(tape.numbers(random, length));
+        let (outcome, trace) = pair.call(ticket, &tapes[number]);
+        let leaves = named_leaves(&machine.feed(ticket), &tapes, size);
+        assert_eq!(trace, leaves[..trace.len()]);
+        if outcome.answer == Answer::Refused(OVERFLOW) {
+            return 1;
+        }
+        assert_eq!(outcome.answer, model.answer(ticket));
+        if size < 6 || number % 16 == 0 {
+            pair.audit();
+        }
+    }
+    let values: Vec<u64> = pair.nodes().values().map(|node| node.value).collect();
+    let expected = if structure == MAP {
+        model.table.into_values().collect()
+    } else {
+        model.list
+    };
+    assert_eq!(values, expected);
+    0
+}
+
+fn runs(seed: u64, structure: u8, tape: Tape, times: usize) -> usize {
+    let mut random = Random::new(seed);
+    let mut closed = 0;
+    for size in 1..=GREATEST_SIZE {
+        for _ in 0..times {
+            closed += run(
+                &mut random,
+                structure,
+                size,
+                tape,
+                60 + 3 * leaf_count(size),
+            );
+        }
+    }
+    closed
+}
+
+#[test]
+fn uniform_maps() {
+    assert_eq!(runs(11, MAP, Tape::Uniform, 6), 0);
+}
+
+#[test]
+fn uniform_stacks() {
+    assert_eq!(runs(12, STACK, Tape::Uniform, 40), 0);
+}
+
+#[test]
+fn zero_maps() {
+    assert!(runs(13, MAP, Tape::Zero, 4) > 0);
+}
+
+#[test]
+fn zero_stacks() {
+    assert!(runs(14, STACK, Tape::Zero, 20) > 0);
+}
+
+#[test]
+fn few_leaf_maps() {
+    assert!(runs(15, MAP, Tape::Few(2), 4) > 0);
+    runs(16, MAP, Tape::Few(5), 2);
+}
+
+#[test]
+fn few_leaf_stacks() {
+    assert!(runs(17, STACK, Tape::Few(2), 20) > 0);
+    runs(18, STACK, Tape::Few(5), 20);
+}
+
+/// A full map still walks, and every put answers 10.
+#[test]
+fn full_maps() {
+    let mut random = Random::new(19);
+    for size in 1..=6 {
+        let mut pair = Pair::open(MAP, size);
+        let length = 2 * fetch_rounds(MAP, size) + 1;
+        for key in 0..capacity(size) {
+            let tape = Tape::Uniform.numbers(&mut random, length);
+            assert_eq!(pair.answer(put(3 * key, 1), &tape), Answer::New);
+        }
+        for key in 0..3 * capacity(size) {
+            let before = pair.nodes();
+            let tape = Tape::Uniform.numbers(&mut random, length);
+            assert_eq!(pair.answer(put(key, 2), &tape), Answer::Refused(FULL));
+            pair.audit();
+            let moved = pair.nodes();
+            let entries = |nodes: &BTreeMap<u32, reference::plain::Node>| -> Vec<(u32, u64)> {
+                nodes.values().map(|node| (node.key, node.value)).collect()
+            };
+            assert_eq!(entries(&before), entries(&moved));
+            let root = pair.plain.root;
+            assert_eq!(root.tag, tape[0] % (1 << size));
+        }
+    }
+}

@@ -1,0 +1,16 @@
+pub mod Whole
+pub mod Paths
+pub mod Places
+pub mod NodeLaws
+pub mod Readings
+pub mod Lists
+pub mod Evict
+pub mod ReadHalf
+pub mod NothingLost
+pub mod Sorted
+pub mod Room
+pub mod NoDamage
+pub mod Kept
+pub mod Same
+pub mod Words
+pub mod OffPath

@@ -1,0 +1,1 @@
+// What every round keeps; no code.

@@ -1,0 +1,14 @@
+-- `state::opening::empty_state` meets its contract.
+use native.Mathlib.Omega.{arith}
+use borrow.Author.Needs.{needs}
+use Rattle.state.proofs.opening.empty_state.Statement.{statement}
+use Rattle.state.proofs.opening.empty_state.Tie as tie
+
+no-place-requires : tie.Need-no-place-requires
+no-place-requires c κs = search needs
+
+returns : tie.Need-returns
+returns c = rw (c .no-place .ensures)
+
+pub empty-state-spec : {M : Type 1} → statement M
+empty-state-spec = tie.close (tie.spec no-place-requires returns)

@@ -1,0 +1,85 @@
+-- Tests over the places of a state, one place at a time.
+use mathlib.Core.Path.{_≡_, refl, sym, _∙_, ap}
+use mathlib.Core.Bool.{Bool, true, false, not, _&&_, and-false, and-true, and-assoc}
+use mathlib.Core.List.{List, [], _∷_, _++_, map}
+use Prim.Native.Nat.{ℕ, zero, suc, _+_, _-_, _≤_, _<_}
+use native.Mathlib.Omega.{arith}
+use native.Mathlib.Decide.{decLt}
+use lib.Dec.{ltb, leb, eqb}
+use lib.ListN.{getD}
+use borrow.Author.Tests.{lt-ltb, le-ltb, le-leb, lt-leb, ltb-true, leb-true}
+use Rattle.state.specs.declared.Place.{Place}
+use Rattle.state.specs.Fit.{allOf, ascending, ascendingFrom, inRange, placesFrom, noPlace, keysIn}
+
+-- ---- one place after another
+-- What is left of n places from number i on, after the first.
+pub places-step : (n i : ℕ) (ps : List Place) → i < n → placesFrom (n - i) i ps ≡ getD ps i noPlace ∷ placesFrom (n - (i + 1)) (i + 1) ps
+unfolding placesFrom
+places-step n i ps h =
+    let e : n - i ≡ suc (n - (i + 1)) = omega arith in
+    let f : i + 1 ≡ suc i = omega arith in
+    rw (e, f)
+
+pub places-end : (n i : ℕ) (ps : List Place) → n ≤ i → placesFrom (n - i) i ps ≡ []
+unfolding placesFrom
+places-end n i ps h = let e : n - i ≡ 0 = omega arith in rw e
+
+module _ (f : Place → Bool) (n i : ℕ) (ps : List Place) where
+  pub all-passes : i < n → f (getD ps i noPlace) ≡ true → allOf f (placesFrom (n - i) i ps) ≡ allOf f (placesFrom (n - (i + 1)) (i + 1) ps)
+  unfolding allOf
+  all-passes h e = rw (places-step n i ps h, e)
+
+  pub all-fails : i < n → f (getD ps i noPlace) ≡ false → allOf f (placesFrom (n - i) i ps) ≡ false
+  unfolding allOf
+  all-fails h e = rw (places-step n i ps h, e)
+
+  pub all-end : n ≤ i → allOf f (placesFrom (n - i) i ps) ≡ true
+  unfolding allOf
+  all-end h = rw (places-end n i ps h)
+
+-- Keys ascend from a least key on: each is at least one more than the key before.
+unfoldable pub ascendingAt : ℕ → List ℕ → Bool
+ascendingAt least [] = true
+ascendingAt least (k ∷ ks) = leb least k && ascendingAt (k + 1) ks
+
+pub ascending-next : (a : ℕ) (ks : List ℕ) → ascendingFrom a ks ≡ ascendingAt (a + 1) ks
+unfolding ascendingFrom ascendingAt
+ascending-next a [] = refl
+ascending-next a (b ∷ ks) = go (ascending-next b ks) (decLt a b)
+  where
+    go : ascendingFrom b ks ≡ ascendingAt (b + 1) ks → Dec (a < b) → (ltb a b && ascendingFrom b ks) ≡ (leb (a + 1) b && ascendingAt (b + 1) ks)
+    go e (yes h) = rw (lt-ltb a b h, le-leb (a + 1) b (omega arith)) e
+    go e (no h) = rw (le-ltb a b (omega arith), lt-leb (a + 1) b (omega arith))
+
+pub ascending-start : (ks : List ℕ) → ascending ks ≡ ascendingAt 0 ks
+unfolding ascending ascendingAt
+ascending-start [] = refl
+ascending-start (a ∷ ks) = ascending-next a ks ∙ rw (le-leb 0 a (omega arith))
+
+module _ (n i least : ℕ) (ps : List Place) where
+  pub keys-ascend : i < n → least ≤ getD ps i noPlace .node .key
+      → ascendingAt least (keysIn (placesFrom (n - i) i ps)) ≡ ascendingAt (getD ps i noPlace .node .key + 1) (keysIn (placesFrom (n - (i + 1)) (i + 1) ps))
+  unfolding ascendingAt
+  keys-ascend h e = rw (places-step n i ps h, le-leb least (getD ps i noPlace .node .key) e)
+
+  pub keys-fall : i < n → getD ps i noPlace .node .key < least → ascendingAt least (keysIn (placesFrom (n - i) i ps)) ≡ false
+  unfolding ascendingAt
+  keys-fall h e = rw (places-step n i ps h, lt-leb least (getD ps i noPlace .node .key) e)
+
+  pub keys-end : n ≤ i → ascendingAt least (keysIn (placesFrom (n - i) i ps)) ≡ true
+  unfolding ascendingAt
+  keys-end h = rw (places-end n i ps h)
+
+pub in-range-zero : (n most : ℕ) → n ≡ 0 → inRange n most ≡ false
+in-range-zero n most e = rw e
+
+pub in-range-more : (n most : ℕ) → (n ≡ 0 → ⊥) → inRange n most ≡ leb n most
+in-range-more n most h = rw (lt-ltb 0 n (omega arith))
+
+pub in-range-true : (n most : ℕ) → inRange n most ≡ true → (1 ≤ n) × (n ≤ most)
+in-range-true n most e = go (ltb 0 n) refl (leb n most) refl e
+  where
+    go : (t : Bool) → ltb 0 n ≡ t → (u : Bool) → leb n most ≡ u → (t && u) ≡ true → (1 ≤ n) × (n ≤ most)
+    go true a true b e = (ltb-true 0 n a, leb-true n most b)
+    go true a false b e = let z : _≡_ {A = ℕ} 0 1 = cc in absurd (omega arith)
+    go false a u b e = let z : _≡_ {A = ℕ} 0 1 = cc in absurd (omega arith)

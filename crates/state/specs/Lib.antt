@@ -1,0 +1,5 @@
+pub mod Fit
+pub mod Opening
+pub mod Ticket
+pub mod FitLaws
+pub mod OpeningLaws

@@ -1,0 +1,83 @@
+// Opening a store.
+use super::LARGEST_SIZE;
+use super::LARGEST_STRUCTURE;
+use super::Place;
+use super::State;
+use super::fit::in_range;
+use slots::Link;
+use slots::Node;
+use slots::tree::tree_length;
+ghost use mathlib.Core.Path.{_≡_};
+ghost use lib.ListN.{length, replicate};
+ghost use Rattle.state.specs.Fit.{noPlace};
+ghost use Rattle.state.specs.Opening.{empty, opened, Opened};
+
+// A place that holds no node.
+pub fn no_place() -> Place
+    ensures { λ r. ⌜ r ≡ noPlace ⌝ }
+{
+    let none = Link {
+        height: 0,
+        key: 0,
+        tag: 0,
+    };
+    let node = Node {
+        key: 0,
+        value: 0,
+        tag: 0,
+        left: none,
+        right: none,
+    };
+    Place { full: false, node }
+}
+
+// A state with no entries and none waiting.
+fn empty_state(mark: u8, structure: u8, size: u8) -> State
+    ensures { λ r. ⌜ r ≡ empty mark structure size ⌝ }
+{
+    let root = Link {
+        height: 0,
+        key: 0,
+        tag: 0,
+    };
+    let place = no_place();
+    let places = [place; 101];
+    State {
+        mark,
+        structure,
+        size,
+        entries: 0,
+        root,
+        count: 0,
+        places,
+    }
+}
+
+// Zero bytes for all of a tree.
+fn clear(tree: &mut [u8])
+    ensures { λ _. ⌜ now (tree .exit) ≡ replicate (length (now (tree .entry))) 0 ⌝ }
+{
+    let mut i = 0;
+    while i < tree.len() {
+        tree[i] = 0;
+        i += 1;
+    }
+}
+
+// Opens a store: 11, 12, then 3 give a closed state with that mark, otherwise zero, and leave the tree; a good opening
+// makes the tree all zero bytes and the state empty.
+pub fn open(structure: u8, size: u8, tree: &mut [u8]) -> State
+    ensures { λ r. ⌜ (r ≡ opened structure size (now (tree .entry)) .state) × (now (tree .exit) ≡ opened structure size (now (tree .entry)) .tree) ⌝ }
+{
+    if !in_range(structure, LARGEST_STRUCTURE) {
+        return empty_state(11, 0, 0);
+    }
+    if !in_range(size, LARGEST_SIZE) {
+        return empty_state(12, 0, 0);
+    }
+    if tree.len() != tree_length(size as usize) {
+        return empty_state(3, 0, 0);
+    }
+    clear(tree);
+    empty_state(0, structure, size)
+}

@@ -1,0 +1,119 @@
+-- One call over a kept bucket store does what the method's call does at leaves, or meets overflow. It never finds damage.
+use mathlib.Core.Path.{_≡_, refl, ap, subst}
+use mathlib.Core.Logic.{_⊎_}
+use mathlib.Core.List.{List, [], _++_, map}
+use mathlib.Core.Option.{some}
+use Prim.Native.Nat.{ℕ, _^_, _≤_, _<_}
+use native.Mathlib.Omega.{arith}
+use Rattle.basics.specs.PermLaws.{perm-refl, perm-member}
+use Rattle.basics.specs.Distinct.{Distinct, All}
+use Rattle.balance.specs.Least.{least}
+use Rattle.balance.specs.Shape.{shaped}
+use Rattle.balance.specs.Greatest.{tallest, greatest}
+use Rattle.balance.specs.GreatestLaws.{greatest-mono}
+use Rattle.method.specs.Node.{Node}
+use Rattle.method.specs.Prog.{Prog, done, want}
+use Rattle.method.specs.Answer.{Structure, Op, Answer}
+use Rattle.method.specs.Answer as answer
+use Rattle.method.specs.Plain.{Contents}
+use Rattle.method.specs.Map.{Outcome}
+use Rattle.method.specs.Rounds.{rounds}
+use Rattle.method.specs.Call.{capacity, program, Memory, emptyMemory, Fetched, fetches, stepped, answered, Called, call}
+use Rattle.runs.specs.SafeLaws.{safe-map}
+use Rattle.runs.specs.Fetches.{keys}
+use Rattle.runs.specs.Calls.{memoryOf}
+use Rattle.runs.specs.Answers.{represents-call}
+use Rattle.theorems.specs.Represented.{Held, represents}
+use Rattle.leaf_nodes.specs.Leaf.{leafFormat}
+use Rattle.calls.specs.Fetch.{Going, Round, fetchRounds}
+use Rattle.calls.specs.Call.{Store, bucketCall}
+use Rattle.round_laws.specs.NoDamage.{there-proper}
+use Rattle.round_laws.specs.Kept.{fresh-empty, fresh-kept}
+use Rattle.round_laws.specs.Sorted.{ascending}
+use Rattle.simulation.specs.Proper.{ProperLeaf, leaves-lawful, Fits, proper-fits}
+use Rattle.simulation.specs.Entries.{OpFits}
+use Rattle.simulation.specs.ProperCall.{call-held, call-proper}
+use Rattle.simulation.specs.Relation.{Simulates, emptyStore, memoryEntries, Matches, Overflowed}
+use Rattle.simulation.specs.RoundSim.{Went}
+use Rattle.simulation.specs.FetchSim.{WentAs, fetches-went}
+use Rattle.simulation.specs.StepSim.{fetches-match}
+
+-- ---- one call
+
+rounds-some : (s : Structure) (k : ℕ) → 1 ≤ k → 1 ≤ rounds s k
+unfolding rounds least shaped tallest greatest
+rounds-some answer.map k h = let tall : 1 ≤ greatest k = greatest-mono h in omega arith
+rounds-some answer.stack k h = omega arith
+
+answered-done : (p : Prog ℕ (Outcome ℕ)) {a : Answer} → answered p ≡ some a → (o : Outcome ℕ) × (p ≡ done o)
+unfolding answered
+answered-done (done o) e = (o, refl)
+answered-done (want w c) e = let z : _≡_ {A = ℕ} 0 1 = cc in absurd (omega arith)
+
+-- All own numbers of a simulated memory's nodes are within their bounds.
+pub simulates-fits : {k : ℕ} {st : Store} {m : Memory ℕ} → Simulates k st m → All (Fits k) (m .nodes)
+simulates-fits {k} {st} {m} sim n i =
+    proper-fits k n
+    (there-proper leafFormat leaves-lawful k (st .tree) (st .waiting) [] (sim .kept) n (perm-member (sim .there) i))
+
+module _ {s : Structure} (k : ℕ) (positive : 1 ≤ k) (small : k ≤ 16) (t : Contents s) (m : Memory ℕ) (held : Held 0 s (capacity k) t m)
+    (st : Store) (sim : Simulates k st m) (op : Op s) (op-fits : OpFits op) (draw : ℕ → ℕ) (leaves : (d : ℕ) → draw d < 2 ^ k) where
+  abbrev F : ℕ
+  F = rounds s k
+
+  abbrev called : Called ℕ
+  called = call 0 F (capacity k) op draw m
+
+  abbrev fetched : Fetched ℕ (Outcome ℕ)
+  fetched = fetches draw F 0 (program 0 op (draw F) (capacity k) (m .entries) (m .root)) (m .nodes)
+
+  abbrev started : Going
+  started = record { tree = st .tree; waiting = st .waiting; held = []; leaves = [] }
+
+  abbrev fetchEnd : Round (Outcome ℕ)
+  fetchEnd = fetchRounds s k draw F 0 (program 0 op (draw F) (capacity k) (st .entries) (st .root)) started
+
+  -- The fetch rounds are the method's fetches.
+  fetch-phase : WentAs k (memoryEntries m) started fetched fetchEnd
+  fetch-phase =
+      rw (sim .entries, sim .root)
+      (fetches-went s k draw leaves {Post = λ o held ns. Unit {0}} (λ o held xs ys p h. h) F 0
+      (program 0 op (draw F) (capacity k) (m .entries) (m .root)) started (omega arith)
+      (record { there = sim .there; kept = sim .kept; ascends = sim .ascends; whole = perm-refl (memoryEntries m) })
+      (safe-map (λ o held ns post. tt) (represents 0 s k .safe t m held op (draw F))))
+
+  -- The program is done.
+  outcome : (o : Outcome ℕ) × (fetched .prog ≡ done o)
+  unfolding call
+  outcome = answered-done (fetched .prog) (represents-call (represents 0 s k) t op draw m held .answers)
+
+  -- One call over buckets is one call of the method at leaves, or it meets overflow.
+  pub simulate : Overflowed k m (bucketCall k (rounds s k) op draw st) (call 0 (rounds s k) (capacity k) op draw m)
+      ⊎ Matches k (bucketCall k (rounds s k) op draw st) (call 0 (rounds s k) (capacity k) op draw m)
+  unfolding call stepped answered bucketCall
+  simulate =
+      let o = outcome .0 in
+      let e = outcome .1 in
+      let remembers : called .memory ≡ memoryOf o (fetched .nodes) = ap (stepped m (fetched .nodes)) e in
+      let nodes : called .memory .nodes ≡ o .nodes ++ fetched .nodes = ap (λ (x : Memory ℕ). x .nodes) remembers in
+      fetches-match k F (rounds-some s k positive) draw leaves m called o (fetched .nodes) remembers (ap answered e)
+      (fetched .revealed) refl
+      (subst (λ (ns : List (Node ℕ)). Distinct (keys ns)) nodes
+      (represents 0 s k .distinct-keys _ (called .memory) (call-held k small t m held op draw)))
+      (subst (All (ProperLeaf k)) nodes (call-proper k small t m held op draw op-fits leaves (simulates-fits sim)))
+      st fetchEnd
+      (subst (λ (p : Prog ℕ (Outcome ℕ)). Went k (memoryEntries m) p (fetched .nodes) (fetched .revealed) fetchEnd) e fetch-phase)
+
+-- ---- the start
+
+pub simulate-start : (k : ℕ) → Simulates k (emptyStore k) (emptyMemory 0)
+unfolding emptyMemory ascending
+simulate-start k =
+    record {
+      entries = refl;
+      root = refl;
+      there = rw (fresh-empty leafFormat leaves-lawful k) (perm-refl []);
+      kept = fresh-kept leafFormat leaves-lawful k;
+      few = omega arith;
+      ascends = refl;
+    }

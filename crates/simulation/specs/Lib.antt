@@ -1,0 +1,13 @@
+pub mod Proper
+pub mod Entries
+pub mod HeldProper
+pub mod ProperCall
+pub mod Root
+pub mod Relation
+pub mod RoundSim
+pub mod FetchSim
+pub mod StepSim
+pub mod CallSim
+pub mod BucketRun
+pub mod ListSim
+pub mod Examples

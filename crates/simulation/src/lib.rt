@@ -1,0 +1,1 @@
+// The call over buckets does what the method does; no code.

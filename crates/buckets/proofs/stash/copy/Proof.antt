@@ -1,0 +1,72 @@
+-- `buckets::stash::copy` meets its contract. The invariant: the first i slots are copied.
+use mathlib.Core.Path.{_≡_, refl, sym, _∙_, ap}
+use Prim.Native.Nat.{ℕ, _+_, _-_, _≤_, _<_}
+use lib.ListN.{length, take, drop, getD, set, length-take}
+use Rattle.rounds.specs.Round.{keysOf}
+use Rattle.rounds.specs.Nodes.{wordsFormat}
+use Rattle.slots.specs.declared.Slot.{Slot}
+use Rattle.buckets.specs.Words.{places, wordCount, slotsOf, zeroSlot}
+use Rattle.buckets.specs.WordsLaws.{slots-count, words-key}
+use Rattle.buckets.specs.PlaceLaws.{copied-more}
+use borrow.Author.Needs.{needs}
+use native.Mathlib.Omega.{arith}
+use Rattle.buckets.proofs.stash.copy.Statement.{statement}
+use Rattle.buckets.proofs.stash.copy.Tie as tie
+use Rattle.buckets.proofs.stash.copy.Reads as reads
+use Rattle.buckets.proofs.stash.copy.Lts as lts
+use Rattle.buckets.proofs.stash.get.Reads as get-reads
+use Rattle.buckets.proofs.stash.put.Reads as put-reads
+
+abbrev Inv-loop : tie.InvT-loop
+Inv-loop from n to₀ i₀ to i = (i ≤ n) × (length to ≡ wordCount) × (take i (slotsOf to) ≡ take i (slotsOf from))
+
+abbrev μ-loop : tie.MeasureT-loop
+μ-loop from n to₀ i₀ to i = n - i
+
+loop-holds : tie.Need-loop-holds Inv-loop μ-loop
+loop-holds c = (omega arith, c .pre .1, refl)
+
+get-requires : tie.Need-get-requires Inv-loop μ-loop
+get-requires c κs = let a = c .before .before .args in (c .before .before .pre .0, omega arith)
+
+put-requires : tie.Need-put-requires Inv-loop μ-loop
+put-requires c κs = (c .before .before .before .loop .inv .1, omega arith)
+
+add-i : tie.Need-add-i Inv-loop μ-loop
+add-i c = search needs
+
+loop-less : tie.Need-loop-less Inv-loop μ-loop
+loop-less c = search needs
+
+loop-again : tie.Need-loop-again Inv-loop μ-loop
+loop-again c =
+    let a = c .before .before .before .before .before .args in
+    let l = c .before .before .before .before .loop in
+    let p = c .put .ensures in
+    let f = slots-count (a .from .now) (c .before .before .before .before .before .pre .0) in
+    let t = slots-count (l .to) (l .inv .1) in (
+      omega arith,
+      p .1,
+      ap (take (l .i + 1)) (p .0 ∙ ap (set (slotsOf (l .to)) (l .i)) (c .before .before .get .ensures))
+          ∙ copied-more (slotsOf (a .from .now)) (slotsOf (l .to)) (l .i) zeroSlot (omega arith) (omega arith) (l .inv .2),
+    )
+
+returns : tie.Need-returns Inv-loop μ-loop
+returns c =
+    let l = c .before .loop in
+    let e : l .i ≡ c .before .before .args .n = omega arith in
+    (l .inv .1, rw e at (l .inv .2))
+
+pub copy-spec : {M : Type 1} → statement M
+copy-spec =
+    tie.close
+    (tie.spec
+    Inv-loop
+    μ-loop
+    loop-holds
+    get-requires
+    put-requires
+    add-i
+    loop-less
+    loop-again
+    returns)

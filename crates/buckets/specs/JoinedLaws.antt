@@ -1,0 +1,148 @@
+-- How joining went, case by case, and turn by turn.
+use mathlib.Core.Path.{_≡_, refl, sym, _∙_, ap}
+use mathlib.Core.Bool.{Bool, true, false, not}
+use mathlib.Core.List.{List, [], _∷_, _++_}
+use mathlib.Core.Option.{Option, none, some}
+use Prim.Native.Nat.{ℕ, zero, suc, _+_, _*_, _≤_, _<_}
+use native.Mathlib.Numerals.{add-one}
+use native.Mathlib.Omega.{arith}
+use lib.ListN.{length, take, drop, length-append}
+use Rattle.basics.specs.Choice.{pick}
+use Rattle.slots.specs.Slot.{slotBytes}
+use Rattle.slots.specs.Tree.{slotLength, bucketStart, leafBucket, path, pathBucket}
+use Rattle.slots.specs.TreeLaws.{halvings-length}
+use Rattle.slots.specs.declared.Slot.{Slot}
+use Rattle.rounds.specs.Format.{Read}
+use Rattle.rounds.specs.Round.{keysOf, slotAt, readBucket, readBuckets}
+use Rattle.rounds.specs.Nodes.{wordsFormat}
+use Rattle.buckets.specs.Words.{wordCount, slotsOf, Leaves}
+use Rattle.buckets.specs.Stash.{ascending, joinReadings}
+use Rattle.buckets.specs.StashLaws.{Ascending, ascending-holds}
+use Rattle.buckets.specs.JoinLaws.{readings-then, readings-stop, readings-ascending}
+use Rattle.buckets.specs.PathLaws.{path-level, path-end}
+use Rattle.buckets.specs.Joined.{outcome, ReadingsJoined}
+use Rattle.buckets.specs.declared.read.Joined.{Joined}
+
+pub outcome-damage : (n : ℕ) (after : List ℕ) → outcome (record { ok = false; count = n }) after ≡ none
+unfolding outcome
+outcome-damage n after = refl
+
+pub outcome-good : (n : ℕ) (after : List ℕ) → outcome (record { ok = true; count = n }) after ≡ some (take n (slotsOf after))
+unfolding outcome
+outcome-good n after = refl
+
+module _ (k : ℕ) (held : List ℕ) (rs : List (Read Slot)) (m : ℕ) (before after : List ℕ) (sized : length after ≡ wordCount) where
+  pub damaged : joinReadings wordsFormat held rs (take m (slotsOf before)) ≡ none
+      → ReadingsJoined k held rs m before after (record { ok = false; count = m })
+  damaged e = record { sized = sized; within = omega arith; joined = e ∙ sym (outcome-damage m after); leaves = λ t. let z : _≡_ {A = ℕ} 0 1 = cc in absurd (omega arith) }
+
+  pub joined-to : (n : ℕ) → n ≤ m + length rs → (Leaves k (take m (slotsOf before)) → Leaves k (take n (slotsOf after))) → joinReadings wordsFormat held rs (take m (slotsOf before)) ≡ some (take n (slotsOf after))
+      → ReadingsJoined k held rs m before after (record { ok = true; count = n })
+  joined-to n h v e = record { sized = sized; within = h; joined = e ∙ sym (outcome-good n after); leaves = λ _. v }
+
+-- ---- some readings have joined, and others are left
+module _ (k : ℕ) (held : List ℕ) (rs rest : List (Read Slot)) (m : ℕ) (before after : List ℕ) (r : Joined) (h : ReadingsJoined k held rs m before after r) where
+  pub went : (t : Bool) → r .ok ≡ t → outcome r after ≡ pick t (some (take (r .count) (slotsOf after))) none
+  unfolding outcome
+  went t e = rw e
+
+  pub turn-damage : r .ok ≡ false → joinReadings wordsFormat held (rs ++ rest) (take m (slotsOf before)) ≡ none
+  turn-damage e = readings-stop wordsFormat held rs rest (take m (slotsOf before)) (h .joined ∙ went false e)
+
+  pub turn-joined : r .ok ≡ true
+      → joinReadings wordsFormat held (rs ++ rest) (take m (slotsOf before)) ≡ joinReadings wordsFormat held rest (take (r .count) (slotsOf after))
+  turn-joined e = readings-then wordsFormat held rs rest (take m (slotsOf before)) (take (r .count) (slotsOf after)) (h .joined ∙ went true e)
+
+  pub turn-ascending : r .ok ≡ true → Ascending (keysOf wordsFormat (take m (slotsOf before))) → Ascending (keysOf wordsFormat (take (r .count) (slotsOf after)))
+  turn-ascending e a = readings-ascending wordsFormat held rs (take m (slotsOf before)) (take (r .count) (slotsOf after)) (h .joined ∙ went true e) a
+
+pub readings-none : (held : List ℕ) (ws : List Slot) → joinReadings wordsFormat held [] ws ≡ some ws
+unfolding joinReadings
+readings-none held ws = refl
+
+-- Where a loop over readings stands: some have joined, the rest are left to join.
+pub record Joining (k : ℕ) (held : List ℕ) (all rest : List (Read Slot)) (m : ℕ) (before : List ℕ) (words : List ℕ) (count : ℕ) : Type 0 where
+  pub sized : length words ≡ wordCount
+  pub left : joinReadings wordsFormat held all (take m (slotsOf before)) ≡ joinReadings wordsFormat held rest (take count (slotsOf words))
+  pub order : Ascending (keysOf wordsFormat (take count (slotsOf words)))
+  pub leaves : Leaves k (take m (slotsOf before)) → Leaves k (take count (slotsOf words))
+
+pub joining-start : (k : ℕ) (held : List ℕ) (all : List (Read Slot)) (m : ℕ) (before : List ℕ) → length before ≡ wordCount
+    → ascending (keysOf wordsFormat (take m (slotsOf before))) ≡ true → Joining k held all all m before before m
+joining-start k held all m before s a =
+    record { sized = s; left = refl; order = ascending-holds (keysOf wordsFormat (take m (slotsOf before))) a; leaves = λ v. v }
+
+module _ (k : ℕ) (held : List ℕ) (all qs rest : List (Read Slot)) (m : ℕ) (before words after : List ℕ) (count : ℕ) (r : Joined)
+    (j : Joining k held all (qs ++ rest) m before words count) (h : ReadingsJoined k held qs count words after r) where
+  pub joining-turn : r .ok ≡ true → Joining k held all rest m before after (r .count)
+  joining-turn e =
+      record {
+        sized = h .sized;
+        left = j .left ∙ turn-joined k held qs rest count words after r h e;
+        order = turn-ascending k held qs rest count words after r h e (j .order);
+        leaves = λ v. h .leaves e (j .leaves v);
+      }
+
+  pub joining-damage : r .ok ≡ false → ReadingsJoined k held all m before after (record { ok = false; count = m })
+  joining-damage e = damaged k held all m before after (h .sized) (j .left ∙ turn-damage k held qs rest count words after r h e)
+
+pub joining-end : (k : ℕ) (held : List ℕ) (all : List (Read Slot)) (m : ℕ) (before words : List ℕ) (count : ℕ) → count ≤ m + length all
+    → Joining k held all [] m before words count → ReadingsJoined k held all m before words (record { ok = true; count = count })
+joining-end k held all m before words count h j =
+    joined-to k held all m before words (j .sized) count h (j .leaves) (j .left ∙ readings-none held (take count (slotsOf words)))
+
+-- ---- the readings of a bucket, and of the buckets of a path
+pub bucket-length : (k : ℕ) (tree : List ℕ) (b : ℕ) → length (readBucket wordsFormat k tree b) ≡ 4
+unfolding readBucket
+bucket-length k tree b = refl
+
+pub bucket-turn : (k : ℕ) (tree : List ℕ) (b j : ℕ) → j < 4
+    → drop j (readBucket wordsFormat k tree b) ≡ (wordsFormat .read k b (slotAt tree b j) ∷ []) ++ drop (j + 1) (readBucket wordsFormat k tree b)
+unfolding readBucket
+bucket-turn k tree b zero h = refl
+bucket-turn k tree b (suc zero) h = refl
+bucket-turn k tree b (suc (suc zero)) h = refl
+bucket-turn k tree b (suc (suc (suc zero))) h = refl
+bucket-turn k tree b (suc (suc (suc (suc j)))) h = let z : ⊥ = omega arith in absurd z
+
+-- The same for a slot that was loaded from its place in the bucket.
+pub loaded-turn : (k : ℕ) (tree : List ℕ) (b j at : ℕ) (x : Slot) → j < 4 → at ≡ bucketStart b → slotBytes x ≡ take slotLength (drop (at + slotLength * j) tree)
+    → drop j (readBucket wordsFormat k tree b) ≡ (wordsFormat .read k b (slotBytes x) ∷ []) ++ drop (j + 1) (readBucket wordsFormat k tree b)
+loaded-turn k tree b j at x h e q =
+    let s : slotAt tree b j ≡ slotBytes x = ap (λ (n : ℕ). take slotLength (drop (n + slotLength * j) tree)) (sym e) ∙ sym q in
+    bucket-turn k tree b j h
+    ∙ ap (λ (bs : List ℕ). (wordsFormat .read k b bs ∷ []) ++ drop (j + 1) (readBucket wordsFormat k tree b)) s
+
+pub buckets-length : (k : ℕ) (tree : List ℕ) (bs : List ℕ) → length (readBuckets wordsFormat k tree bs) ≡ 4 * length bs
+unfolding readBuckets
+buckets-length k tree [] = refl
+buckets-length k tree (b ∷ bs) =
+    let h = buckets-length k tree bs in
+    let n = bucket-length k tree b in
+    length-append (readBucket wordsFormat k tree b) (readBuckets wordsFormat k tree bs) ∙ omega arith
+
+pub buckets-turn : (k : ℕ) (tree : List ℕ) (b : ℕ) (bs : List ℕ) → readBuckets wordsFormat k tree (b ∷ bs) ≡ readBucket wordsFormat k tree b ++ readBuckets wordsFormat k tree bs
+unfolding readBuckets
+buckets-turn k tree b bs = refl
+
+pub buckets-end : (k : ℕ) (tree : List ℕ) → readBuckets wordsFormat k tree [] ≡ []
+unfolding readBuckets
+buckets-end k tree = refl
+
+pub path-turn : (k : ℕ) (tree : List ℕ) (t i b : ℕ) → i ≤ k → b ≡ pathBucket k t i
+    → readBuckets wordsFormat k tree (drop i (path k t)) ≡ readBucket wordsFormat k tree b ++ readBuckets wordsFormat k tree (drop (i + 1) (path k t))
+path-turn k tree t i b h e =
+    ap (readBuckets wordsFormat k tree) (path-level k t i h)
+    ∙ buckets-turn k tree (pathBucket k t i) (drop (i + 1) (path k t))
+    ∙ ap (λ (n : ℕ). readBucket wordsFormat k tree n ++ readBuckets wordsFormat k tree (drop (i + 1) (path k t))) (sym e)
+
+pub path-done : (k : ℕ) (tree : List ℕ) (t i : ℕ) → i ≡ k + 1 → readBuckets wordsFormat k tree (drop i (path k t)) ≡ []
+path-done k tree t i e =
+    ap (λ (n : ℕ). readBuckets wordsFormat k tree (drop n (path k t))) e
+    ∙ ap (readBuckets wordsFormat k tree) (path-end k t)
+    ∙ buckets-end k tree
+
+pub path-readings : (k : ℕ) (tree : List ℕ) (t : ℕ) → length (readBuckets wordsFormat k tree (path k t)) ≡ 4 * (k + 1)
+path-readings k tree t =
+    buckets-length k tree (path k t)
+    ∙ ap (λ (n : ℕ). 4 * n) (halvings-length k (leafBucket k t) ∙ sym (add-one k))

@@ -1,0 +1,127 @@
+// The waiting slots in a lent array of words: places read and written, and the first m of them as an ascending list.
+use super::SLOT_WORDS;
+use super::WORDS;
+use slots::Slot;
+use slots::codec::key_of;
+ghost use mathlib.Core.Path.{_≡_};
+ghost use mathlib.Core.Bool.{true};
+ghost use mathlib.Core.List.{_++_};
+ghost use Prim.Native.Nat.{_+_, _-_, _<_, _≤_};
+ghost use lib.ListN.{length, getD, set, take, drop};
+ghost use Rattle.rounds.specs.Round.{keysOf};
+ghost use Rattle.rounds.specs.Nodes.{wordsFormat};
+ghost use Rattle.buckets.specs.Words.{places, wordCount, slotsOf, zeroSlot};
+ghost use Rattle.buckets.specs.Stash.{ascending, rank, position, without};
+ghost use Rattle.buckets.specs.Joined.{SlotJoined};
+
+// The slot in a place.
+pub fn get(w: &[u64; WORDS], i: usize) -> Slot
+    requires { ⌜ (length (now w) ≡ wordCount) × (i < places) ⌝ }
+    ensures { λ r. ⌜ r ≡ getD (slotsOf (now (w .entry))) i zeroSlot ⌝ }
+{
+    let j = SLOT_WORDS * i;
+    Slot {
+        a: w[j],
+        b: w[j + 1],
+        c: w[j + 2],
+        d: w[j + 3],
+    }
+}
+
+// The slot in a place, replaced.
+pub fn put(w: &mut [u64; WORDS], i: usize, x: Slot)
+    requires { ⌜ (length (now w) ≡ wordCount) × (i < places) ⌝ }
+    ensures { λ _. ⌜ (slotsOf (now (w .exit)) ≡ set (slotsOf (now (w .entry))) i x) × (length (now (w .exit)) ≡ wordCount) ⌝ }
+{
+    let j = SLOT_WORDS * i;
+    w[j] = x.a;
+    w[j + 1] = x.b;
+    w[j + 2] = x.c;
+    w[j + 3] = x.d;
+}
+
+// The place of a key among the first m, which ascend: how many of them have a smaller one.
+fn place(s: &[u64; WORDS], m: usize, key: u32) -> usize
+    requires { ⌜ (length (now s) ≡ wordCount) × (m ≤ places) × (ascending (keysOf wordsFormat (take m (slotsOf (now s)))) ≡ true) ⌝ }
+    ensures { λ r. ⌜ r ≡ rank wordsFormat key (take m (slotsOf (now (s .entry)))) ⌝ }
+{
+    let mut i = m;
+    while 0 < i {
+        if key_of(get(s, i - 1)) < key {
+            return i;
+        }
+        i -= 1;
+    }
+    0
+}
+
+// The slots from a place on, of the first m, each one place up.
+fn shift_up(s: &mut [u64; WORDS], m: usize, at: usize)
+    requires { ⌜ (length (now s) ≡ wordCount) × (m < places) × (at ≤ m) ⌝ }
+    ensures { λ _. ⌜ (length (now (s .exit)) ≡ wordCount) × (take (m + 1) (slotsOf (now (s .exit))) ≡ take (at + 1) (slotsOf (now (s .entry))) ++ drop at (take m (slotsOf (now (s .entry))))) ⌝ }
+{
+    let mut i = m;
+    while at < i {
+        let x = get(s, i - 1);
+        put(s, i, x);
+        i -= 1;
+    }
+}
+
+// A slot joins the first m in key order, unless its key is there already.
+pub fn join_slot(s: &mut [u64; WORDS], m: usize, x: Slot) -> bool
+    requires { ⌜ (length (now s) ≡ wordCount) × (m < places) × (ascending (keysOf wordsFormat (take m (slotsOf (now s)))) ≡ true) ⌝ }
+    ensures { λ r. ⌜ SlotJoined m x (now (s .entry)) (now (s .exit)) r ⌝ }
+{
+    let key = key_of(x);
+    let at = place(s, m, key);
+    if at < m {
+        if key_of(get(s, at)) == key {
+            return false;
+        }
+    }
+    shift_up(s, m, at);
+    put(s, at, x);
+    true
+}
+
+// The place of the first slot with a key; m if none of the first m has it.
+pub fn find(s: &[u64; WORDS], m: usize, key: u32) -> usize
+    requires { ⌜ (length (now s) ≡ wordCount) × (m ≤ places) ⌝ }
+    ensures { λ r. ⌜ r ≡ position wordsFormat key (take m (slotsOf (now (s .entry)))) ⌝ }
+{
+    let mut i = 0;
+    while i < m {
+        if key_of(get(s, i)) == key {
+            return i;
+        }
+        i += 1;
+    }
+    m
+}
+
+// The slot in a place taken out of the first m.
+pub fn remove(s: &mut [u64; WORDS], m: usize, at: usize)
+    requires { ⌜ (length (now s) ≡ wordCount) × (m ≤ places) × (at < m) ⌝ }
+    ensures { λ _. ⌜ (length (now (s .exit)) ≡ wordCount) × (take (m - 1) (slotsOf (now (s .exit))) ≡ without at (take m (slotsOf (now (s .entry))))) ⌝ }
+{
+    let mut i = at + 1;
+    while i < m {
+        let x = get(s, i);
+        put(s, i - 1, x);
+        i += 1;
+    }
+}
+
+// The first n slots copied.
+pub fn copy(from: &[u64; WORDS], n: usize, to: &mut [u64; WORDS])
+    requires { ⌜ (length (now from) ≡ wordCount) × (length (now to) ≡ wordCount) × (n ≤ places) ⌝ }
+    ensures { λ _. ⌜ (length (now (to .exit)) ≡ wordCount) × (take n (slotsOf (now (to .exit))) ≡ take n (slotsOf (now (from .entry)))) ⌝ }
+{
+    let mut i = 0;
+    while i < n {
+        let x = get(from, i);
+        put(to, i, x);
+        i += 1;
+    }
+}

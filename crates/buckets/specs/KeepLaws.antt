@@ -4,7 +4,7 @@ use mathlib.Core.Path.{_≡_, refl, sym, _∙_, ap, subst}
 use mathlib.Core.Bool.{Bool, true, false, _||_}
 use mathlib.Core.List.{List, [], _∷_, _++_, map, append-assoc}
 use mathlib.Core.Option.{Option, none, some}
-use Prim.Native.Nat.{ℕ, zero, suc, _≤_, _<_}
+use Prim.Native.Nat.{ℕ, suc, _<_}
 use native.Mathlib.Omega.{arith}
 use lib.Dec.{eqb, ltb}
 use lib.ListN.{length, take, drop, getD}
@@ -22,7 +22,7 @@ use Rattle.buckets.specs.Stash.{ascending, without, position, joinReadin
 use Rattle.buckets.specs.StashLaws.{ascending-holds, ascending-test}
 use Rattle.buckets.specs.PartLaws.{Part, part-whole, part-without, part-part, part-holds, part-ascending, part-distinct}
 use Rattle.buckets.specs.JoinLaws.{distinct-of, distinct-tested, none-twice-perm, readings-ascending, once, among-either}
-use Rattle.buckets.specs.LookLaws.{half-joined, from-damage, from-joined, granted-nothing, granted-missing, granted-other, granted-found, position-within}
+use Rattle.buckets.specs.LookLaws.{half-joined, from-damage, from-joined, granted-nothing, granted-missing, granted-other, granted-found}
 use Rattle.buckets.specs.ChooseLaws.{left-part}
 
 module _ {E : Type 0} (F : Format E) where

@@ -1,27 +1,25 @@
 -- What looking answers on words is the read half's: one law for each return.
-use mathlib.Core.Path.{_≡_, refl, sym, _∙_, ap, subst}
-use mathlib.Core.Bool.{Bool, true, false}
+use mathlib.Core.Path.{_≡_, sym, _∙_, ap, subst}
+use mathlib.Core.Bool.{true, false}
 use mathlib.Core.List.{List, [], _++_}
-use mathlib.Core.Option.{Option, none, some}
+use mathlib.Core.Option.{none}
 use Prim.Native.Nat.{ℕ, _+_, _*_, _≤_, _<_}
 use native.Mathlib.Omega.{arith}
 use lib.ListN.{length, take, getD, length-take}
 use lib.Seq.{getD-take}
-use Rattle.basics.specs.Choice.{pick}
 use Rattle.slots.specs.Tree.{path}
 use Rattle.slots.specs.Slot.{fieldsIn, slotBytes, nodeOf}
 use Rattle.slots.specs.declared.Slot.{Slot}
 use Rattle.slots.specs.declared.Node.{Node as NodeOf}
-use Rattle.rounds.specs.Format.{Read}
 use Rattle.rounds.specs.Round.{keysOf, noneTwice, readBuckets, readHalf, granted, grantedFrom}
 use Rattle.rounds.specs.Nodes.{wordsFormat}
-use Rattle.buckets.specs.Words.{places, wordCount, slotsOf, zeroSlot, Leaves}
+use Rattle.buckets.specs.Words.{places, slotsOf, zeroSlot, Leaves}
 use Rattle.buckets.specs.WordsLaws.{slots-count, words-tag}
 use Rattle.buckets.specs.Stash.{position}
 use Rattle.buckets.specs.Joined.{outcome, ReadingsJoined}
 use Rattle.buckets.specs.JoinedLaws.{went, path-readings}
-use Rattle.buckets.specs.Look.{wishOf, wanted, inHand, LookedFor}
-use Rattle.buckets.specs.LookLaws.{half-joined, from-damage, from-joined, granted-nothing, granted-missing, granted-other, granted-found, position-within}
+use Rattle.buckets.specs.Look.{wishOf, inHand, LookedFor}
+use Rattle.buckets.specs.LookLaws.{half-joined, from-damage, from-joined, granted-nothing, granted-missing, granted-other, granted-found}
 use Rattle.buckets.specs.declared.read.Joined.{Joined}
 use Rattle.buckets.specs.declared.read.Looked.{Looked}
 use Rattle.buckets.specs.declared.read.Wish.{Wish}

@@ -1,11 +1,9 @@
 -- Some elements of a list, in their order: what a round leaves waiting of what was joined. Ascending keys still ascend, none is
 -- twice, and what holds of each still does.
 use mathlib.Core.Path.{_≡_, refl}
-use mathlib.Core.Logic.{_⊎_, inl, inr, ⊎-elim}
-use mathlib.Core.List.{List, [], _∷_, _++_, map, List·Memᴰ, List·Memᴰ·head, List·Memᴰ·tail, List·Memᴰ·cases-cons}
-use Prim.Native.Nat.{ℕ, zero, suc, _≤_}
-use native.Mathlib.Omega.{arith}
-use lib.ListN.{length, take, drop}
+use mathlib.Core.Logic.{⊎-elim}
+use mathlib.Core.List.{List, [], _∷_, _++_, List·Memᴰ, List·Memᴰ·head, List·Memᴰ·tail, List·Memᴰ·cases-cons}
+use Prim.Native.Nat.{ℕ, zero, suc}
 use Rattle.basics.specs.Distinct.{Distinct, All}
 use Rattle.basics.specs.DistinctLaws.{all-cons}
 use Rattle.rounds.specs.Format.{Format}

@@ -1,19 +1,18 @@
 -- The buckets of a path, level by level: their numbers are in the tree, and a tag's path passes one exactly if it has the same
 -- bucket at that level.
-use mathlib.Core.Path.{_≡_, refl, sym, _∙_, ap, subst}
-use mathlib.Core.Bool.{_||_, or-false}
+use mathlib.Core.Path.{_≡_, sym, _∙_, ap, subst}
+use mathlib.Core.Bool.{or-false}
 use Prim.Native.Nat.{ℕ, zero, suc, _+_, _-_, _*_, _/_, _^_, _≤_, _<_}
-use native.Mathlib.Nat.{le-trans, div-one, div-div-eq-div-mul, pow-suc, mul-comm}
+use native.Mathlib.Nat.{div-one, div-div-eq-div-mul, pow-suc, mul-comm}
 use native.Mathlib.Numerals.{add-one}
 use native.Mathlib.Omega.{arith}
-use mathlib.Core.List.{List, [], _∷_}
-use lib.ListN.{length, getD, drop, drop-of-length-le}
-use lib.Pow.{pow-mono, pow-pos}
+use mathlib.Core.List.{[], _∷_}
+use lib.ListN.{drop, drop-of-length-le}
+use lib.Pow.{pow-mono}
 use lib.Seq.{drop-cons}
 use lib.Dec.{eqb}
-use borrow.Author.Tests.{ne-eqb}
 use Rattle.slots.specs.Tree.{among, passes, leafBucket, halvings, halved, pathBucket, path, bucketStart, bucketLength, treeLength}
-use Rattle.slots.specs.TreeLaws.{halved-none, halved-more, halved-last, halved-le, halvings-length, halvings-at, among-less, among-last, among-above}
+use Rattle.slots.specs.TreeLaws.{halved-last, halved-le, halvings-length, halvings-at, among-less, among-last, among-above}
 use Rattle.buckets.specs.Level.{AtLevel}
 
 -- What is left of a path from a level on.

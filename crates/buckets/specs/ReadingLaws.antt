@@ -1,21 +1,19 @@
 -- The reading of a slot's words: a full one's words are those of the node that it is read as.
 use mathlib.Core.Path.{_≡_, refl, sym, _∙_, ap}
 use mathlib.Core.Bool.{Bool, true, false}
-use Prim.Native.Nat.{ℕ, zero, suc, _+_, _*_, _/_, _%_, _^_, _<_, _≤_}
+use Prim.Native.Nat.{ℕ, _+_, _*_, _/_, _%_, _^_, _<_}
 use native.Mathlib.Omega.{arith}
-use mathlib.Core.List.{List, [], _∷_}
 use lib.Dec.{eqb, leb}
 use borrow.Author.Tests.{eqb-true, eqb-false, leb-true, leb-false}
 use Rattle.basics.specs.Choice.{pick}
 use Rattle.slots.specs.Tree.{passes}
-use Rattle.slots.specs.Slot.{fieldsIn, nodeOf, allZero, wellFormed, readSlot, slotBytes, slotOf, tagTooLarge}
+use Rattle.slots.specs.Slot.{fieldsIn, nodeOf, allZero, wellFormed, readSlot, slotBytes, slotOf}
 use Rattle.slots.specs.SlotLaws.{Words, fieldsOfWords, fields-in-words, slot-length}
 use Rattle.slots.specs.ReadLaws.{all-zero-read, read-wrong-flag, read-wrong-zero1, read-wrong-zero2, read-node, own-tag-too-large}
 use Rattle.slots.specs.declared.Node.{Node}
 use Rattle.slots.specs.declared.Slot.{Slot}
-use Rattle.slots.specs.declared.Reading.{Reading}
 use Rattle.slots.specs.declared.Reading.the-variants.{Full, Empty, Bad}
-use Rattle.rounds.specs.Format.{Read, full, empty, bad}
+use Rattle.rounds.specs.Format.{full, empty, bad}
 use Rattle.rounds.specs.Nodes.{wordsFormat, wordsOf, readingOf}
 
 module _ (k b : ℕ) (x : Slot) (h : Words x) (n : Node) (r : readSlot k b (slotBytes x) ≡ Full n) where

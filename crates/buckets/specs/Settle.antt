@@ -7,7 +7,7 @@ use lib.ListN.{length, take}
 use Rattle.slots.specs.Tree.{treeLength}
 use Rattle.slots.specs.Slot.{bucketBytes}
 use Rattle.slots.specs.declared.Slot.{Slot}
-use Rattle.rounds.specs.Round.{choose, evict, writeHalf}
+use Rattle.rounds.specs.Round.{choose, writeHalf}
 use Rattle.rounds.specs.Nodes.{wordsFormat}
 use Rattle.buckets.specs.Words.{places, wordCount, slotsOf, Leaves}
 use Rattle.buckets.specs.Look.{removed}

@@ -2,7 +2,7 @@
 use mathlib.Core.Path.{_≡_, refl, sym, _∙_, ap, subst}
 use mathlib.Core.Bool.{Bool, true, false, _&&_}
 use mathlib.Core.List.{List, [], _∷_, _++_, map}
-use Prim.Native.Nat.{ℕ, _+_, _*_, _^_, _≤_, _<_}
+use Prim.Native.Nat.{ℕ, _+_, _^_, _≤_, _<_}
 use native.Mathlib.Omega.{arith}
 use lib.Dec.{eqb, ltb}
 use lib.ListN.{length, take, drop, getD, set, length-take}
@@ -14,7 +14,7 @@ use Rattle.slots.specs.Slot.{slotBytes, bucketBytes}
 use Rattle.slots.specs.declared.Slot.{Slot}
 use Rattle.rounds.specs.Round.{Chosen, withBucket, choose, evict, writeHalf}
 use Rattle.rounds.specs.Nodes.{wordsFormat}
-use Rattle.buckets.specs.Words.{places, wordCount, slotsOf, zeroSlot, Leaves}
+use Rattle.buckets.specs.Words.{wordCount, slotsOf, zeroSlot, Leaves}
 use Rattle.buckets.specs.Level.{AtLevel}
 use Rattle.buckets.specs.PathLaws.{passes-at-level}
 use Rattle.buckets.specs.ChooseLaws.{Choosing, here-is, choosing-taken, choosing-left, choosing-end, left-part}

@@ -3,13 +3,9 @@ use mathlib.Core.Path.{sym, _∙_, ap}
 use Prim.Native.Nat.{ℕ, _/_, _^_}
 use Rattle.slots.specs.Tree.{leafBucket}
 use Rattle.buckets.specs.PathLaws.{halved-shift}
-use native.Mathlib.Omega.{arith}
 use borrow.Author.Needs.{needs}
 use Rattle.buckets.proofs.path.bucket_at.Statement.{statement}
 use Rattle.buckets.proofs.path.bucket_at.Tie as tie
-use Rattle.buckets.proofs.path.bucket_at.Reads as reads
-use Rattle.buckets.proofs.path.bucket_at.Lts as lts
-use Rattle.slots.proofs.tree.leaf_bucket.Reads as leaf-bucket-reads
 
 leaf-bucket-requires : tie.Need-leaf-bucket-requires
 leaf-bucket-requires c κs = search needs

@@ -1,6 +1,6 @@
 -- `buckets::read::is_held` meets its contract. The invariant: none of the first i is the key.
-use mathlib.Core.Path.{_≡_, refl, sym, _∙_, ap}
-use Prim.Native.Nat.{_+_, _-_, _≤_}
+use mathlib.Core.Path.{_≡_, refl, sym, _∙_}
+use Prim.Native.Nat.{_-_, _≤_}
 use lib.ListN.{length, drop}
 use Rattle.slots.specs.Tree.{among}
 use Rattle.buckets.specs.JoinLaws.{among-here, among-later, among-end}
@@ -8,8 +8,6 @@ use borrow.Author.Needs.{needs}
 use native.Mathlib.Omega.{arith}
 use Rattle.buckets.proofs.read.is_held.Statement.{statement}
 use Rattle.buckets.proofs.read.is_held.Tie as tie
-use Rattle.buckets.proofs.read.is_held.Reads as reads
-use Rattle.buckets.proofs.read.is_held.Lts as lts
 
 abbrev Inv-loop : tie.InvT-loop
 Inv-loop held key i₀ i = (i ≤ length held) × (among key held ≡ among key (drop i held))

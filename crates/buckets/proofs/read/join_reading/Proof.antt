@@ -1,24 +1,22 @@
 -- `buckets::read::join_reading` meets its contract: one case of the reading for each return.
 use mathlib.Core.Path.{_≡_, refl, sym, _∙_, ap, subst}
 use mathlib.Core.Logic.{⊎-elim}
-use mathlib.Core.Bool.{Bool, true, false, not}
-use mathlib.Core.Option.{none, some}
-use Rattle.rounds.specs.Format.{Read, full, empty, bad}
-use lib.ListN.{length, take}
+use mathlib.Core.Bool.{true, false}
+use mathlib.Core.Option.{some}
+use lib.ListN.{take}
 use borrow.Author.Tests.{not-true, not-false}
-use Rattle.slots.specs.Slot.{slotBytes, readSlot}
+use Rattle.slots.specs.Slot.{slotBytes}
 use Rattle.slots.specs.SlotLaws.{Words}
 use Rattle.slots.specs.Tree.{among}
-use Rattle.rounds.specs.Round.{keysOf, insert}
+use Rattle.rounds.specs.Round.{keysOf}
 use Rattle.rounds.specs.Nodes.{wordsFormat}
 use Rattle.slots.specs.declared.Slot.{Slot}
 use Rattle.buckets.specs.Words.{slotsOf, Leaves}
-use Rattle.buckets.specs.Stash.{joinReadings}
 use Rattle.buckets.specs.JoinLaws.{reading-empty, reading-bad, reading-held, reading-waiting, reading-new, insert-all}
 use Rattle.buckets.specs.ReadingLaws.{full-reading, full-key, full-tag, empty-reading, bad-reading}
 use Rattle.buckets.specs.JoinedLaws.{damaged, joined-to}
 use mathlib.Core.List.{[], _∷_}
-use Prim.Native.Nat.{ℕ, _+_, _^_, _<_, _≤_}
+use Prim.Native.Nat.{_+_, _^_, _<_}
 use types.Run.{OneOf}
 use denote.Enum.Declared.{tagOf}
 use Rattle.slots.proofs.Reading.{the-type}
@@ -28,11 +26,6 @@ use native.Mathlib.Omega.{arith}
 use borrow.Author.Needs.{needs}
 use Rattle.buckets.proofs.read.join_reading.Statement.{statement}
 use Rattle.buckets.proofs.read.join_reading.Tie as tie
-use Rattle.buckets.proofs.read.join_reading.Reads as reads
-use Rattle.buckets.proofs.read.join_reading.Lts as lts
-use Rattle.buckets.proofs.read.is_held.Reads as is-held-reads
-use Rattle.buckets.proofs.stash.join_slot.Reads as join-slot-reads
-use Rattle.slots.proofs.codec.reading.Reads as reading-reads
 
 reading-requires : tie.Need-reading-requires
 reading-requires c κs = search needs

@@ -1,14 +1,7 @@
 -- `buckets::read::look` meets its contract: one case of the read half for each return.
-use mathlib.Core.Path.{_≡_, refl, sym, _∙_, ap, subst}
-use mathlib.Core.Bool.{true, false}
-use Prim.Native.Nat.{ℕ, _+_, _*_, _≤_, _<_}
-use lib.ListN.{length, take}
+use mathlib.Core.Path.{sym, subst}
+use mathlib.Core.Bool.{true}
 use borrow.Author.Tests.{not-true, not-false}
-use Rattle.slots.specs.declared.Slot.{Slot}
-use Rattle.rounds.specs.Round.{keysOf}
-use Rattle.rounds.specs.Nodes.{wordsFormat}
-use Rattle.buckets.specs.Words.{slotsOf}
-use Rattle.buckets.specs.Stash.{ascending}
 use Rattle.buckets.specs.Look.{LookedFor}
 use Rattle.buckets.specs.JoinedLaws.{path-readings}
 use Rattle.buckets.specs.LookedLaws.{looked-bad, looked-nothing, looked-missing, looked-other, looked-found}
@@ -17,16 +10,6 @@ use native.Mathlib.Omega.{arith}
 use borrow.Author.Needs.{needs}
 use Rattle.buckets.proofs.read.look.Statement.{statement}
 use Rattle.buckets.proofs.read.look.Tie as tie
-use Rattle.buckets.proofs.read.look.Reads as reads
-use Rattle.buckets.proofs.read.look.Lts as lts
-use Rattle.buckets.proofs.read.damage.Reads as damage-reads
-use Rattle.buckets.proofs.read.no_node.Reads as no-node-reads
-use Rattle.buckets.proofs.read.read_path.Reads as read-path-reads
-use Rattle.buckets.proofs.stash.copy.Reads as copy-reads
-use Rattle.buckets.proofs.stash.find.Reads as find-reads
-use Rattle.buckets.proofs.stash.get.Reads as get-reads
-use Rattle.slots.proofs.codec.node_of.Reads as node-of-reads
-use Rattle.slots.proofs.codec.tag_of.Reads as tag-of-reads
 
 copy-requires : tie.Need-copy-requires
 copy-requires c κs = let p = c .before .before .before .pre in (p .waiting-sized, p .scratch-sized, omega arith)

@@ -1,16 +1,14 @@
 -- `buckets::read::read_bucket` meets its contract. The invariant: the first j slots have joined, the others are left to join.
 use Rattle.buckets.specs.JoinedLaws.{Joining, joining-start, joining-turn, joining-damage, joining-end, bucket-length, loaded-turn}
-use mathlib.Core.Path.{_≡_, refl, sym, _∙_, ap, subst}
+use mathlib.Core.Path.{_≡_, subst}
 use mathlib.Core.List.{List, [], _∷_, _++_}
-use mathlib.Core.Bool.{true, false}
-use Prim.Native.Nat.{ℕ, _+_, _*_, _-_, _≤_}
-use lib.ListN.{length, take, drop, drop-of-length-le}
+use Prim.Native.Nat.{_+_, _-_, _≤_}
+use lib.ListN.{take, drop, drop-of-length-le}
 use borrow.Author.Tests.{not-true, not-false}
 use Rattle.slots.specs.Slot.{slotBytes}
-use Rattle.slots.specs.Tree.{bucketStart}
 use Rattle.slots.specs.declared.Slot.{Slot}
 use Rattle.rounds.specs.Format.{Read}
-use Rattle.rounds.specs.Round.{keysOf, slotAt, readBucket}
+use Rattle.rounds.specs.Round.{keysOf, readBucket}
 use Rattle.rounds.specs.Nodes.{wordsFormat}
 use Rattle.buckets.specs.Words.{slotsOf}
 use Rattle.buckets.specs.StashLaws.{ascending-test}
@@ -18,11 +16,6 @@ use borrow.Author.Needs.{needs}
 use native.Mathlib.Omega.{arith}
 use Rattle.buckets.proofs.read.read_bucket.Statement.{statement}
 use Rattle.buckets.proofs.read.read_bucket.Tie as tie
-use Rattle.buckets.proofs.read.read_bucket.Reads as reads
-use Rattle.buckets.proofs.read.read_bucket.Lts as lts
-use Rattle.buckets.proofs.read.join_reading.Reads as join-reading-reads
-use Rattle.slots.proofs.tree.bucket_start.Reads as bucket-start-reads
-use Rattle.slots.proofs.words.load.Reads as load-reads
 
 abbrev Inv-loop : tie.InvT-loop
 Inv-loop s₀ m tree size bucket held at count₀ j₀ s count j = (j ≤ 4) × (count ≤ m + j) × Joining size held (readBucket wordsFormat size tree bucket) (drop j (readBucket wordsFormat size tree bucket)) m s₀ s count

@@ -1,7 +1,7 @@
 -- `buckets::read::read_path` meets its contract. The invariant: the buckets below a level have joined, the others are left to join.
-use mathlib.Core.Path.{_≡_, refl, sym, _∙_, ap, subst}
-use mathlib.Core.List.{List, [], _∷_, _++_}
-use Prim.Native.Nat.{ℕ, _+_, _*_, _-_, _^_, _≤_, _<_}
+use mathlib.Core.Path.{_≡_, subst}
+use mathlib.Core.List.{List, _++_}
+use Prim.Native.Nat.{_+_, _*_, _-_, _^_, _≤_}
 use lib.ListN.{length, take, drop}
 use lib.Pow.{pow-mono}
 use borrow.Author.Tests.{not-true, not-false}
@@ -18,10 +18,6 @@ use borrow.Author.Needs.{needs}
 use native.Mathlib.Omega.{arith}
 use Rattle.buckets.proofs.read.read_path.Statement.{statement}
 use Rattle.buckets.proofs.read.read_path.Tie as tie
-use Rattle.buckets.proofs.read.read_path.Reads as reads
-use Rattle.buckets.proofs.read.read_path.Lts as lts
-use Rattle.buckets.proofs.path.bucket_at.Reads as bucket-at-reads
-use Rattle.buckets.proofs.read.read_bucket.Reads as read-bucket-reads
 
 abbrev Inv-loop : tie.InvT-loop
 Inv-loop s₀ n tree size leaf held count₀ level₀ s count level =

@@ -1,21 +1,14 @@
 -- `buckets::stash::copy` meets its contract. The invariant: the first i slots are copied.
-use mathlib.Core.Path.{_≡_, refl, sym, _∙_, ap}
-use Prim.Native.Nat.{ℕ, _+_, _-_, _≤_, _<_}
-use lib.ListN.{length, take, drop, getD, set, length-take}
-use Rattle.rounds.specs.Round.{keysOf}
-use Rattle.rounds.specs.Nodes.{wordsFormat}
-use Rattle.slots.specs.declared.Slot.{Slot}
-use Rattle.buckets.specs.Words.{places, wordCount, slotsOf, zeroSlot}
-use Rattle.buckets.specs.WordsLaws.{slots-count, words-key}
+use mathlib.Core.Path.{_≡_, refl, _∙_, ap}
+use Prim.Native.Nat.{_+_, _-_, _≤_}
+use lib.ListN.{length, take, set}
+use Rattle.buckets.specs.Words.{wordCount, slotsOf, zeroSlot}
+use Rattle.buckets.specs.WordsLaws.{slots-count}
 use Rattle.buckets.specs.PlaceLaws.{copied-more}
 use borrow.Author.Needs.{needs}
 use native.Mathlib.Omega.{arith}
 use Rattle.buckets.proofs.stash.copy.Statement.{statement}
 use Rattle.buckets.proofs.stash.copy.Tie as tie
-use Rattle.buckets.proofs.stash.copy.Reads as reads
-use Rattle.buckets.proofs.stash.copy.Lts as lts
-use Rattle.buckets.proofs.stash.get.Reads as get-reads
-use Rattle.buckets.proofs.stash.put.Reads as put-reads
 
 abbrev Inv-loop : tie.InvT-loop
 Inv-loop from n to₀ i₀ to i = (i ≤ n) × (length to ≡ wordCount) × (take i (slotsOf to) ≡ take i (slotsOf from))

@@ -3,8 +3,6 @@ use native.Mathlib.Omega.{arith}
 use borrow.Author.Needs.{needs}
 use Rattle.buckets.proofs.stash.get.Statement.{statement}
 use Rattle.buckets.proofs.stash.get.Tie as tie
-use Rattle.buckets.proofs.stash.get.Reads as reads
-use Rattle.buckets.proofs.stash.get.Lts as lts
 
 -- src/stash.rt:15:13
 mul-j : tie.Need-mul-j

@@ -1,14 +1,13 @@
 -- `buckets::stash::join_slot` meets its contract: the key is in its place, or the slot is put there.
-use Rattle.slots.specs.declared.Slot.{Slot}
-use mathlib.Core.Path.{_≡_, refl, sym, _∙_, ap}
+use mathlib.Core.Path.{_≡_, sym, _∙_, ap}
 use mathlib.Core.Logic.{⊎-elim}
-use mathlib.Core.Bool.{Bool, true, false, not}
-use Prim.Native.Nat.{ℕ, _+_, _≤_, _<_}
-use lib.ListN.{length, take, drop, getD, set, length-take}
+use mathlib.Core.Bool.{false}
+use Prim.Native.Nat.{ℕ, _+_}
+use lib.ListN.{take, getD, length-take}
 use Rattle.slots.specs.Tree.{among}
 use Rattle.rounds.specs.Round.{keysOf}
 use Rattle.rounds.specs.Nodes.{wordsFormat}
-use Rattle.buckets.specs.Words.{places, wordCount, slotsOf, zeroSlot}
+use Rattle.buckets.specs.Words.{slotsOf, zeroSlot}
 use Rattle.buckets.specs.WordsLaws.{slots-count, words-key, key-got-first}
 use Rattle.buckets.specs.Stash.{rank}
 use Rattle.buckets.specs.StashLaws.{ascending-holds, among-place, absent-place, rank-first, insert-stored}
@@ -16,13 +15,6 @@ use native.Mathlib.Omega.{arith}
 use borrow.Author.Needs.{needs}
 use Rattle.buckets.proofs.stash.join_slot.Statement.{statement}
 use Rattle.buckets.proofs.stash.join_slot.Tie as tie
-use Rattle.buckets.proofs.stash.join_slot.Reads as reads
-use Rattle.buckets.proofs.stash.join_slot.Lts as lts
-use Rattle.buckets.proofs.stash.get.Reads as get-reads
-use Rattle.buckets.proofs.stash.place.Reads as place-reads
-use Rattle.buckets.proofs.stash.put.Reads as put-reads
-use Rattle.buckets.proofs.stash.shift_up.Reads as shift-up-reads
-use Rattle.slots.proofs.codec.key_of.Reads as key-of-reads
 
 key-of-requires : tie.Need-key-of-requires
 key-of-requires c κs = search needs

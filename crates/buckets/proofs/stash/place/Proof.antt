@@ -1,23 +1,17 @@
 -- `buckets::stash::place` meets its contract. The invariant: of the first m, those from i on have no smaller key.
 use Rattle.buckets.specs.WordsLaws.{slots-count, key-got}
-use Rattle.slots.specs.Slot.{slotBytes, fieldsIn}
 use mathlib.Core.Path.{_≡_, refl, sym, _∙_, ap}
-use Prim.Native.Nat.{ℕ, _+_, _-_, _≤_, _<_}
-use lib.ListN.{length, take, drop, getD, set, length-take}
+use Prim.Native.Nat.{ℕ, _-_, _≤_}
+use lib.ListN.{take}
 use Rattle.rounds.specs.Round.{keysOf}
 use Rattle.rounds.specs.Nodes.{wordsFormat}
-use Rattle.slots.specs.declared.Slot.{Slot}
-use Rattle.buckets.specs.Words.{places, wordCount, slotsOf, zeroSlot}
+use Rattle.buckets.specs.Words.{slotsOf, zeroSlot}
 use Rattle.buckets.specs.Stash.{rank}
 use Rattle.buckets.specs.StashLaws.{ascending-holds, rank-none, rank-down, rank-reached}
 use borrow.Author.Needs.{needs}
 use native.Mathlib.Omega.{arith}
 use Rattle.buckets.proofs.stash.place.Statement.{statement}
 use Rattle.buckets.proofs.stash.place.Tie as tie
-use Rattle.buckets.proofs.stash.place.Reads as reads
-use Rattle.buckets.proofs.stash.place.Lts as lts
-use Rattle.buckets.proofs.stash.get.Reads as get-reads
-use Rattle.slots.proofs.codec.key_of.Reads as key-of-reads
 
 abbrev Inv-loop : tie.InvT-loop
 Inv-loop s m key i₀ i = (i ≤ m) × (rank wordsFormat key (take i (slotsOf s)) ≡ rank wordsFormat key (take m (slotsOf s)))

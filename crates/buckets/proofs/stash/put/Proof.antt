@@ -5,8 +5,6 @@ use native.Mathlib.Omega.{arith}
 use borrow.Author.Needs.{needs}
 use Rattle.buckets.proofs.stash.put.Statement.{statement}
 use Rattle.buckets.proofs.stash.put.Tie as tie
-use Rattle.buckets.proofs.stash.put.Reads as reads
-use Rattle.buckets.proofs.stash.put.Lts as lts
 
 -- src/stash.rt:29:13
 mul-j : tie.Need-mul-j

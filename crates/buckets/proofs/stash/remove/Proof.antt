@@ -1,21 +1,14 @@
 -- `buckets::stash::remove` meets its contract. The invariant: the slots after the one taken out, up to i, stand one place down.
-use mathlib.Core.Path.{_≡_, refl, sym, _∙_, ap}
-use Prim.Native.Nat.{ℕ, _+_, _-_, _≤_, _<_}
-use lib.ListN.{length, take, drop, getD, set, length-take}
-use Rattle.rounds.specs.Round.{keysOf}
-use Rattle.rounds.specs.Nodes.{wordsFormat}
-use Rattle.slots.specs.declared.Slot.{Slot}
-use Rattle.buckets.specs.Words.{places, wordCount, slotsOf, zeroSlot}
-use Rattle.buckets.specs.WordsLaws.{slots-count, words-key}
+use mathlib.Core.Path.{_≡_, _∙_, ap}
+use Prim.Native.Nat.{_-_, _≤_, _<_}
+use lib.ListN.{length, getD, set}
+use Rattle.buckets.specs.Words.{wordCount, slotsOf, zeroSlot}
+use Rattle.buckets.specs.WordsLaws.{slots-count}
 use Rattle.buckets.specs.PlaceLaws.{Closed, closed-none, closed-more, closed-all}
 use borrow.Author.Needs.{needs}
 use native.Mathlib.Omega.{arith}
 use Rattle.buckets.proofs.stash.remove.Statement.{statement}
 use Rattle.buckets.proofs.stash.remove.Tie as tie
-use Rattle.buckets.proofs.stash.remove.Reads as reads
-use Rattle.buckets.proofs.stash.remove.Lts as lts
-use Rattle.buckets.proofs.stash.get.Reads as get-reads
-use Rattle.buckets.proofs.stash.put.Reads as put-reads
 
 abbrev Inv-loop : tie.InvT-loop
 Inv-loop s₀ m at i₀ s i = (at < i) × (i ≤ m) × (length s ≡ wordCount) × Closed (slotsOf s₀) m at i (slotsOf s)

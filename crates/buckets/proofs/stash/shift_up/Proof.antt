@@ -1,21 +1,14 @@
 -- `buckets::stash::shift_up` meets its contract. The invariant: of the first m slots, those from i on stand one place up.
-use mathlib.Core.Path.{_≡_, refl, sym, _∙_, ap}
-use Prim.Native.Nat.{ℕ, _+_, _-_, _≤_, _<_}
-use lib.ListN.{length, take, drop, getD, set, length-take}
-use Rattle.rounds.specs.Round.{keysOf}
-use Rattle.rounds.specs.Nodes.{wordsFormat}
-use Rattle.slots.specs.declared.Slot.{Slot}
-use Rattle.buckets.specs.Words.{places, wordCount, slotsOf, zeroSlot}
-use Rattle.buckets.specs.WordsLaws.{slots-count, words-key}
+use mathlib.Core.Path.{_≡_, _∙_, ap}
+use Prim.Native.Nat.{_+_, _≤_}
+use lib.ListN.{length, take, set}
+use Rattle.buckets.specs.Words.{wordCount, slotsOf, zeroSlot}
+use Rattle.buckets.specs.WordsLaws.{slots-count}
 use Rattle.buckets.specs.PlaceLaws.{shifted, shifted-none, shifted-more}
 use borrow.Author.Needs.{needs}
 use native.Mathlib.Omega.{arith}
 use Rattle.buckets.proofs.stash.shift_up.Statement.{statement}
 use Rattle.buckets.proofs.stash.shift_up.Tie as tie
-use Rattle.buckets.proofs.stash.shift_up.Reads as reads
-use Rattle.buckets.proofs.stash.shift_up.Lts as lts
-use Rattle.buckets.proofs.stash.get.Reads as get-reads
-use Rattle.buckets.proofs.stash.put.Reads as put-reads
 
 abbrev Inv-loop : tie.InvT-loop
 Inv-loop s₀ m at i₀ s i = (at ≤ i) × (i ≤ m) × (length s ≡ wordCount) × (take (m + 1) (slotsOf s) ≡ shifted (slotsOf s₀) m i)

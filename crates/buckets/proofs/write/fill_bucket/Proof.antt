@@ -1,27 +1,18 @@
 -- `buckets::write::fill_bucket` meets its contract. The invariant: of the first i slots, those chosen are in the table of four, the others are the first of s.
-use mathlib.Core.Path.{_≡_, refl, sym, _∙_, ap, subst}
+use mathlib.Core.Path.{_≡_, refl}
 use mathlib.Core.Logic.{⊎-elim}
-use mathlib.Core.List.{List, [], _∷_, _++_, map}
-use Prim.Native.Nat.{ℕ, _+_, _-_, _*_, _≤_, _<_}
-use lib.ListN.{length, take, drop, getD, set}
-use Rattle.slots.specs.Slot.{slotBytes}
-use Rattle.slots.specs.declared.Slot.{Slot}
-use Rattle.rounds.specs.Round.{Chosen, choose}
+use mathlib.Core.List.{[], _∷_}
+use Prim.Native.Nat.{_-_, _<_}
+use lib.ListN.{length}
 use Rattle.rounds.specs.Nodes.{wordsFormat}
-use Rattle.buckets.specs.Words.{places, wordCount, slotsOf, zeroSlot}
+use Rattle.buckets.specs.Words.{wordCount, slotsOf, zeroSlot}
 use Rattle.buckets.specs.WordsLaws.{slots-count}
-use Rattle.buckets.specs.ChooseLaws.{Choosing, choosing-start, choosing-end}
+use Rattle.buckets.specs.ChooseLaws.{Choosing, choosing-start}
 use Rattle.buckets.specs.SettleLaws.{room-left, slot-taken, slot-left, bucket-filled}
 use borrow.Author.Needs.{needs}
 use native.Mathlib.Omega.{arith}
 use Rattle.buckets.proofs.write.fill_bucket.Statement.{statement}
 use Rattle.buckets.proofs.write.fill_bucket.Tie as tie
-use Rattle.buckets.proofs.write.fill_bucket.Reads as reads
-use Rattle.buckets.proofs.write.fill_bucket.Lts as lts
-use Rattle.buckets.proofs.stash.get.Reads as get-reads
-use Rattle.buckets.proofs.stash.put.Reads as put-reads
-use Rattle.buckets.proofs.write.takes.Reads as takes-reads
-use Rattle.slots.proofs.bucket.write_bucket.Reads as write-bucket-reads
 
 abbrev Inv-loop : tie.InvT-loop
 Inv-loop s₀ m size level bucket part chosen₀ count₀ kept₀ i₀ s chosen count kept i = (length s ≡ wordCount) × Choosing wordsFormat size bucket (slotsOf s₀) m i kept count (slotsOf s) chosen

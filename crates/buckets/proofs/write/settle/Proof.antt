@@ -1,18 +1,12 @@
 -- `buckets::write::settle` meets its contract: it is the write half, after a wanted slot is taken out.
-use mathlib.Core.Path.{_≡_, refl, sym, _∙_, ap, subst}
+use mathlib.Core.Path.{sym, subst}
 use lib.ListN.{take}
-use Prim.Native.Nat.{_≤_}
 use Rattle.buckets.specs.Words.{slotsOf, Leaves}
 use Rattle.buckets.specs.SettleLaws.{removed-leaves, settled}
 use native.Mathlib.Omega.{arith}
 use borrow.Author.Needs.{needs}
 use Rattle.buckets.proofs.write.settle.Statement.{statement}
 use Rattle.buckets.proofs.write.settle.Tie as tie
-use Rattle.buckets.proofs.write.settle.Reads as reads
-use Rattle.buckets.proofs.write.settle.Lts as lts
-use Rattle.buckets.proofs.stash.copy.Reads as copy-reads
-use Rattle.buckets.proofs.write.take_out.Reads as take-out-reads
-use Rattle.buckets.proofs.write.write_path.Reads as write-path-reads
 
 take-out-requires : tie.Need-take-out-requires
 take-out-requires c κs = search needs

@@ -1,17 +1,12 @@
 -- `buckets::write::take_out` meets its contract.
-use mathlib.Core.Path.{_≡_, refl, sym, _∙_, ap}
+use mathlib.Core.Path.{sym, _∙_, ap}
 use Rattle.buckets.specs.Words.{slotsOf}
 use lib.ListN.{take}
-use Prim.Native.Nat.{_-_, _≤_}
 use Rattle.buckets.specs.Look.{removed}
 use mathlib.Core.Bool.{Bool}
-use borrow.Author.Needs.{needs}
 use native.Mathlib.Omega.{arith}
 use Rattle.buckets.proofs.write.take_out.Statement.{statement}
 use Rattle.buckets.proofs.write.take_out.Tie as tie
-use Rattle.buckets.proofs.write.take_out.Reads as reads
-use Rattle.buckets.proofs.write.take_out.Lts as lts
-use Rattle.buckets.proofs.stash.remove.Reads as remove-reads
 
 remove-requires : tie.Need-remove-requires
 remove-requires c κs = let p = c .before .before .pre in (p .0, p .1, p .2 (c .before .if1 .taken))

@@ -6,14 +6,9 @@ use lib.Dec.{eqb}
 use Rattle.slots.specs.Tree.{pathBucket}
 use Rattle.rounds.specs.Nodes.{wordsFormat}
 use Rattle.buckets.specs.WordsLaws.{words-tag}
-use native.Mathlib.Omega.{arith}
 use borrow.Author.Needs.{needs}
 use Rattle.buckets.proofs.write.takes.Statement.{statement}
 use Rattle.buckets.proofs.write.takes.Tie as tie
-use Rattle.buckets.proofs.write.takes.Reads as reads
-use Rattle.buckets.proofs.write.takes.Lts as lts
-use Rattle.buckets.proofs.path.bucket_at.Reads as bucket-at-reads
-use Rattle.slots.proofs.codec.tag_of.Reads as tag-of-reads
 
 returns : tie.Need-returns
 returns c = rw (le-ltb (c .before .args .count) 4 (c .if1 .taken))

@@ -1,7 +1,7 @@
 -- `buckets::write::write_path` meets its contract. The invariant: the buckets below a level are filled, the others are left to fill.
-use mathlib.Core.Path.{_≡_, refl, sym, _∙_, ap, subst}
-use mathlib.Core.List.{List, [], _∷_, _++_}
-use Prim.Native.Nat.{ℕ, _+_, _-_, _*_, _^_, _≤_, _<_}
+use mathlib.Core.Path.{_≡_, _∙_, ap, subst}
+use mathlib.Core.List.{List, _∷_, _++_}
+use Prim.Native.Nat.{ℕ, _+_, _-_, _^_, _≤_, _<_}
 use lib.ListN.{length, take, drop, length-take, length-drop}
 use lib.Pow.{pow-mono}
 use borrow.Rule.Slice.PartMut.{same-len-mid}
@@ -13,11 +13,6 @@ use borrow.Author.Needs.{needs}
 use native.Mathlib.Omega.{arith}
 use Rattle.buckets.proofs.write.write_path.Statement.{statement}
 use Rattle.buckets.proofs.write.write_path.Tie as tie
-use Rattle.buckets.proofs.write.write_path.Reads as reads
-use Rattle.buckets.proofs.write.write_path.Lts as lts
-use Rattle.buckets.proofs.path.bucket_at.Reads as bucket-at-reads
-use Rattle.buckets.proofs.write.fill_bucket.Reads as fill-bucket-reads
-use Rattle.slots.proofs.tree.bucket_start.Reads as bucket-start-reads
 
 abbrev Inv-loop : tie.InvT-loop
 Inv-loop s₀ m tree₀ size leaf count₀ above₀ s tree count above =

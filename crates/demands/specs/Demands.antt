@@ -1,0 +1,135 @@
+-- The three demands, in terms of the definitions that the contracts of `open` and `call` cite: `opened` (crate state) and `called`
+-- (crate store). A reader opens this file first.
+use Prim.Native.Nat.{ℕ, _*_, _≤_, _<_}
+use mathlib.Core.Path.{_≡_}
+use mathlib.Core.Bool.{true}
+use mathlib.Core.Logic.{_↔_, _⊎_}
+use mathlib.Core.List.{List, [], _++_, map}
+use mathlib.Core.Option.{none, some}
+use lib.ListN.{length, getD}
+use Rattle.basics.specs.Perm.{Perm}
+use Rattle.basics.specs.Distinct.{Distinct}
+use Rattle.slots.specs.LittleEndianLaws.{Bytes}
+use Rattle.method.specs.Answer.{Structure, Op}
+use Rattle.method.specs.Plain.{plainAnswers, nothing}
+use Rattle.method.specs.Node.{Node}
+use Rattle.method.specs.Call.{capacity, program, Ran}
+use Rattle.simulation.specs.Relation.{Simulates}
+use Rattle.state.specs.Fit.{fits}
+use Rattle.method.specs.Rounds.{rounds}
+use Rattle.method.specs.Origin as origin
+use Rattle.method.specs.Origin.{Origin, names, leafOf, leafRun}
+use Rattle.method.specs.Prog.{Prog, Want, done, want}
+use Rattle.method.specs.Map.{Outcome}
+use Rattle.rounds.specs.Round.{join}
+use Rattle.round_laws.specs.Whole.{contents}
+use Rattle.leaf_nodes.specs.Leaf.{leafFormat}
+use Rattle.calls.specs.Fetch.{Going, Round, on, shut, fetchRounds}
+use Rattle.calls.specs.Call.{drawOf}
+use Rattle.state.specs.declared.State.{State}
+use Rattle.state.specs.Opening.{opened}
+use Rattle.state.specs.Ticket.{opIn, structureOf}
+use Rattle.store.specs.declared.Reply.the-variants.{Refused}
+use Rattle.store.specs.Store.{Ended, called, refusing, storeOf, replyOf}
+use Rattle.demands.specs.History.{Brought, Kept, history, finally, counted, replies, traceOf, opsIn, tapesOf, pairOf, pairsIn, numberOf, Widths}
+
+-- ---- demand 1: any state, tree, ticket, tape and trace buffer
+module _ (s : State) (tree ticket tape trace : List ℕ) where
+  -- One answer, or one refusal 1 to 10.
+  abbrev pub OneReply : Type 0
+  OneReply = (n : ℕ) → called s tree ticket tape trace .reply ≡ Refused n → (1 ≤ n) × (n ≤ 10)
+
+  -- Refusals 1 to 7 change nothing and reveal no leaf.
+  abbrev pub Unchanged : Type 0
+  Unchanged = (n : ℕ) → called s tree ticket tape trace .reply ≡ Refused n → n ≤ 7 → called s tree ticket tape trace ≡ refusing n s tree trace
+
+  -- After 8 or 9 the mark is set, and every later call, whatever it brings, gives 1 and changes nothing.
+  abbrev pub StaysClosed : Type 0
+  StaysClosed =
+      (n : ℕ) → called s tree ticket tape trace .reply ≡ Refused n → (n ≡ 8) ⊎ (n ≡ 9)
+      → (called s tree ticket tape trace .state .mark ≡ n)
+      × ((tree′ ticket′ tape′ trace′ : List ℕ)
+      → called (called s tree ticket tape trace .state) tree′ ticket′ tape′ trace′
+      ≡ refusing 1 (called s tree ticket tape trace .state) tree′ trace′)
+
+  -- Where the fetch rounds of the call came to: a round that closed the store, or the step.
+  abbrev pub fetching : (st : Structure) → Op st → Round (Outcome ℕ)
+  fetching st op =
+      fetchRounds st (s .size) (drawOf (s .size) tape) (rounds st (s .size)) 0
+      (program 0 op (drawOf (s .size) tape (rounds st (s .size))) (capacity (s .size)) (s .entries) (storeOf s tree .root))
+      (record { tree = tree; waiting = storeOf s tree .waiting; held = []; leaves = [] })
+
+  -- A fit state's call comes to one of the two: its walk is never longer than its fetch rounds.
+  abbrev pub ComesTo : (st : Structure) → Op st → Type 0
+  ComesTo st op = (g : Going) (w : Want ℕ) (c : Node ℕ → Prog ℕ (Outcome ℕ)) → fetching st op ≡ on g (want w c) → ⊥
+
+  -- No node is lost: the key and value pairs that waiting nodes and good slots hold are, with repeats, those before the call
+  -- where the closing round was a fetch round, and those after the step where it was a put round.
+  pub record NoneLost (st : Structure) (op : Op st) : Type 0 where
+    pub comes-to : ComesTo st op
+    pub in-fetch : (m : ℕ) (g : Going) → fetching st op ≡ shut m g
+        → Perm (pairsIn s tree) (pairsIn (called s tree ticket tape trace .state) (called s tree ticket tape trace .tree))
+    pub in-put : (g : Going) (o : Outcome ℕ) → fetching st op ≡ on g (done o)
+        → Perm (map pairOf (contents leafFormat (s .size) (g .tree) ++ join leafFormat (o .nodes) (g .waiting)))
+        (pairsIn (called s tree ticket tape trace .state) (called s tree ticket tape trace .tree))
+
+  pub record Demand1 : Type 0 where
+    pub one-reply : OneReply
+    pub unchanged : Unchanged
+    pub stays-closed : StaysClosed
+    pub none-lost : Bytes tree → Bytes ticket → Widths s → (n : ℕ) → called s tree ticket tape trace .reply ≡ Refused n → (n ≡ 8) ⊎ (n ≡ 9)
+        → (op : Op (structureOf (s .structure))) → opIn (structureOf (s .structure)) ticket ≡ some op
+        → NoneLost (structureOf (s .structure)) op
+
+-- ---- demands 2 and 3: lists of calls from a good opening
+-- The store that a good opening of a tree leaves.
+abbrev pub openedStore : Structure → ℕ → List ℕ → Kept
+openedStore st k tree =
+    record { state = opened (numberOf st) k tree .state; tree = opened (numberOf st) k tree .tree }
+
+module _ (st : Structure) (k : ℕ) (s : Kept) (bs : List Brought) where
+  -- The method at leaves, run on the tickets and the tapes of the calls that count.
+  abbrev pub method : Ran ℕ
+  method = leafRun (rounds st k) k (tapesOf (counted s bs)) (opsIn st (counted s bs))
+
+  -- The trace is what the method reveals, state and tree at the end keep the nodes of the method's memory, and the state fits.
+  pub record Follows : Type 0 where
+    pub trace : traceOf (history s bs) ≡ method .revealed
+    pub kept : Simulates k (storeOf (finally s bs .state) (finally s bs .tree)) (method .memory)
+    pub fit : fits (finally s bs .state) ≡ true
+
+module _ (st : Structure) (k : ℕ) (tree : List ℕ) (bs : List Brought) where
+  abbrev pub start : Kept
+  start = openedStore st k tree
+
+  -- Until it closes every answer is the plain machine's, and no call meets 2, 3 or 8.
+  pub record Demand2 : Type 0 where
+    pub answers : finally start bs .state .mark ≡ 0
+        → replies (history start bs) ≡ map replyOf (plainAnswers (capacity k) (opsIn st (counted start bs)) (nothing st))
+    -- State, tree and trace are those of the method: see `Follows`.
+    pub follows : finally start bs .state .mark ≡ 0 → Follows st k start bs
+    pub marks : (finally start bs .state .mark ≡ 0) ⊎ (finally start bs .state .mark ≡ 9)
+    pub never : (i : ℕ) → i < length bs → (n : ℕ) → getD (map (λ (e : Ended). e .reply) (history start bs)) i (Refused 0) ≡ Refused n
+        → (n ≡ 2 → ⊥) × ((n ≡ 3 → ⊥) × (n ≡ 8 → ⊥))
+
+-- Two whole lists, neither closed at the end, with equally many counted calls: the traces are equal exactly when at each place the
+-- leaves of the draws named for the two lists are equal.
+module _ (st : Structure) (k : ℕ) where
+  abbrev pub namesFor : Kept → List Brought → List Origin
+  namesFor s bs = names (rounds st k) k (opsIn st (counted s bs))
+
+  abbrev pub leafAt : Kept → List Brought → ℕ → ℕ
+  leafAt s bs place = leafOf k (tapesOf (counted s bs)) (getD (namesFor s bs) place origin.none)
+
+  pub record Demand3 (tree tree′ : List ℕ) (bs cs : List Brought) : Type 0 where
+    pub traces : finally (openedStore st k tree) bs .state .mark ≡ 0 → finally (openedStore st k tree′) cs .state .mark ≡ 0
+        → length (counted (openedStore st k tree) bs) ≡ length (counted (openedStore st k tree′) cs)
+        → (traceOf (history (openedStore st k tree) bs) ≡ traceOf (history (openedStore st k tree′) cs))
+        ↔ ((place : ℕ) → place < length (counted (openedStore st k tree) bs) * (2 * rounds st k)
+        → leafAt (openedStore st k tree) bs place ≡ leafAt (openedStore st k tree′) cs place)
+    -- The names depend on the counted tickets alone; there is one for each place; none twice.
+    pub by-tickets : opsIn st (counted (openedStore st k tree) bs) ≡ opsIn st (counted (openedStore st k tree′) cs)
+        → namesFor (openedStore st k tree) bs ≡ namesFor (openedStore st k tree′) cs
+    pub one-each : finally (openedStore st k tree) bs .state .mark ≡ 0
+        → length (namesFor (openedStore st k tree) bs) ≡ length (traceOf (history (openedStore st k tree) bs))
+    pub none-twice : Distinct (namesFor (openedStore st k tree) bs)

@@ -1,0 +1,101 @@
+-- Lists of calls on a store: document 01's "Origin rule" section, first paragraph.
+use Prim.Native.Nat.{ℕ, _^_, _<_}
+use mathlib.Core.Bool.{Bool, false}
+use mathlib.Core.List.{List, [], _∷_, _++_, map}
+use mathlib.Core.Option.{none, some}
+use lib.Dec.{leb}
+use lib.ListN.{take}
+use Rattle.basics.specs.Choice.{pick}
+use Rattle.method.specs.Answer.{Structure, map as the-map, stack as the-stack, Op}
+use Rattle.method.specs.Plain.{Pair}
+use Rattle.round_laws.specs.Whole.{contents}
+use Rattle.basics.specs.Distinct.{All}
+use Rattle.slots.specs.SlotLaws.{Ranged}
+use Rattle.slots.specs.declared.Link.{Link}
+use Rattle.method.specs.Node.{Node}
+use Rattle.leaf_nodes.specs.Convert.{toNode}
+use Rattle.leaf_nodes.specs.Leaf.{leafFormat}
+use Rattle.state.specs.declared.Place.{Place}
+use Rattle.state.specs.declared.State.{State}
+use Rattle.state.specs.Fit.{used}
+use Rattle.state.specs.Ticket.{opIn}
+use Rattle.store.specs.declared.Reply.{Reply}
+use Rattle.store.specs.declared.Reply.the-variants.{Answered, Refused}
+use Rattle.store.specs.Store.{Ended, called}
+
+-- What a call brings: a ticket, a tape and a trace buffer of its own, of any content and length.
+pub record Brought : Type 0 where
+  pub ticket : List ℕ
+  pub tape : List ℕ
+  pub trace : List ℕ
+
+-- A store that somebody holds: its state and its tree.
+pub record Kept : Type 0 where
+  pub state : State
+  pub tree : List ℕ
+
+abbrev pub callOn : Kept → Brought → Ended
+callOn s b = called (s .state) (s .tree) (b .ticket) (b .tape) (b .trace)
+
+abbrev pub leftBy : Ended → Kept
+leftBy e = record { state = e .state; tree = e .tree }
+
+-- Each call gets the state and tree that the last one left: the outcomes in order, and the store at the end.
+unfoldable pub history : Kept → List Brought → List Ended
+history s [] = []
+history s (b ∷ bs) = callOn s b ∷ history (leftBy (callOn s b)) bs
+
+unfoldable pub finally : Kept → List Brought → Kept
+finally s [] = s
+finally s (b ∷ bs) = finally (leftBy (callOn s b)) bs
+
+-- A reply with one of the numbers 1 to 7.
+unfoldable pub early : Reply → Bool
+early (Answered a) = false
+early (Refused n) = leb n 7
+
+-- "The calls that count are those not refused with 1 to 7": what they brought.
+unfoldable pub counted : Kept → List Brought → List Brought
+counted s [] = []
+counted s (b ∷ bs) =
+    pick (early (callOn s b .reply)) (counted (leftBy (callOn s b)) bs) (b ∷ counted (leftBy (callOn s b)) bs)
+
+-- Their replies.
+unfoldable pub replies : List Ended → List Reply
+replies [] = []
+replies (e ∷ es) = pick (early (e .reply)) (replies es) (e .reply ∷ replies es)
+
+-- "The list's trace is the leaves that they revealed, in order": the first of each call's trace buffer.
+unfoldable pub traceOf : List Ended → List ℕ
+traceOf [] = []
+traceOf (e ∷ es) = take (e .leaves) (e .trace) ++ traceOf es
+
+-- The tickets of calls, as a structure reads them.
+unfoldable pub opsIn : (st : Structure) → List Brought → List (Op st)
+opsIn st [] = []
+opsIn st (b ∷ bs) = elim (opIn st (b .ticket)) [ none ↦ opsIn st bs | some op ↦ op ∷ opsIn st bs ]
+
+abbrev pub tapesOf : List Brought → List (List ℕ)
+tapesOf bs = map (λ (b : Brought). b .tape) bs
+
+-- The key and value pairs that waiting nodes and good slots hold.
+abbrev pub pairOf : Node ℕ → Pair
+pairOf n = record { key = n .key; value = n .value }
+
+abbrev pub pairsIn : State → List ℕ → List Pair
+pairsIn s tree =
+    map pairOf (contents leafFormat (s .size) tree ++ map (λ (p : Place). toNode (p .node)) (used s))
+
+-- A state as a machine holds it: each number within its type's width.
+abbrev pub LinkWidths : Link → Type 0
+LinkWidths l = (l .height < 256) × ((l .key < 2 ^ 32) × (l .tag < 2 ^ 16))
+
+pub record Widths (s : State) : Type 0 where
+  pub entries : s .entries < 2 ^ 16
+  pub root : LinkWidths (s .root)
+  pub nodes : All (λ (p : Place). Ranged (p .node)) (used s)
+
+-- The structure's number: 1 map, 2 stack.
+abbrev pub numberOf : Structure → ℕ
+numberOf the-map = 1
+numberOf the-stack = 2

@@ -1,0 +1,15 @@
+pub mod History
+pub mod Demands
+pub mod Checks
+pub mod Marks
+pub mod Refusals
+pub mod OpenStates
+pub mod FitKept
+pub mod Fresh
+pub mod Tickets
+pub mod HistorySteps
+pub mod SoundReplies
+pub mod ListSteps
+pub mod ListRuns
+pub mod OpenedRuns
+pub mod Proved

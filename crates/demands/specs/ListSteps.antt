@@ -1,0 +1,71 @@
+-- One call of a list: from a store that simulates a memory of the method, it is refused with 4 to 7 and changes nothing, or it counts, and
+-- is the call over buckets with the ticket's op and the tape's draws.
+use Prim.Native.Nat.{ℕ, _≤_}
+use mathlib.Core.Path.{_≡_, refl, sym, _∙_, ap}
+use mathlib.Core.Bool.{true, false}
+use mathlib.Core.Option.{some}
+use native.Mathlib.Omega.{arith}
+use Rattle.slots.specs.LittleEndianLaws.{Bytes}
+use Rattle.method.specs.Answer.{Structure, map, stack, Op}
+use Rattle.method.specs.Plain.{Contents}
+use Rattle.method.specs.Rounds.{rounds}
+use Rattle.method.specs.Call.{capacity, Memory}
+use Rattle.theorems.specs.Represented.{Held}
+use Rattle.calls.specs.Fetch.{Left}
+use Rattle.calls.specs.Call.{Store, drawOf, bucketCall}
+use Rattle.simulation.specs.Entries.{OpFits}
+use Rattle.simulation.specs.Relation.{Simulates}
+use Rattle.simulation.specs.Relation as relation
+use Rattle.state.specs.Ticket.{opIn, structureOf}
+use Rattle.store.specs.Store.{ending}
+use Rattle.demands.specs.History.{Brought, callOn, numberOf}
+use Rattle.demands.specs.Checks.{Verdict, closed, unfit, other-tree, ill-brought, counts, verdict}
+use Rattle.demands.specs.OpenStates.{stateOf, keptOf, store-back}
+use Rattle.demands.specs.FitKept.{state-fits}
+use Rattle.demands.specs.HistorySteps.{Refuses, next}
+use Rattle.demands.specs.Tickets.{op-fits}
+
+structure-back : (st : Structure) → structureOf (numberOf st) ≡ st
+structure-back map = refl
+structure-back stack = refl
+
+module _ (st : Structure) (k : ℕ) where
+  -- What the rounds leave, of a store and a call that counts.
+  abbrev pub leaving : Store → Brought → Op st → Left
+  leaving s b op = bucketCall k (rounds st k) op (drawOf k (b .tape)) s
+
+  pub data Step (s : Store) (b : Brought) : Type 0 where
+    refused : (n : ℕ) → 4 ≤ n → n ≤ 7 → Refuses (keptOf st k s) b n → Step s b
+    runs : (op : Op st) → opIn st (b .ticket) ≡ some op → OpFits op
+        → callOn (keptOf st k s) b ≡ ending (stateOf st k s) (b .trace) (leaving s b op) → Step s b
+
+  -- A call whose mark is 0 leaves the open state of the store that it leaves.
+  pub left-open : (s : Store) (b : Brought) (l : Left) → l .mark ≡ 0
+      → next (keptOf st k s) b l ≡ keptOf st k (relation.leftBy l)
+  left-open s b l e =
+      ap (λ (m : ℕ). next (keptOf st k s) b (record {
+        mark = m;
+        entries = l .entries;
+        root = l .root;
+        waiting = l .waiting;
+        tree = l .tree;
+        leaves = l .leaves;
+        answer = l .answer;
+      }))
+      e
+
+  module _ (positive : 1 ≤ k) (small : k ≤ 8) (s : Store) (m : Memory ℕ) (sim : Simulates k s m)
+      (t : Contents st) (held : Held 0 st (capacity k) t m) where
+    pub step : (b : Brought) → Bytes (b .ticket) → Step s b
+    step b bytes = go (verdict st (stateOf st k s) (s .tree) (b .ticket) (b .tape) (b .trace) (structure-back st))
+      where
+        go : Verdict st (stateOf st k s) (s .tree) (b .ticket) (b .tape) (b .trace) (callOn (keptOf st k s) b) → Step s b
+        go (closed h e) = absurd (h refl)
+        go (unfit h e) = let z : true ≡ false = sym (state-fits st k positive small s m sim t held) ∙ h in let y : _≡_ {A = ℕ} 0 1 = cc in absurd (omega arith)
+        go (other-tree h e) = absurd (h (sim .kept .is-tree .sized))
+        go (ill-brought n low high e) = refused n low high e
+        go (counts op h e) =
+            runs op h (op-fits (b .ticket) bytes st op h)
+            (e
+            ∙ ap (λ (x : Store). ending (stateOf st k s) (b .trace) (bucketCall k (rounds st k) op (drawOf k (b .tape)) x))
+            (store-back st k s))

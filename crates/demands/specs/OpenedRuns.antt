@@ -1,0 +1,121 @@
+-- A list of calls from a good opening: it is a run over buckets, its trace is the leaves of the named draws, and its state and tree keep the
+-- nodes of the method's memory.
+use Prim.Native.Nat.{ℕ, _+_, _-_, _*_, _≤_}
+use mathlib.Core.Path.{_≡_, sym, _∙_, ap, subst⁻¹}
+use mathlib.Core.Bool.{true}
+use mathlib.Core.Logic.{inl, inr}
+use mathlib.Core.List.{List, [], _++_, map, append-nil}
+use native.Mathlib.Omega.{arith}
+use lib.ListN.{length, getD, length-map, List·getD-map}
+use Rattle.basics.specs.Distinct.{All}
+use Rattle.slots.specs.Tree.{treeLength}
+use Rattle.slots.specs.LittleEndianLaws.{Bytes}
+use Rattle.method.specs.Answer.{Structure, Op}
+use Rattle.method.specs.Plain.{nothing}
+use Rattle.method.specs.Rounds.{rounds}
+use Rattle.method.specs.Call.{capacity, emptyMemory, Ran}
+use Rattle.method.specs.Origin as origin
+use Rattle.method.specs.Origin.{drawn, names, leafOf, leafRun}
+use Rattle.theorems.specs.Represented.{held-empty}
+use Rattle.theorems.specs.Theorems.{names-counted, held}
+use Rattle.calls.specs.Call.{Store, drawOf}
+use Rattle.simulation.specs.Relation.{emptyStore, Simulates}
+use Rattle.simulation.specs.CallSim.{simulate-start}
+use Rattle.simulation.specs.BucketRun.{BucketRan}
+use Rattle.simulation.specs.ListSim.{tapeRun, leaves-named, RunSimulates, tapes-simulate}
+use Rattle.state.specs.Fit.{fits}
+use Rattle.store.specs.Store.{storeOf}
+use Rattle.demands.specs.History.{Brought, Kept, history, finally, counted, traceOf, opsIn, tapesOf}
+use Rattle.demands.specs.Demands.{openedStore, method, Follows, namesFor, leafAt}
+use Rattle.demands.specs.OpenStates.{keptOf, store-back}
+use Rattle.demands.specs.FitKept.{state-fits}
+use Rattle.demands.specs.Fresh.{opened-empty}
+use Rattle.demands.specs.ListRuns.{Runs, Asking, Drawn, list-runs}
+
+-- ---- from a good opening
+
+not-both : {n : ℕ} → n ≡ 0 → n ≡ 9 → ⊥
+not-both p q = omega arith
+
+-- The draws of call c are those of the tape with number c.
+drawn-tapes : (st : Structure) (k : ℕ) (cs : List Brought) → Drawn st k (λ c d. leafOf k (tapesOf cs) (drawn c d)) 1 cs
+unfolding leafOf
+drawn-tapes st k cs i =
+    let same : (1 + i) - 1 ≡ i = omega arith in
+    ap (λ (n : ℕ). drawOf k (getD (tapesOf cs) n [])) same
+
+module _ (st : Structure) (k : ℕ) (positive : 1 ≤ k) (small : k ≤ 8) (tree : List ℕ) (sized : length tree ≡ treeLength k)
+    (bs : List Brought) (bytes : All (λ b. Bytes (b .ticket)) bs) where
+  abbrev start : Kept
+  start = openedStore st k tree
+
+  abbrev ops : List (Op st)
+  ops = opsIn st (counted start bs)
+
+  abbrev tapes : List (List ℕ)
+  tapes = tapesOf (counted start bs)
+
+  abbrev ran : BucketRan
+  ran = tapeRun k tapes ops
+
+  -- The list is a run over buckets from the empty store.
+  pub opened-runs : Asking st k (counted start bs) × Runs st k ran (history start bs) (finally start bs)
+  opened-runs =
+      subst⁻¹
+      (λ (s : Kept). Asking st k (counted s bs)
+      × Runs st k (tapeRun k (tapesOf (counted s bs)) (opsIn st (counted s bs))) (history s bs) (finally s bs))
+      (opened-empty st k positive small tree sized)
+      (let r = list-runs st k positive small bs bytes (emptyStore k) (emptyMemory 0) (simulate-start k) (nothing st) (held-empty 0 st (capacity k)) in
+      (r .0, r .1 _ 1 (drawn-tapes st k (counted (keptOf st k (emptyStore k)) bs))))
+
+  runs : Runs st k ran (history start bs) (finally start bs)
+  runs = opened-runs .1
+
+  -- The trace is the leaves of the named draws.
+  pub trace-named : finally start bs .state .mark ≡ 0 → traceOf (history start bs) ≡ map (leafOf k tapes) (names (rounds st k) k ops)
+  trace-named m =
+      let n = leaves-named k positive (omega arith) tapes ops (opened-runs .0 .fit) in
+      let none : n .0 ≡ [] = n .2 (sym (runs .mark) ∙ m) in
+      runs .leaves ∙ sym (append-nil (ran .leaves)) ∙ ap (λ (ls : List ℕ). ran .leaves ++ ls) (sym none) ∙ sym (n .1)
+
+  -- ---- the method's definition
+
+  -- Until it closes, the list follows the method.
+  pub follows : finally start bs .state .mark ≡ 0 → Follows st k start bs
+  unfolding leafRun
+  follows m = go (tapes-simulate k positive (omega arith) tapes ops (opened-runs .0 .fit))
+    where
+      open-mark : ran .mark ≡ 0
+      open-mark = sym (runs .mark) ∙ m
+
+      go : RunSimulates k ran (method st k start bs) → Follows st k start bs
+      go (inl x) = absurd (not-both open-mark (x .mark))
+      go (inr x) =
+          let end = runs .store open-mark in
+          record {
+            trace = runs .leaves ∙ x .leaves;
+            kept =
+                subst⁻¹ (λ (s : Store). Simulates k s (method st k start bs .memory))
+                (ap (λ (s : Kept). storeOf (s .state) (s .tree)) end ∙ store-back st k (ran .store)) (x .simulates);
+            fit =
+                subst⁻¹ (λ (s : Kept). fits (s .state) ≡ true) end
+                (state-fits st k positive small (ran .store) (method st k start bs .memory) (x .simulates) _
+                (held 0 k (λ c d. leafOf k tapes (drawn c d)) ops));
+          }
+
+  -- ---- places
+
+  pub trace-count : finally start bs .state .mark ≡ 0 → length (traceOf (history start bs)) ≡ length (namesFor st k start bs)
+  trace-count m = ap (λ (ls : List ℕ). length ls) (trace-named m) ∙ length-map (namesFor st k start bs) (leafOf k tapes)
+
+  -- There are 2F places for each call that counts.
+  pub trace-length : finally start bs .state .mark ≡ 0 → length (traceOf (history start bs)) ≡ length (counted start bs) * (2 * rounds st k)
+  trace-length m =
+      trace-count m ∙ names-counted k ops ∙ ap (λ (n : ℕ). n * (2 * rounds st k)) (opened-runs .0 .each)
+
+  pub leaf-in-trace : finally start bs .state .mark ≡ 0 → (place : ℕ)
+      → leafAt st k start bs place ≡ getD (traceOf (history start bs)) place 0
+  unfolding leafOf
+  leaf-in-trace m place =
+      sym (List·getD-map (leafOf k tapes) (namesFor st k start bs) place origin.none)
+      ∙ ap (λ (ls : List ℕ). getD ls place 0) (sym (trace-named m))

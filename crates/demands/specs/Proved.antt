@@ -1,0 +1,81 @@
+-- Demands 2 and 3, proved of all lists of calls whose tickets are bytes. (Demand 1's parts are `Refusals`.)
+use Prim.Native.Nat.{ℕ, suc, _*_, _≤_, _<_}
+use mathlib.Core.Path.{_≡_, refl, sym, _∙_, ap, subst}
+use mathlib.Core.List.{List, [], _∷_, map, map-map}
+use mathlib.Core.Option.{some}
+use native.Mathlib.Omega.{arith}
+use lib.ListN.{length, getD}
+use Rattle.basics.specs.Distinct.{All}
+use Rattle.slots.specs.Tree.{treeLength}
+use Rattle.slots.specs.LittleEndianLaws.{Bytes}
+use Rattle.method.specs.Answer.{Structure}
+use Rattle.method.specs.Plain.{plainAnswers, nothing}
+use Rattle.method.specs.Rounds.{rounds}
+use Rattle.method.specs.Call.{capacity}
+use Rattle.theorems.specs.Theorems.{named-once, tickets-only}
+use Rattle.simulation.specs.ListSim.{never-damaged, answers-plain}
+use Rattle.store.specs.Store.{replied}
+use Rattle.demands.specs.History.{Brought, Kept, history, finally, counted, traceOf, opsIn, tapesOf}
+use Rattle.demands.specs.Demands.{openedStore, Demand2, Demand3, leafAt}
+use Rattle.demands.specs.SoundReplies.{sound-at}
+use Rattle.demands.specs.OpenedRuns.{opened-runs, follows, trace-count, trace-length, leaf-in-trace}
+
+module _ (st : Structure) (k : ℕ) (positive : 1 ≤ k) (small : k ≤ 8) (tree : List ℕ) (sized : length tree ≡ treeLength k)
+    (bs : List Brought) (bytes : All (λ b. Bytes (b .ticket)) bs) where
+  pub demand2 : Demand2 st k tree bs
+  unfolding replied
+  demand2 =
+      let start = openedStore st k tree in
+      let ops = opsIn st (counted start bs) in
+      let tapes = tapesOf (counted start bs) in
+      let asking = opened-runs st k positive small tree sized bs bytes .0 in
+      let runs = opened-runs st k positive small tree sized bs bytes .1 in
+      record {
+        answers = λ m.
+            runs .answers
+            ∙ ap (map (replied 9)) (answers-plain k positive (omega arith) tapes ops (asking .fit) (sym (runs .mark) ∙ m))
+            ∙ map-map (replied 9) some (plainAnswers (capacity k) ops (nothing st));
+        follows = follows st k positive small tree sized bs bytes;
+        marks = rw (runs .mark) (never-damaged k positive (omega arith) tapes ops (asking .fit));
+        never = λ i before n e. sound-at (history start bs) (runs .sound) i n e;
+      }
+
+same-lists : {A : Type 0} (d : A) (xs ys : List A) → length xs ≡ length ys → ((i : ℕ) → i < length xs → getD xs i d ≡ getD ys i d) → xs ≡ ys
+same-lists d [] [] e h = refl
+same-lists d [] (y ∷ ys) e h = let z : ⊥ = omega arith in absurd z
+same-lists d (x ∷ xs) [] e h = let z : ⊥ = omega arith in absurd z
+same-lists {A} d (x ∷ xs) (y ∷ ys) e h =
+    let first : x ≡ y = h 0 (omega arith) in
+    let others : xs ≡ ys = same-lists d xs ys (omega arith) (λ i b. h (suc i) (omega arith)) in
+    cc
+
+module _ (st : Structure) (k : ℕ) (positive : 1 ≤ k) (small : k ≤ 8) (tree tree′ : List ℕ)
+    (sized : length tree ≡ treeLength k) (sized′ : length tree′ ≡ treeLength k)
+    (bs cs : List Brought) (bytes : All (λ b. Bytes (b .ticket)) bs) (bytes′ : All (λ b. Bytes (b .ticket)) cs) where
+  pub demand3 : Demand3 st k tree tree′ bs cs
+  demand3 =
+      record {
+        traces = λ m m′ count. (
+          λ same place before. leaf m place ∙ ap (λ (ls : List ℕ). getD ls place 0) same ∙ sym (leaf′ m′ place),
+          λ leaves. same-lists 0 (traceOf (history start₁ bs)) (traceOf (history start₂ cs))
+              (trace-length st k positive small tree sized bs bytes m ∙ ap (λ (n : ℕ). n * (2 * rounds st k)) count
+              ∙ sym (trace-length st k positive small tree′ sized′ cs bytes′ m′))
+              (λ place before. sym (leaf m place)
+              ∙ leaves place (subst (λ (n : ℕ). place < n) (trace-length st k positive small tree sized bs bytes m) before) ∙ leaf′ m′ place),
+        );
+        by-tickets = λ same. tickets-only k (opsIn st (counted start₁ bs)) (opsIn st (counted start₂ cs)) same;
+        one-each = λ m. sym (trace-count st k positive small tree sized bs bytes m);
+        none-twice = named-once k (opsIn st (counted start₁ bs));
+      }
+    where
+      start₁ : Kept
+      start₁ = openedStore st k tree
+
+      start₂ : Kept
+      start₂ = openedStore st k tree′
+
+      leaf : finally start₁ bs .state .mark ≡ 0 → (place : ℕ) → leafAt st k start₁ bs place ≡ getD (traceOf (history start₁ bs)) place 0
+      leaf = leaf-in-trace st k positive small tree sized bs bytes
+
+      leaf′ : finally start₂ cs .state .mark ≡ 0 → (place : ℕ) → leafAt st k start₂ cs place ≡ getD (traceOf (history start₂ cs)) place 0
+      leaf′ = leaf-in-trace st k positive small tree′ sized′ cs bytes′

@@ -1,0 +1,1 @@
+// The three demands, as theorems about opening and calls; no code.

@@ -1,0 +1,24 @@
+use native.Mathlib.Omega.{arith}
+use borrow.Author.Needs.{needs}
+use Rattle.steps.proofs.fetched.moved_root.Statement.{statement}
+use Rattle.steps.proofs.fetched.moved_root.Tie as tie
+use Rattle.steps.proofs.fetched.moved_root.Reads as reads
+use Rattle.steps.proofs.fetched.moved_root.Lts as lts
+
+-- src/fetched.rt:104:9
+enum-told : tie.Need-enum-told
+enum-told c = search needs
+
+enum-told-2 : tie.Need-enum-told-2
+enum-told-2 c = search needs
+
+-- src/fetched.rt:99:1
+returns : tie.Need-returns
+returns c = rw (c .enum-told .given .1)
+
+-- src/fetched.rt:99:1
+returns-2 : tie.Need-returns-2
+returns-2 c = rw (c .enum-told2 .given .1)
+
+pub moved-root-spec : {M : Type 1} → statement M
+moved-root-spec = tie.close (tie.spec enum-told enum-told-2 returns returns-2)

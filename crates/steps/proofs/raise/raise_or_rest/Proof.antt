@@ -1,0 +1,33 @@
+use Rattle.steps.specs.Method.{toStep, toSub}
+use Rattle.steps.specs.RaiseLaws.{raises-rest}
+use native.Mathlib.Omega.{arith}
+use borrow.Author.Needs.{needs}
+use Rattle.steps.proofs.raise.raise_or_rest.Statement.{statement}
+use Rattle.steps.proofs.raise.raise_or_rest.Tie as tie
+use Rattle.steps.proofs.raise.raise_or_rest.Reads as reads
+use Rattle.steps.proofs.raise.raise_or_rest.Lts as lts
+use Rattle.steps.proofs.raise.raise.Reads as raise-reads
+use Rattle.steps.proofs.raise.rest.Reads as rest-reads
+
+-- src/raise.rt:215:9
+raise-requires : tie.Need-raise-requires
+raise-requires c κs = search needs
+
+-- src/raise.rt:215:9
+returns : tie.Need-returns
+returns c = rw (c .before .if1 .taken) (c .raise .ensures)
+
+-- src/raise.rt:217:5
+rest-requires : tie.Need-rest-requires
+rest-requires c κs = search needs
+
+-- src/raise.rt:210:1
+returns-2 : tie.Need-returns-2
+returns-2 c =
+    let a = c .before .before .args in
+    let r = c .rest .ensures in
+    rw (c .before .if1 .left)
+    (raises-rest (toStep (a .p)) (toSub (a .b)) (a .held) (a .next) (r .0) (r .1 .0) (r .1 .1) (c .before .before .pre .0 .within))
+
+pub raise-or-rest-spec : {M : Type 1} → statement M
+raise-or-rest-spec = tie.close (tie.spec raise-requires returns rest-requires returns-2)

@@ -1,0 +1,17 @@
+use borrow.Author.Needs.{needs}
+use native.Mathlib.Omega.{arith}
+use Rattle.steps.proofs.wants.beside.Statement.{statement}
+use Rattle.steps.proofs.wants.beside.Tie as tie
+use Rattle.steps.proofs.wants.beside.Reads as reads
+use Rattle.steps.proofs.wants.beside.Lts as lts
+
+-- src/wants.rt:47:9
+returns : tie.Need-returns
+returns c = rw (c .if1 .taken)
+
+-- src/wants.rt:41:1
+returns-2 : tie.Need-returns-2
+returns-2 c = rw (c .if1 .left)
+
+pub beside-spec : {M : Type 1} → statement M
+beside-spec = tie.close (tie.spec returns returns-2)

@@ -1,0 +1,46 @@
+-- The held nodes one by one: the next of those not taken, and that none is left.
+use Prim.Native.Nat.{ℕ, zero, suc, min, _≤_, _<_}
+use native.Mathlib.Omega.{arith}
+use mathlib.Core.Path.{_≡_, _∙_, ap, subst}
+use mathlib.Core.List.{List, [], _∷_, map}
+use lib.ListN.{length, getD, take, drop, length-take, length-map, drop-of-length-le, List·getD-map}
+use lib.Seq.{drop-cons, getD-take}
+use Rattle.method.specs.Node.{Node}
+use Rattle.steps.specs.declared.Held.{Held}
+use Rattle.steps.specs.Method.{toNode, blank, nodesOf}
+use Rattle.steps.specs.Heights.{Low, Lows}
+
+module _ {T : Type 0} (most : ℕ) where
+  pub lows-drop : (i : ℕ) (ns : List (Node T)) → Lows most ns → Lows most (drop i ns)
+  lows-drop zero ns h = h
+  lows-drop (suc i) [] h = tt
+  lows-drop (suc i) (n ∷ ns) h = lows-drop i ns (h .1)
+
+-- The first n of an array's elements, each as something else: how many there are, and the next.
+module _ {A B : Type 0} (f : A → B) (xs : List A) (n : ℕ) (enough : n ≤ length xs) where
+  pub first-length : length (map f (take n xs)) ≡ n
+  first-length = simp (length-map, length-take) (omega arith)
+
+  pub first-next : (i : ℕ) (d : A) → i < n → drop i (map f (take n xs)) ≡ f (getD xs i d) ∷ drop (suc i) (map f (take n xs))
+  first-next i d k =
+      let e = first-length in
+      drop-cons (map f (take n xs)) i (f d) (omega arith)
+      ∙ ap (λ (y : B). y ∷ drop (suc i) (map f (take n xs))) (List·getD-map f (take n xs) i d ∙ ap f (getD-take n xs i d k))
+
+module _ (h : Held) where
+  -- The node at a place.
+  abbrev pub heldAt : ℕ → Node ℕ
+  heldAt i = toNode (getD (h .nodes) i blank)
+
+  pub held-length : h .count ≤ length (h .nodes) → length (nodesOf h) ≡ h .count
+  held-length = first-length toNode (h .nodes) (h .count)
+
+  module _ (i : ℕ) where
+    pub held-next : i < h .count → h .count ≤ length (h .nodes) → drop i (nodesOf h) ≡ heldAt i ∷ drop (suc i) (nodesOf h)
+    held-next k l = first-next toNode (h .nodes) (h .count) l i blank k
+
+    pub held-none : h .count ≤ i → h .count ≤ length (h .nodes) → drop i (nodesOf h) ≡ []
+    held-none k l = let e = held-length l in drop-of-length-le (nodesOf h) {i = i} (omega arith)
+
+    pub held-low : (most : ℕ) → Lows most (nodesOf h) → i < h .count → h .count ≤ length (h .nodes) → Low most (heldAt i)
+    held-low most low k l = subst (Lows most) (held-next k l) (lows-drop most i (nodesOf h) low) .0

@@ -1,0 +1,53 @@
+-- What an operation wants next, and its outcome, as the code says them.
+use Prim.Native.Nat.{ℕ, _+_, _≤_}
+use mathlib.Core.Path.{_≡_}
+use mathlib.Core.Option.{Option, none, some}
+use lib.ListN.{length, drop}
+use Rattle.method.specs.Node.{Link}
+use Rattle.method.specs.Prog.{Want}
+use Rattle.method.specs.Answer as method
+use Rattle.method.specs.Map.{Outcome}
+use Rattle.slots.specs.declared.Link as link
+use Rattle.steps.specs.declared.Held.{Held}
+use Rattle.steps.specs.declared.Bottom.{Bottom}
+use Rattle.steps.specs.declared.climb.Climbed.{Climbed}
+use Rattle.steps.specs.Method.{toSub, toAnswer, nothing, nodesOf}
+use Rattle.steps.specs.Heights.{LowSub, Lows}
+use Rattle.steps.specs.LevelLaws.{weight}
+use Rattle.steps.specs.Resume.{Resumed, missing, finished, resume, follow}
+use Rattle.steps.specs.Raise.{resumedAs}
+use Rattle.steps.specs.Climb.{climbedOf}
+use Rattle.steps.specs.Bottom.{unlessMissing, upFrom}
+use Rattle.method.specs.Map as map
+
+-- What the operations ask of their callers: the held nodes fit, and no height is so large that a byte would not hold what
+-- rotations make of it.
+pub record LowHeld (root : link.Link) (h : Held) : Type 0 where
+  pub few : h .count ≤ 33
+  pub low : Lows 100 (nodesOf h)
+  pub root-low : root .height ≤ 100
+
+-- The node that is missing, if one is.
+abbrev pub wantedOf : {A : Type 0} → Resumed ℕ A → Option (Want ℕ)
+wantedOf (missing w) = some w
+wantedOf (finished a ns) = none
+
+-- The result, or nothing.
+abbrev pub outcomeOf : Link ℕ → ℕ → Resumed ℕ (Outcome ℕ) → Outcome ℕ
+outcomeOf root entries (missing w) = nothing root entries method.absent
+outcomeOf root entries (finished o ns) = o
+
+-- What comes of the way up from the bottom.
+abbrev pub fromBottom : ℕ → link.Link → Held → Bottom → Resumed ℕ (Outcome ℕ)
+fromBottom key root h b = unlessMissing (b .wanted) (resume (upFrom key root h b) (drop (b .at) (nodesOf h)))
+
+pub record RoomToFinish (c : Climbed) : Type 0 where
+  pub places : length (c .nodes) ≡ 34
+  pub room : c .count + weight (toSub (c .sub)) ≤ 34
+  pub low : LowSub 250 (toSub (c .sub))
+
+pub record Rises (key : ℕ) (root : link.Link) (h : Held) (b : Bottom) (r : Climbed) : Type 0 where
+  pub resumes : resume (upFrom key root h b) (drop (b .at) (nodesOf h))
+      ≡ follow (resumedAs (r .wanted) (climbedOf r) (drop (r .next) (nodesOf h)))
+      (λ x ns. finished (map.finish (b .entries) (toAnswer (b .answer)) x) ns)
+  pub room : RoomToFinish r

@@ -1,0 +1,263 @@
+// The walk of each of the map's operations down to where its change stands.
+use super::Answer;
+use super::Bottom;
+use super::Held;
+use super::Kid;
+use super::Sub;
+use super::Want;
+use super::Wanted;
+use super::walk::End;
+use super::walk::Lowest;
+use super::walk::descend;
+use super::walk::next_larger;
+use slots::Link;
+use slots::Node;
+ghost use mathlib.Core.Path.{_≡_};
+ghost use Prim.Native.Nat.{_<_, pred};
+ghost use Rattle.method.specs.Node.{absent};
+ghost use Rattle.method.specs.Map.{getProg, putProg, removeProg};
+ghost use Rattle.steps.specs.Method.{toLink, toNode};
+ghost use Rattle.steps.specs.Walk.{Walks};
+ghost use Rattle.steps.specs.Raise.{HeldFrom};
+ghost use Rattle.steps.specs.Bottom.{StartsUp, unfinishedAt, bottomAt, pastFound};
+
+// The node that is missing.
+fn unfinished(want: Want) -> Bottom
+    ensures { λ r. ⌜ r ≡ unfinishedAt want ⌝ }
+{
+    let link = want.link;
+    Bottom {
+        wanted: Wanted::Fetch(want),
+        rotating: false,
+        sub: Sub::Stub(link),
+        found: 0,
+        length: 0,
+        at: 0,
+        entries: 0,
+        answer: Answer::Absent,
+    }
+}
+
+// A subtree at the end of a path of that length.
+fn bottom_at(
+    rotating: bool,
+    sub: Sub,
+    length: usize,
+    at: usize,
+    entries: u16,
+    answer: Answer,
+) -> Bottom
+    ensures { λ r. ⌜ r ≡ bottomAt rotating sub length at entries answer ⌝ }
+{
+    Bottom {
+        wanted: Wanted::Done,
+        rotating,
+        sub,
+        found: length,
+        length,
+        at,
+        entries,
+        answer,
+    }
+}
+
+// The place of the next larger key's node: its right link takes that, and its entry goes to the node `found`.
+fn past_found(y: Lowest, found: usize, entries: u16, value: u64, held: Held) -> Bottom
+    requires { ⌜ HeldFrom 100 held 0 × (y .wanted ≡ Wanted.Done → y .last < held .count) ⌝ }
+    ensures { λ r. ⌜ r ≡ pastFound (y .wanted) (y .last) found entries value held ⌝ }
+{
+    let wanted = y.wanted;
+    match wanted {
+        Wanted::Fetch(w) => unfinished(w),
+        Wanted::Done => {
+            let last = y.last;
+            let m = held.nodes[last];
+            let right = m.right;
+            Bottom {
+                wanted: Wanted::Done,
+                rotating: true,
+                sub: Sub::Stub(right),
+                found,
+                length: last,
+                at: last + 1,
+                entries,
+                answer: Answer::Removed(value),
+            }
+        }
+    }
+}
+
+// A get changes nothing but tags.
+pub fn get(key: u32, entries: u16, root: Link, held: Held) -> Bottom
+    requires { ⌜ Walks root held ⌝ }
+    ensures { λ r. ⌜ StartsUp key root held (getProg key entries (toLink root)) r ⌝ }
+{
+    let d = descend(key, root, held);
+    let want = d.want;
+    let depth = d.depth;
+    let end = d.end;
+    match end {
+        End::Missing => unfinished(want),
+        End::Gap => {
+            let link = want.link;
+            bottom_at(
+                false,
+                Sub::Stub(link),
+                depth,
+                depth,
+                entries,
+                Answer::Absent,
+            )
+        }
+        End::Hit => {
+            let n = held.nodes[depth];
+            bottom_at(
+                false,
+                Sub::Top(n, Kid::Away, Kid::Away),
+                depth,
+                depth + 1,
+                entries,
+                Answer::Found(n.value),
+            )
+        }
+    }
+}
+
+fn leaf(key: u32, value: u64, tag: u16) -> Node
+    ensures { λ r. ⌜ toNode r ≡ record { key = key; value = value; tag = tag; left = absent 0; right = absent 0 } ⌝ }
+{
+    let none = Link {
+        height: 0,
+        key: 0,
+        tag: 0,
+    };
+    Node {
+        key,
+        value,
+        tag,
+        left: none,
+        right: none,
+    }
+}
+
+// A put replaces the value of a present key, or adds a node with the new tag. The full rule comes first.
+pub fn put(
+    key: u32,
+    value: u64,
+    tag: u16,
+    limit: u16,
+    entries: u16,
+    root: Link,
+    held: Held,
+) -> Bottom
+    requires { ⌜ Walks root held ⌝ }
+    ensures { λ r. ⌜ StartsUp key root held (putProg 0 key value tag entries limit (toLink root)) r ⌝ }
+{
+    let d = descend(key, root, held);
+    let want = d.want;
+    let depth = d.depth;
+    let end = d.end;
+    match end {
+        End::Missing => unfinished(want),
+        End::Gap => {
+            if entries < limit {
+                let n = leaf(key, value, tag);
+                return bottom_at(
+                    true,
+                    Sub::Top(n, Kid::Away, Kid::Away),
+                    depth,
+                    depth,
+                    entries + 1,
+                    Answer::New,
+                );
+            }
+            let link = want.link;
+            bottom_at(false, Sub::Stub(link), depth, depth, entries, Answer::Full)
+        }
+        End::Hit => {
+            let n = held.nodes[depth];
+            if entries < limit {
+                let mut m = n;
+                m.value = value;
+                return bottom_at(
+                    false,
+                    Sub::Top(m, Kid::Away, Kid::Away),
+                    depth,
+                    depth + 1,
+                    entries,
+                    Answer::Replaced(n.value),
+                );
+            }
+            bottom_at(
+                false,
+                Sub::Top(n, Kid::Away, Kid::Away),
+                depth,
+                depth + 1,
+                entries,
+                Answer::Full,
+            )
+        }
+    }
+}
+
+pub fn one_less(entries: u16) -> u16
+    ensures { λ r. ⌜ r ≡ pred entries ⌝ }
+{
+    if entries == 0 {
+        return 0;
+    }
+    entries - 1
+}
+
+// A remove takes the node with the key out of the tree. One with two children leaves its place to the next larger key's node.
+pub fn remove(key: u32, entries: u16, root: Link, held: Held) -> Bottom
+    requires { ⌜ Walks root held ⌝ }
+    ensures { λ r. ⌜ StartsUp key root held (removeProg key entries (toLink root)) r ⌝ }
+{
+    let d = descend(key, root, held);
+    let want = d.want;
+    let depth = d.depth;
+    let end = d.end;
+    match end {
+        End::Missing => unfinished(want),
+        End::Gap => {
+            let link = want.link;
+            bottom_at(
+                false,
+                Sub::Stub(link),
+                depth,
+                depth,
+                entries,
+                Answer::Absent,
+            )
+        }
+        End::Hit => {
+            let n = held.nodes[depth];
+            let left = n.left;
+            let right = n.right;
+            let fewer = one_less(entries);
+            if left.height == 0 {
+                return bottom_at(
+                    true,
+                    Sub::Stub(right),
+                    depth,
+                    depth + 1,
+                    fewer,
+                    Answer::Removed(n.value),
+                );
+            }
+            if right.height == 0 {
+                return bottom_at(
+                    true,
+                    Sub::Stub(left),
+                    depth,
+                    depth + 1,
+                    fewer,
+                    Answer::Removed(n.value),
+                );
+            }
+            let y = next_larger(want, depth, held);
+            past_found(y, depth, fewer, n.value, held)
+        }
+    }
+}

@@ -1,0 +1,35 @@
+-- What a ticket asks of a structure, as the code says it.
+use Prim.Native.Nat.{ℕ}
+use lib.Dec.{eqb}
+use Rattle.basics.specs.Choice.{pick}
+use mathlib.Core.List.{List}
+use mathlib.Core.Option.{Option, none, some}
+use Rattle.method.specs.Answer as method
+use Rattle.method.specs.Answer.{Structure, get, put, remove, push, pop}
+use Rattle.steps.specs.declared.Op.{Op}
+use Rattle.steps.specs.declared.Op.the-variants.{Get, Put, Remove, Push, Pop}
+use Rattle.state.specs.Ticket.{opIn, structureOf}
+use Rattle.tickets.specs.declared.Asked.{Asked}
+use Rattle.tickets.specs.declared.Asked.the-variants.{Call, Unknown}
+
+unfoldable pub fromOp : {s : Structure} → method.Op s → Op
+fromOp (get k) = Get k
+fromOp (put k v) = Put k v
+fromOp (remove k) = Remove k
+fromOp (push v) = Push v
+fromOp pop = Pop
+
+unfoldable pub fromAsked : {s : Structure} → Option (method.Op s) → Asked
+fromAsked none = Unknown
+fromAsked (some op) = Call (fromOp op)
+
+-- The structure is one of the two, by its number.
+abbrev pub asked : ℕ → List ℕ → Asked
+asked structure ticket = fromAsked (opIn (structureOf structure) ticket)
+
+-- An operation of a map by its kind, 1 to 3, and of a stack, 4 or 5.
+unfoldable pub mapOp : (kind key value : ℕ) → Op
+mapOp kind key value = pick (eqb kind 1) (Get key) (pick (eqb kind 2) (Put key value) (Remove key))
+
+unfoldable pub stackOp : (kind value : ℕ) → Op
+stackOp kind value = pick (eqb kind 4) (Push value) Pop

@@ -1,0 +1,84 @@
+// What a ticket asks of a structure.
+use steps::Op;
+ghost use mathlib.Core.Path.{_≡_};
+ghost use Prim.Native.Nat.{_+_, _≤_, _^_, _<_};
+ghost use lib.ListN.{length, take, drop, getD};
+ghost use Rattle.slots.specs.LittleEndian.{value};
+ghost use Rattle.tickets.specs.Asked.{asked, mapOp, stackOp};
+
+// A ticket's length in bytes: kind, key (4), value (8).
+pub const TICKET_LENGTH: usize = 13;
+
+// What a ticket asks, or that its kind is not one of the structure's.
+pub enum Asked {
+    Call(Op),
+    Unknown,
+}
+
+fn wide(x: u8) -> u64
+    ensures { λ r. ⌜ (r ≡ x) × (r < 256) ⌝ }
+{
+    x as u64
+}
+
+// The little-endian number of that width at a byte, from its last byte on.
+fn number(s: &[u8], at: usize, width: usize) -> u64
+    requires { ⌜ (at + width ≤ length (now s)) × (width ≤ 8) ⌝ }
+    ensures { λ r. ⌜ (r ≡ value (take width (drop at (now (s .entry))))) × (r < 256 ^ width) ⌝ }
+{
+    let mut v: u64 = 0;
+    let mut i = width;
+    while 0 < i {
+        i -= 1;
+        v = v * 256 + wide(s[at + i]);
+    }
+    v
+}
+
+// Kinds 1 get, 2 put, 3 remove of a map.
+fn map_op(kind: u8, key: u32, value: u64) -> Op
+    ensures { λ r. ⌜ r ≡ mapOp kind key value ⌝ }
+{
+    if kind == 1 {
+        return Op::Get(key);
+    }
+    if kind == 2 {
+        return Op::Put(key, value);
+    }
+    Op::Remove(key)
+}
+
+// Kinds 4 push, 5 pop of a stack.
+fn stack_op(kind: u8, value: u64) -> Op
+    ensures { λ r. ⌜ r ≡ stackOp kind value ⌝ }
+{
+    if kind == 4 {
+        return Op::Push(value);
+    }
+    Op::Pop
+}
+
+// What a ticket of 13 bytes asks of a map (1) or a stack (2).
+pub fn read_ticket(structure: u8, ticket: &[u8]) -> Asked
+    requires { ⌜ length (now ticket) ≡ 13 ⌝ }
+    ensures { λ r. ⌜ r ≡ asked structure (now (ticket .entry)) ⌝ }
+{
+    let kind = ticket[0];
+    let key = number(ticket, 1, 4) as u32;
+    let value = number(ticket, 5, 8);
+    match kind {
+        1..=3 => {
+            if structure == 1 {
+                return Asked::Call(map_op(kind, key, value));
+            }
+            Asked::Unknown
+        }
+        4..=5 => {
+            if structure == 1 {
+                return Asked::Unknown;
+            }
+            Asked::Call(stack_op(kind, value))
+        }
+        _ => Asked::Unknown,
+    }
+}

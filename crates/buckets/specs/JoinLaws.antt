@@ -1,10 +1,10 @@
 -- Readings that join one by one, with the test for a key that is there already at each, are the paper's joining with one test
 -- over all keys; and the joined list ascends.
-use mathlib.Core.Path.{_≡_, refl, sym, _∙_, ap}
+use mathlib.Core.Path.{_≡_, refl, sym, _∙_}
 use mathlib.Core.Bool.{Bool, true, false, not, _&&_, _||_, or-assoc, or-comm, or-true}
 use mathlib.Core.List.{List, [], _∷_, _++_, List·Memᴰ·head, List·Memᴰ·tail}
 use mathlib.Core.Option.{Option, none, some}
-use Prim.Native.Nat.{ℕ, suc, _+_, _≤_, _<_}
+use Prim.Native.Nat.{ℕ, _+_, _≤_, _<_}
 use native.Mathlib.Numerals.{add-one}
 use native.Mathlib.Omega.{arith}
 use lib.Dec.{ltb, eqb}
@@ -82,15 +82,6 @@ module _ {E : Type 0} (F : Format E) where
       go : Perm (keysOf F (insert F e es)) (F .key e ∷ keysOf F es) → (t : Bool) → Perm (keysOf F (pick t (e ∷ d ∷ es) (d ∷ insert F e es))) (F .key e ∷ F .key d ∷ keysOf F es)
       go p true = perm-refl (F .key e ∷ F .key d ∷ keysOf F es)
       go p false = trans (cons (F .key d) p) (swap (F .key d) (F .key e) (keysOf F es))
-
-  pub insert-length : (e : E) (es : List E) → length (insert F e es) ≡ suc (length es)
-  unfolding insert
-  insert-length e [] = refl
-  insert-length e (d ∷ es) = go (insert-length e es) (ltb (F .key e) (F .key d))
-    where
-      go : length (insert F e es) ≡ suc (length es) → (t : Bool) → length (pick t (e ∷ d ∷ es) (d ∷ insert F e es)) ≡ suc (suc (length es))
-      go h true = refl
-      go h false = ap suc h
 
   pub insert-all : {P : E → Type 0} (e : E) (es : List E) → P e → All P es → All P (insert F e es)
   unfolding insert

@@ -1,7 +1,7 @@
 -- What a round needs of the waiting elements, it leaves: their keys ascend, and none is twice or held. So the next round's needs
 -- follow from this round's result, whatever the tree holds.
 use mathlib.Core.Path.{_≡_, refl, sym, _∙_, ap, subst}
-use mathlib.Core.Bool.{Bool, true, false, _||_}
+use mathlib.Core.Bool.{not, and-false, Bool, true, false, _||_}
 use mathlib.Core.List.{List, [], _∷_, _++_, map, append-assoc}
 use mathlib.Core.Option.{Option, none, some}
 use Prim.Native.Nat.{ℕ, suc, _<_}
@@ -16,7 +16,7 @@ use Rattle.basics.specs.Perm.{Perm, trans}
 use Rattle.basics.specs.PermLaws.{perm-of-eq, perm-append-right, perm-append-swap, perm-front}
 use Rattle.slots.specs.Tree.{among, path}
 use Rattle.rounds.specs.Format.{Format, Read, full, empty, bad}
-use Rattle.rounds.specs.Round.{Hand, Wish, keysOf, noneTwice, readBuckets, granted, grantedFrom, readHalf, insert, choose, evict, writeHalf, withBucket}
+use Rattle.rounds.specs.Round.{Hand, Wish, keysOf, noneTwice, allGood, joined, readBuckets, granted, grantedFrom, readHalf, insert, choose, evict, writeHalf, withBucket}
 use Rattle.slots.specs.Slot.{bucketBytes}
 use Rattle.buckets.specs.Stash.{ascending, without, position, joinReadings}
 use Rattle.buckets.specs.StashLaws.{ascending-holds, ascending-test}
@@ -128,6 +128,21 @@ module _ {E : Type 0} (F : Format E) where
         (trans (perm-of-eq (append-assoc (takenKeys (h .taken)) (keysOf F (h .waiting)) held))
         (perm-append-swap (takenKeys (h .taken)) (keysOf F (h .waiting)) held))))
         ∙ a
+
+  -- Where a key is twice among waiting and held before the round, that is damage, whatever the path holds.
+  twice-right : (xs ys : List ℕ) → noneTwice ys ≡ false → noneTwice (xs ++ ys) ≡ false
+  unfolding noneTwice
+  twice-right [] ys h = h
+  twice-right (x ∷ xs) ys h = rw (twice-right xs ys h) (and-false (not (among x (xs ++ ys))))
+
+  pub read-twice : (k : ℕ) (tree : List ℕ) (t : ℕ) (w : Option Wish) (held : List ℕ) (ws : List E)
+      → noneTwice (keysOf F ws ++ held) ≡ false → readHalf F k tree t w held ws ≡ none
+  unfolding readHalf joined grantedFrom
+  read-twice k tree t w held ws h = go (allGood (readBuckets F k tree (path k t))) refl
+    where
+      go : (o : Option (List E)) → allGood (readBuckets F k tree (path k t)) ≡ o → grantedFrom F w (joined F held ws o) ≡ none
+      go none q = refl
+      go (some es) q = rw (twice-right (keysOf F es) (keysOf F ws ++ held) h)
 
   -- ---- the write half
   evict-part : (k : ℕ) (bs : List ℕ) (ws : List E) (tree : List ℕ) → Part (evict F k bs ws tree .waiting) ws

@@ -35,15 +35,6 @@ module _ {E : Type 0} (F : Format E) where
   granted-nothing ws = refl
 
   -- ---- the wanted one
-  pub position-within : (key : ℕ) (es : List E) → position F key es ≤ length es
-  unfolding position
-  position-within key [] = omega arith
-  position-within key (e ∷ es) = go (position-within key es) (eqb key (F .key e))
-    where
-      go : position F key es ≤ length es → (t : Bool) → pick t 0 (suc (position F key es)) ≤ suc (length es)
-      go h true = omega arith
-      go h false = omega arith
-
   take-first-none : (key : ℕ) (es : List E) → length es ≤ position F key es → takeFirst F key es .taken ≡ none
   unfolding position takeFirst
   take-first-none key [] h = refl

@@ -12,7 +12,7 @@ use lib.Pow.{pow-mono}
 use lib.Seq.{drop-cons}
 use lib.Dec.{eqb}
 use Rattle.slots.specs.Tree.{among, passes, leafBucket, halvings, halved, pathBucket, path, bucketStart, bucketLength, treeLength}
-use Rattle.slots.specs.TreeLaws.{halved-last, halved-le, halvings-length, halvings-at, among-less, among-last, among-above}
+use Rattle.slots.specs.TreeLaws.{halved-le, halvings-length, halvings-at, among-less, among-last, among-above}
 use Rattle.buckets.specs.Level.{AtLevel}
 
 -- What is left of a path from a level on.
@@ -23,9 +23,6 @@ path-level k t i h =
 
 pub path-end : (k t : ℕ) → drop (k + 1) (path k t) ≡ []
 path-end k t = let n = halvings-length k (leafBucket k t) in drop-of-length-le (path k t) {i = k + 1} (omega arith)
-
-pub path-up : (k t i : ℕ) → pathBucket k t (i + 1) ≡ pathBucket k t i / 2
-path-up k t i = rw (add-one i) (halved-last i (leafBucket k t))
 
 -- ---- the numbers are in the tree
 halved-positive : (i b : ℕ) → 2 ^ i ≤ b → 1 ≤ halved i b

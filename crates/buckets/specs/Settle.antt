@@ -42,3 +42,4 @@ pub record Settled (k leaf m : ℕ) (want : Bool) (at : ℕ) (joint tree joint�
   pub waiting-sized : length waiting′ ≡ wordCount
   pub fewer : r ≤ m
   pub half : writeHalf wordsFormat k leaf (removed want at (take m (slotsOf joint))) tree ≡ record { waiting = take r (slotsOf waiting′); tree = tree′ }
+  pub counted : r ≡ length (writeHalf wordsFormat k leaf (removed want at (take m (slotsOf joint))) tree .waiting)

@@ -12,9 +12,10 @@ use Rattle.basics.specs.DistinctLaws.{all-getD}
 use Rattle.slots.specs.Tree.{passes, path, pathBucket, bucketStart, bucketLength}
 use Rattle.slots.specs.Slot.{slotBytes, bucketBytes}
 use Rattle.slots.specs.declared.Slot.{Slot}
-use Rattle.rounds.specs.Round.{Chosen, withBucket, choose, evict, writeHalf}
+use Rattle.rounds.specs.Round.{Chosen, Written, withBucket, choose, evict, writeHalf}
 use Rattle.rounds.specs.Nodes.{wordsFormat}
-use Rattle.buckets.specs.Words.{wordCount, slotsOf, zeroSlot, Leaves}
+use Rattle.buckets.specs.Words.{places, wordCount, slotsOf, zeroSlot, Leaves}
+use Rattle.buckets.specs.WordsLaws.{slots-count}
 use Rattle.buckets.specs.Level.{AtLevel}
 use Rattle.buckets.specs.PathLaws.{passes-at-level}
 use Rattle.buckets.specs.ChooseLaws.{Choosing, here-is, choosing-taken, choosing-left, choosing-end, left-part}
@@ -126,16 +127,21 @@ removed-leaves k want at ws v = part-holds {P = λ (y : Slot). wordsFormat .tag 
 
 -- The write half: one taken out, the path filled, and what is left copied.
 pub settled : (k leaf m n : ℕ) (want : Bool) (at : ℕ) (joint taken tree joint′ waiting′ tree′ : List ℕ) (r : ℕ)
-    → n ≤ m → take n (slotsOf taken) ≡ removed want at (take m (slotsOf joint))
+    → m ≤ places → n ≤ m → take n (slotsOf taken) ≡ removed want at (take m (slotsOf joint))
     → PathFilled k leaf (take n (slotsOf taken)) n tree joint′ tree′ r
     → length waiting′ ≡ wordCount → take r (slotsOf waiting′) ≡ take r (slotsOf joint′)
     → Settled k leaf m want at joint tree joint′ waiting′ tree′ r
-settled k leaf m n want at joint taken tree joint′ waiting′ tree′ r h e p s q =
+settled k leaf m n want at joint taken tree joint′ waiting′ tree′ r room h e p s q =
+    let w : writeHalf wordsFormat k leaf (removed want at (take m (slotsOf joint))) tree ≡ record { waiting = take r (slotsOf waiting′); tree = tree′ } =
+    ap (λ (ws : List Slot). writeHalf wordsFormat k leaf ws tree) (sym e)
+    ∙ p .half
+    ∙ ap (λ (ws : List Slot). record { waiting = ws; tree = tree′ }) (sym q) in
+    let c = slots-count waiting′ s in
+    let l = length-take r (slotsOf waiting′) in
     record {
       scratch-sized = p .sized;
       waiting-sized = s;
       fewer = omega (arith, p .fewer);
-      half = ap (λ (ws : List Slot). writeHalf wordsFormat k leaf ws tree) (sym e)
-          ∙ p .half
-          ∙ ap (λ (ws : List Slot). record { waiting = ws; tree = tree′ }) (sym q);
+      half = w;
+      counted = sym (ap (λ (v : Written Slot). length (v .waiting)) w ∙ omega (arith, p .fewer));
     }

@@ -72,10 +72,6 @@ pub words-tag : (x : Slot) → wordsFormat .tag x ≡ fieldsIn (slotBytes x) .ta
 unfolding wordsFormat
 words-tag x = refl
 
-pub words-bytes : (x : Slot) → wordsFormat .bytes x ≡ slotBytes x
-unfolding wordsFormat
-words-bytes x = refl
-
 -- The key of a slot that was got from a place, also of the first m.
 pub key-got : (l : List Slot) (i : ℕ) (x : Slot) (k : ℕ) → x ≡ getD l i zeroSlot → k ≡ fieldsIn (slotBytes x) .key → wordsFormat .key (getD l i zeroSlot) ≡ k
 key-got l i x k e q = ap (λ (y : Slot). wordsFormat .key y) (sym e) ∙ words-key x ∙ sym q

@@ -8,10 +8,10 @@ ghost use mathlib.Core.Bool.{true};
 ghost use mathlib.Core.List.{_++_};
 ghost use Prim.Native.Nat.{_+_, _-_, _<_, _≤_};
 ghost use lib.ListN.{length, getD, set, take, drop};
-ghost use Rattle.rounds.specs.Round.{keysOf};
+ghost use Rattle.rounds.specs.Round.{keysOf, insert};
 ghost use Rattle.rounds.specs.Nodes.{wordsFormat};
 ghost use Rattle.buckets.specs.Words.{places, wordCount, slotsOf, zeroSlot};
-ghost use Rattle.buckets.specs.Stash.{ascending, rank, position, without};
+ghost use Rattle.buckets.specs.Stash.{ascending, rank, upperBound, position, without};
 ghost use Rattle.buckets.specs.Joined.{SlotJoined};
 
 // The slot in a place.
@@ -83,6 +83,31 @@ pub fn join_slot(s: &mut [u64; WORDS], m: usize, x: Slot) -> bool
     shift_up(s, m, at);
     put(s, at, x);
     true
+}
+
+// How many of the first m stand before the first whose key is above a key.
+fn upper_bound(s: &[u64; WORDS], m: usize, key: u32) -> usize
+    requires { ⌜ (length (now s) ≡ wordCount) × (m ≤ places) ⌝ }
+    ensures { λ r. ⌜ r ≡ upperBound wordsFormat key (take m (slotsOf (now (s .entry)))) ⌝ }
+{
+    let mut i = 0;
+    while i < m {
+        if key < key_of(get(s, i)) {
+            return i;
+        }
+        i += 1;
+    }
+    m
+}
+
+// A slot joins the first m in key order, in any case: where its key is there already it stands second.
+pub fn insert_slot(s: &mut [u64; WORDS], m: usize, x: Slot)
+    requires { ⌜ (length (now s) ≡ wordCount) × (m < places) ⌝ }
+    ensures { λ _. ⌜ (length (now (s .exit)) ≡ wordCount) × (take (m + 1) (slotsOf (now (s .exit))) ≡ insert wordsFormat x (take m (slotsOf (now (s .entry))))) ⌝ }
+{
+    let at = upper_bound(s, m, key_of(x));
+    shift_up(s, m, at);
+    put(s, at, x);
 }
 
 // The place of the first slot with a key; m if none of the first m has it.

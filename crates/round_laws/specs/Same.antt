@@ -88,7 +88,7 @@ module _ {E D : Type 0} (F : Format E) (G : Format D) (f : E → D) {P : E → T
       ap₂ (λ (x : List ℕ) (xs : List (List ℕ)). x ∷ xs) (carries .bytes e (p e (List·Memᴰ·head refl))) (slots-carried es (λ a m. p a (List·Memᴰ·tail m)))
 
   -- ---- join and take
-  insert-carried : (e : E) (ws : List E) → P e → All P ws → insert G (f e) (map f ws) ≡ map f (insert F e ws)
+  pub insert-carried : (e : E) (ws : List E) → P e → All P ws → insert G (f e) (map f ws) ≡ map f (insert F e ws)
   unfolding insert
   insert-carried e [] p q = refl
   insert-carried e (w ∷ ws) p q =
@@ -100,7 +100,7 @@ module _ {E D : Type 0} (F : Format E) (G : Format D) (f : E → D) {P : E → T
       go more true = refl
       go more false = ap (λ (xs : List D). f w ∷ xs) more
 
-  join-carried : (es ws : List E) → All P es → All P ws → join G (map f es) (map f ws) ≡ map f (join F es ws)
+  pub join-carried : (es ws : List E) → All P es → All P ws → join G (map f es) (map f ws) ≡ map f (join F es ws)
   unfolding join
   join-carried [] ws p q = refl
   join-carried (e ∷ es) ws p q =

@@ -7,7 +7,7 @@ use super::tree::leaves;
 use super::tree::passes_bucket;
 ghost use mathlib.Core.Path.{_≡_};
 ghost use Prim.Native.Nat.{_≤_};
-ghost use Rattle.slots.specs.Slot.{slotBytes, fieldsIn, nodeOf, encode, allZero, linkGood, wellFormed, readSlot};
+ghost use Rattle.slots.specs.Slot.{slotBytes, slotOf, fieldsIn, nodeOf, encode, allZero, linkGood, wellFormed, readSlot};
 
 // The key of a slot's node.
 pub fn key_of(x: Slot) -> u32
@@ -48,7 +48,7 @@ pub fn node_of(x: Slot) -> Node
 
 // The slot that holds a node.
 pub fn slot_of(n: Node) -> Slot
-    ensures { λ r. ⌜ slotBytes r ≡ encode n ⌝ }
+    ensures { λ r. ⌜ (slotBytes r ≡ encode n) × (r ≡ slotOf n) ⌝ }
 {
     Slot {
         a: 1

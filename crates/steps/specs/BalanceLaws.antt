@@ -2,17 +2,15 @@
 use Prim.Native.Nat.{ℕ, suc, min, _-_, _≤_, _<_}
 use native.Mathlib.Omega.{arith}
 use mathlib.Core.Path.{_≡_, refl, sym, ap, _∙_}
-use mathlib.Core.Bool.{Bool, true, false, not}
-use mathlib.Core.Logic.{_⊎_, inl, inr}
+use mathlib.Core.Bool.{Bool, true, false}
 use native.Mathlib.Decide.{decLt}
 use lib.IntN.{ℤ, pos, negsuc, _-ℤ_}
 use lib.Signed.{leZ}
 use lib.Dec.{eqb, ltb, leb}
 use mir.Syntax.{w8}
 use mir.Val.{SFits, ofZ, toZ}
-use mir.ValLaws.{toZ-ofZ}
 use borrow.Author.Tests.{lt-ltb, le-ltb, le-leb, lt-leb}
-use Rattle.method.specs.Node.{Node, child}
+use Rattle.method.specs.Node.{Node}
 use Rattle.method.specs.Map.{tall}
 use Rattle.steps.specs.Balance.{balanceOf, towards, leansOut}
 

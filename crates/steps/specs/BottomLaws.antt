@@ -6,12 +6,12 @@ use mathlib.Core.Path.{_≡_, refl, sym, _∙_, ap, subst}
 use mathlib.Core.Bool.{Bool, true, false}
 use mathlib.Core.List.{List, [], _∷_, _++_}
 use mathlib.Core.Option.{none}
-use lib.ListN.{length, drop}
+use lib.ListN.{drop}
 use borrow.Author.Tests.{eq-eqb, ne-eqb, lt-ltb, le-ltb}
 use Rattle.method.specs.Node.{Link, Node, absent, withValue}
 use Rattle.method.specs.Prog.{Want, Prog, done, want, bind}
 use Rattle.method.specs.Answer as method
-use Rattle.method.specs.Map.{Outcome, Step, Sub, stub, top, Built, Spot, gap, hit, Lowest, start, stepAt, below, walk, climb, unwind, unwound, finish, getStep, getProg, putStep, putProg, lowest, swapped, takeOut, removeStep, removeProg}
+use Rattle.method.specs.Map.{Outcome, Step, Sub, stub, top, Built, Spot, gap, hit, Lowest, start, stepAt, below, walk, climb, unwound, finish, getStep, getProg, putStep, putProg, swapped, takeOut, removeStep, removeProg}
 use Rattle.slots.specs.declared.Link as link
 use Rattle.steps.specs.declared.Held.{Held}
 use Rattle.steps.specs.declared.Sub as sub
@@ -23,18 +23,18 @@ use Rattle.steps.specs.declared.walk.End.the-variants.{Missing, Gap, Hit
 use Rattle.steps.specs.declared.walk.Descent.{Descent}
 use Rattle.steps.specs.declared.walk.Lowest as search
 use Rattle.steps.specs.declared.Bottom.{Bottom}
-use Rattle.steps.specs.Method.{toLink, toNode, toSub, toWant, toAnswer, blank, nodesOf}
+use Rattle.steps.specs.Method.{toLink, toSub, toWant, toAnswer, nodesOf}
 use Rattle.steps.specs.Heights.{Low, LowSub}
 use Rattle.steps.specs.LevelLaws.{weight}
 use Rattle.steps.specs.HeldLaws.{heldAt, held-low}
-use Rattle.steps.specs.Resume.{Resumed, missing, finished, resume, follow}
-use Rattle.steps.specs.ResumeLaws.{resume-done, resume-bind}
-use Rattle.steps.specs.Raise.{HeldFrom, resumedAs}
+use Rattle.steps.specs.Resume.{Resumed, resume, follow}
+use Rattle.steps.specs.ResumeLaws.{resume-bind}
+use Rattle.steps.specs.Raise.{resumedAs}
 use Rattle.steps.specs.Climb.{upward}
-use Rattle.steps.specs.Walk.{Walks, wantAt, trail, byKey, spotOf, Reached, DescendsTo, after, LeftFrom, lowestFrom, LowersTo}
+use Rattle.steps.specs.Walk.{Walks, trail, byKey, spotOf, Reached, DescendsTo, after, LeftFrom, lowestFrom, LowersTo}
 use Rattle.steps.specs.PathTo.{waysTo, pathTo}
 use Rattle.steps.specs.PathLaws.{path-before, path-past, left-from}
-use Rattle.steps.specs.Bottom.{unlessMissing, unfinishedAt, bottomAt, pastFound, upFrom, Ready, StartsUp}
+use Rattle.steps.specs.Bottom.{unfinishedAt, bottomAt, pastFound, upFrom, StartsUp}
 
 -- ---- the parts of the programs
 

@@ -2,30 +2,24 @@
 use Prim.Native.Nat.{ℕ, zero, suc, _+_, _*_, _-_, _≤_, _<_}
 use mathlib.Core.Path.{_≡_}
 use mathlib.Core.Bool.{Bool, true, false}
-use mathlib.Core.List.{List, [], _∷_, map}
+use mathlib.Core.List.{List, [], _∷_, _++_, map}
 use lib.ListN.{length, getD, take, drop}
 use Rattle.method.specs.Node.{Node}
 use Rattle.method.specs.Prog.{Prog, done}
 use Rattle.method.specs.Map.{Step, Sub, Built, climb, unwind}
 use Rattle.slots.specs.declared.Node as node
 use Rattle.steps.specs.declared.Bound.the-variants.{Open}
-use Rattle.steps.specs.declared.Kid.{Kid}
-use Rattle.steps.specs.declared.Kid.the-variants.{Away, Here}
 use Rattle.steps.specs.declared.Held.{Held}
 use Rattle.steps.specs.declared.Step as step
 use Rattle.steps.specs.declared.Sub as sub
 use Rattle.steps.specs.declared.Path.{Path}
 use Rattle.steps.specs.declared.climb.Climbed.{Climbed}
+use Rattle.steps.specs.declared.climb.Listed.{Listed}
 use Rattle.steps.specs.Method.{toNode, toSub, toStep, blank, nodesOf}
 use Rattle.steps.specs.Heights.{Low, LowSub}
 use Rattle.steps.specs.LevelLaws.{weight}
 use Rattle.steps.specs.Resume.{resume}
 use Rattle.steps.specs.Raise.{HeldFrom, resumedAs}
-
--- The node at hand, if there is one.
-abbrev pub nodeOr : Kid → node.Node
-nodeOr Away = blank
-nodeOr (Here n) = n
 
 -- The way up with rotations, or without.
 unfoldable pub upward : Bool → List (Step ℕ) → Sub ℕ → List (Node ℕ) → Prog ℕ (Built ℕ)
@@ -60,24 +54,30 @@ pub record Climbs (path : Path) (bottom : sub.Sub) (h : Held) (at : ℕ) : Type 
 abbrev pub firstOf : List node.Node → ℕ → List (Node ℕ)
 firstOf nodes count = map toNode (take count nodes)
 
+-- More of them listed.
+pub record Lists (l : Listed) (more : List (Node ℕ)) (r : Listed) : Type 0 where
+  pub first : firstOf (r .nodes) (r .count) ≡ firstOf (l .nodes) (l .count) ++ more
+  pub places : length (r .nodes) ≡ 34
+  pub counted : r .count ≡ l .count + length more
+
 abbrev pub climbedOf : Climbed → Built ℕ
-climbedOf r = record { sub = toSub (r .sub); out = firstOf (r .nodes) (r .count) }
+climbedOf r = record { sub = toSub (r .sub); out = firstOf (r .list .nodes) (r .list .count) }
 
 -- What the climb gives: what the method's comes to on the held nodes, with room for the nodes at hand too.
 pub record ClimbsTo (rotating : Bool) (path : Path) (bottom : sub.Sub) (h : Held) (at : ℕ) (r : Climbed) : Type 0 where
   pub resumes : resume (upward rotating (pathOf path) (toSub bottom) []) (drop at (nodesOf h))
       ≡ resumedAs (r .wanted) (climbedOf r) (drop (r .next) (nodesOf h))
-  pub places : length (r .nodes) ≡ 34
-  pub room : r .count + weight (toSub (r .sub)) ≤ 34
+  pub places : length (r .list .nodes) ≡ 34
+  pub room : r .list .count + weight (toSub (r .sub)) ≤ 34
   pub low : LowSub 250 (toSub (r .sub))
 
 -- With i steps of the path left to climb.
 pub record Climbing (rotating : Bool) (path : Path) (bottom : sub.Sub) (h : Held) (at : ℕ)
-    (nodes : List node.Node) (count : ℕ) (b : sub.Sub) (next i : ℕ) : Type 0 where
-  pub resumes : resume (upward rotating (lastFirst (path .steps) i) (toSub b) (firstOf nodes count)) (drop next (nodesOf h))
+    (list : Listed) (b : sub.Sub) (next i : ℕ) : Type 0 where
+  pub resumes : resume (upward rotating (lastFirst (path .steps) i) (toSub b) (firstOf (list .nodes) (list .count))) (drop next (nodesOf h))
       ≡ resume (upward rotating (pathOf path) (toSub bottom) []) (drop at (nodesOf h))
-  pub places : length nodes ≡ 34
+  pub places : length (list .nodes) ≡ 34
   pub levels : i ≤ path .count
   pub within : next ≤ h .count
   pub low : LowSub (100 + 2 * (path .count - i)) (toSub b)
-  pub room : count + i + weight (toSub b) ≤ suc next
+  pub room : list .count + i + weight (toSub b) ≤ suc next

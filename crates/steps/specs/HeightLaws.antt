@@ -4,7 +4,7 @@ use native.Mathlib.Omega.{arith}
 use mathlib.Core.Bool.{Bool, true, false, not, Bool·beq}
 use Rattle.basics.specs.Choice.{pick}
 use Rattle.method.specs.Node.{Link, Node, child, withChild, linkTo}
-use mathlib.Core.List.{List, [], _∷_}
+use mathlib.Core.List.{List, [], _∷_, _++_}
 use mathlib.Core.Option.{Option, none, some}
 use Rattle.method.specs.Map.{Step, Sub, stub, top, kid, topOf, linkOf, placed, nearOn, rotate}
 use Rattle.steps.specs.Heights.{Low, LowKid, LowSub, Lows}
@@ -60,6 +60,10 @@ module _ {T : Type 0} (most : ℕ) where
       go : (t : Bool) → LowSub most (pick t b (stub (child s (p .node))))
       go true = k
       go false = low-child s (p .node) h
+
+  pub lows-append : (ns : List (Node T)) (n : Node T) → Lows most ns → Low most n → Lows most (ns ++ (n ∷ []))
+  lows-append [] n h k = (k, tt)
+  lows-append (m ∷ ns) n h k = (h .0, lows-append ns n (h .1) k)
 
 module _ {T : Type 0} (most more : ℕ) (larger : most ≤ more) where
   pub low-kid-more : (k : Option (Node T)) → LowKid most k → LowKid more k

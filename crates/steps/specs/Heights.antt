@@ -2,7 +2,7 @@
 use Prim.Native.Nat.{ℕ, _≤_}
 use mathlib.Core.List.{List, [], _∷_}
 use mathlib.Core.Option.{Option, none, some}
-use Rattle.method.specs.Node.{Link, Node}
+use Rattle.method.specs.Node.{Node}
 use Rattle.method.specs.Map.{Sub, stub, top}
 
 module _ {T : Type 0} (most : ℕ) where

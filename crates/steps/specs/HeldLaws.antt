@@ -1,11 +1,13 @@
 -- The held nodes one by one: the next of those not taken, and that none is left.
-use Prim.Native.Nat.{ℕ, zero, suc, min, _≤_, _<_}
+use Prim.Native.Nat.{ℕ, zero, suc, _+_, _≤_, _<_}
 use native.Mathlib.Omega.{arith}
 use mathlib.Core.Path.{_≡_, _∙_, ap, subst}
-use mathlib.Core.List.{List, [], _∷_, map}
-use lib.ListN.{length, getD, take, drop, length-take, length-map, drop-of-length-le, List·getD-map}
-use lib.Seq.{drop-cons, getD-take}
+use mathlib.Core.List.{List, [], _∷_, _++_, map, map-append}
+use lib.ListN.{length, getD, take, drop, set, length-take, length-map, drop-of-length-le, List·getD-map}
+use lib.Seq.{drop-cons, getD-take, take-suc-set}
 use Rattle.method.specs.Node.{Node}
+use native.Mathlib.Numerals.{add-one}
+use Rattle.slots.specs.declared.Node as node
 use Rattle.steps.specs.declared.Held.{Held}
 use Rattle.steps.specs.Method.{toNode, blank, nodesOf}
 use Rattle.steps.specs.Heights.{Low, Lows}
@@ -27,10 +29,20 @@ module _ {A B : Type 0} (f : A → B) (xs : List A) (n : ℕ) (enough : n ≤ le
       drop-cons (map f (take n xs)) i (f d) (omega arith)
       ∙ ap (λ (y : B). y ∷ drop (suc i) (map f (take n xs))) (List·getD-map f (take n xs) i d ∙ ap f (getD-take n xs i d k))
 
+-- One more of them, stored after the first n.
+pub first-more : {A B : Type 0} (f : A → B) (xs : List A) (n : ℕ) (x : A) → n < length xs
+    → map f (take (suc n) (set xs n x)) ≡ map f (take n xs) ++ (f x ∷ [])
+first-more f xs n x h = ap (map f) (take-suc-set xs n x h) ∙ map-append f (take n xs) (x ∷ [])
+
 module _ (h : Held) where
   -- The node at a place.
   abbrev pub heldAt : ℕ → Node ℕ
   heldAt i = toNode (getD (h .nodes) i blank)
+
+  -- With one more node.
+  pub held-more : (n : node.Node) → h .count < length (h .nodes)
+      → nodesOf (record { nodes = set (h .nodes) (h .count) n; count = h .count + 1 }) ≡ nodesOf h ++ (toNode n ∷ [])
+  held-more n k = rw (add-one (h .count)) (first-more toNode (h .nodes) (h .count) n k)
 
   pub held-length : h .count ≤ length (h .nodes) → length (nodesOf h) ≡ h .count
   held-length = first-length toNode (h .nodes) (h .count)

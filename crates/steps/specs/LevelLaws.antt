@@ -2,18 +2,18 @@
 -- stay in a byte and the nodes that are done with fit their array.
 use Prim.Native.Nat.{ℕ, suc, _+_, _≤_}
 use native.Mathlib.Omega.{arith}
-use mathlib.Core.Path.{_≡_, refl}
+use mathlib.Core.Path.{_≡_}
 use mathlib.Core.Bool.{Bool, true, false, not, Bool·beq}
-use mathlib.Core.List.{List, [], _∷_, _++_}
+use mathlib.Core.List.{List, [], _∷_}
 use mathlib.Core.Option.{Option, none, some}
 use lib.Dec.{leb}
 use lib.ListN.{length, length-append}
 use Rattle.basics.specs.Choice.{pick}
-use Rattle.method.specs.Node.{Node, child, withChild, linkTo}
-use Rattle.method.specs.Prog.{Want, Prog, done, want, bind}
-use Rattle.method.specs.Map.{Step, Sub, stub, top, Built, linkOf, listed, topOf, kid, kids, nodesAt, seat, beside, below, stepAt, tall, rotate, opened, single, double, turn, placed, rest, nearOn, othersOf, raise}
+use Rattle.method.specs.Node.{Node, child}
+use Rattle.method.specs.Prog.{Want, done}
+use Rattle.method.specs.Map.{Step, Sub, stub, Built, listed, topOf, kid, kids, nodesAt, seat, beside, below, stepAt, tall, rotate, opened, single, double, turn, placed, rest, nearOn, othersOf, raise}
 use Rattle.steps.specs.Heights.{Low, LowKid, LowSub, Lows}
-use Rattle.steps.specs.HeightLaws.{low-more, low-with, low-kid, low-top, low-down, low-up, low-placed, low-near, low-kid-more}
+use Rattle.steps.specs.HeightLaws.{low-more, low-kid, low-top, low-down, low-up, low-placed, low-near, low-kid-more}
 use Rattle.steps.specs.RotationLaws.{double-as}
 use Rattle.steps.specs.Resume.{resume, Ends}
 use Rattle.steps.specs.ResumeLaws.{ends-bind, ends-done, ends-pick, ends-more}

@@ -26,3 +26,4 @@ pub mod OperationLaws
 pub mod Moved
 pub mod MoveLaws
 pub mod FetchTestLaws
+pub mod WantLaws

@@ -2,13 +2,13 @@
 use Prim.Native.Nat.{ℕ, zero, suc, _+_, _-_, _≤_, _<_}
 use native.Mathlib.Omega.{arith}
 use native.Mathlib.Numerals.{add-one}
-use mathlib.Core.Path.{_≡_, refl, sym, _∙_, ap, subst}
-use mathlib.Core.Bool.{Bool, true, false}
+use mathlib.Core.Path.{_≡_, sym, _∙_, ap, subst}
+use mathlib.Core.Bool.{Bool, true}
 use mathlib.Core.List.{List, [], _∷_}
 use lib.ListN.{length, drop}
 use borrow.Author.Tests.{eq-eqb, ne-eqb, lt-ltb, le-ltb}
 use Rattle.method.specs.Node.{Node}
-use Rattle.method.specs.Prog.{Want, Prog, done, want}
+use Rattle.method.specs.Prog.{Want, want}
 use Rattle.method.specs.Map.{Step, Lowest, stepAt, below, lowest}
 use Rattle.steps.specs.declared.Held.{Held}
 use Rattle.steps.specs.declared.Want as want
@@ -16,10 +16,10 @@ use Rattle.steps.specs.declared.walk.Lowest as search
 use Rattle.steps.specs.declared.Wanted.the-variants.{Done, Fetch}
 use Rattle.steps.specs.Method.{toWant, nodesOf}
 use Rattle.steps.specs.HeldLaws.{heldAt, held-next, held-none}
-use Rattle.steps.specs.Resume.{Resumed, missing, finished, resume}
+use Rattle.steps.specs.Resume.{finished, resume}
 use Rattle.steps.specs.ResumeLaws.{resume-done, resume-want, resume-missing}
 use Rattle.steps.specs.Raise.{HeldFrom}
-use Rattle.steps.specs.Walk.{wantAt, passed, after, LeftFrom, lowestFrom, LowersTo, Lowering}
+use Rattle.steps.specs.Walk.{passed, after, lowestFrom, LowersTo, Lowering}
 use Rattle.steps.specs.WalkLaws.{want-next}
 
 -- ---- the method's search on the nodes at hand

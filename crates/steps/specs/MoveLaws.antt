@@ -2,11 +2,11 @@
 use Prim.Native.Nat.{ℕ, zero, suc, _+_, _≤_, _<_}
 use native.Mathlib.Omega.{arith}
 use mathlib.Core.Path.{_≡_, refl, sym, _∙_, ap, ap₂}
-use mathlib.Core.Bool.{Bool}
+use mathlib.Core.Bool.{Bool, true, false}
 use mathlib.Core.List.{List, [], _∷_, _++_, map, map-append}
 use borrow.Author.Tests.{eq-eqb, ne-eqb}
 use lib.ListN.{length, getD, take, drop, set, length-set, drop-of-length-le}
-use lib.Seq.{take-suc, take-suc-set, drop-cons, drop-set-lt, getD-drop, drop-drop}
+use lib.Seq.{take-suc, take-suc-set, drop-set-lt, getD-drop, drop-drop}
 use native.Mathlib.Numerals.{add-one}
 use native.Mathlib.Nat.{add-zero}
 use Rattle.method.specs.Node.{Link, Node, child, withChild}
@@ -14,35 +14,54 @@ use Rattle.method.specs.Prog as prog
 use Rattle.method.specs.Prog.{side}
 use Rattle.slots.specs.declared.Link as link
 use Rattle.slots.specs.declared.Node as node
-use Rattle.steps.specs.declared.From as from
+use Rattle.steps.specs.declared.Came.{Came}
 use Rattle.steps.specs.declared.From.the-variants.{Root}
 use Rattle.steps.specs.declared.Held.{Held}
+use Rattle.steps.specs.declared.Outcome as outcome
 use Rattle.steps.specs.declared.fetched.Moved.{Moved}
 use Rattle.steps.specs.Method.{toLink, toNode, toFrom, blank, nodesOf}
-use Rattle.steps.specs.ClimbLaws.{written-node}
-use Rattle.steps.specs.HeldLaws.{heldAt, first-next, held-next, held-length}
-use Rattle.steps.specs.Moved.{Fetched, retagLink, movedIn, movedRoot, movedNodes, movedLink, fetchesOf}
+use Rattle.steps.specs.HeldLaws.{heldAt, first-more, first-next, held-next, held-length}
+use Rattle.steps.specs.Moved.{Fetched, movedLink, movedNode, movedIn, fetchesOf, fetchesIn, MovedBy, MovedTo, ClosedTo}
 
--- The held nodes after one fetch.
-pub record MovedBy (h : Held) (f : prog.From) (tag : ℕ) (r : Held) : Type 0 where
-  pub nodes : nodesOf r ≡ map (movedIn f tag) (nodesOf h)
-  pub counted : r .count ≡ h .count
-  pub places : length (r .nodes) ≡ 33
+-- ---- one fetch
 
--- The held nodes and the root link after all fetches.
-pub record MovedTo (h : Held) (froms : List from.From) (l : link.Link) (r : Moved) : Type 0 where
-  pub nodes : nodesOf (r .held) ≡ movedNodes (fetchesOf (map toFrom (take (h .count) froms)) (nodesOf h)) (nodesOf h)
-  pub counted : r .held .count ≡ h .count
-  pub root : toLink (r .root) ≡ movedLink (fetchesOf (map toFrom (take (h .count) froms)) (nodesOf h)) (toLink l)
+moved-root-node : (n : Node ℕ) (tag : ℕ) → n ≡ movedIn prog.root tag n
+unfolding movedNode movedLink
+moved-root-node n tag = refl
 
--- ---- one link
+pub moved-by-root : {f : prog.From} (n : Node ℕ) (tag : ℕ) → f ≡ prog.root → n ≡ movedIn f tag n
+moved-by-root n tag e = moved-root-node n tag ∙ rw e
 
-module _ (n : Node ℕ) (k : ℕ) (s : Bool) (tag : ℕ) where
-  pub moved-here : {l : Link ℕ} {m : Node ℕ} → n .key ≡ k → l ≡ child s n → m ≡ withChild s n (retagLink tag l) → m ≡ movedIn (side k s) tag n
-  moved-here e f g = g ∙ rw (eq-eqb (n .key) k e, f)
+module _ (n : Node ℕ) (k : ℕ) (tag : ℕ) where
+  retagged : (s : Bool) → n .key ≡ k
+      → withChild s n (record { height = child s n .height; key = child s n .key; tag = tag }) ≡ movedIn (side k s) tag n
+  unfolding movedNode movedLink
+  retagged true e = rw (eq-eqb k (n .key) (sym e))
+  retagged false e = rw (eq-eqb k (n .key) (sym e))
 
-  pub moved-not-here : (n .key ≡ k → ⊥) → n ≡ movedIn (side k s) tag n
-  moved-not-here e = rw (ne-eqb (n .key) k e)
+  pub moved-here : (s : Bool) {l : Link ℕ} {m : Node ℕ} → n .key ≡ k → l ≡ child s n
+      → m ≡ withChild s n (record { height = l .height; key = l .key; tag = tag }) → m ≡ movedIn (side k s) tag n
+  moved-here s e f g =
+      g
+      ∙ ap (λ (x : Link ℕ). withChild s n (record { height = x .height; key = x .key; tag = tag })) f
+      ∙ retagged s e
+
+  pub moved-not-here : (s : Bool) → (n .key ≡ k → ⊥) → n ≡ movedIn (side k s) tag n
+  unfolding movedNode movedLink
+  moved-not-here s e = rw (ne-eqb k (n .key) (λ d. e (sym d)))
+
+pub moved-root-link : (l : Link ℕ) (tag : ℕ) → record { height = l .height; key = l .key; tag = tag } ≡ movedLink (record { from = prog.root; tag = tag } ∷ []) prog.root l
+unfolding movedLink
+moved-root-link l tag = refl
+
+pub moved-side-link : (k : ℕ) (s : Bool) (l : Link ℕ) (tag : ℕ) → l ≡ movedLink (record { from = side k s; tag = tag } ∷ []) prog.root l
+unfolding movedLink
+moved-side-link k s l tag = refl
+
+-- The first fetch, and then the others.
+moved-split : (f : Fetched ℕ) (fs : List (Fetched ℕ)) (n : Node ℕ) → movedNode (f ∷ fs) n ≡ movedNode fs (movedNode (f ∷ []) n)
+unfolding movedNode movedLink
+moved-split f fs n = refl
 
 -- ---- all held nodes, one after the other
 
@@ -86,7 +105,7 @@ module _ (f : prog.From) (tag : ℕ) (h₀ : Held) (few : h₀ .count ≤ 33) (f
         rw (add-one i)
         record {
           done =
-              written-node (h .nodes) i n (omega (arith, now .places, now .counted))
+              first-more toNode (h .nodes) i n (omega (arith, now .places, now .counted))
               ∙ rw (now .done, e, same-next (h .nodes) (h₀ .nodes) i (now .rest) blank) (sym (one-more i (omega (arith, now .counted))));
           rest = drop-set-lt (suc i) (h .nodes) i n (omega arith) ∙ same-rest (h .nodes) (h₀ .nodes) i (now .rest);
           counted = now .counted;
@@ -124,60 +143,120 @@ fetch-length [] ns = omega arith
 fetch-length (f ∷ fs) [] = omega arith
 fetch-length (f ∷ fs) (n ∷ ns) = let h = fetch-length fs ns in omega arith
 
-module _ (h₀ : Held) (froms : List from.From) (l₀ : link.Link) where
-  abbrev pub fetches : List (Fetched ℕ)
-  fetches = fetchesOf (map toFrom (take (h₀ .count) froms)) (nodesOf h₀)
+split-all : (f : Fetched ℕ) (fs : List (Fetched ℕ)) (ns : List (Node ℕ)) → map (movedNode fs) (map (movedNode (f ∷ [])) ns) ≡ map (movedNode (f ∷ fs)) ns
+split-all f fs [] = refl
+split-all f fs (n ∷ ns) = ap₂ (λ (m : Node ℕ) (ms : List (Node ℕ)). m ∷ ms) (sym (moved-split f fs n)) (split-all f fs ns)
+
+none-moved : (ns : List (Node ℕ)) → map (movedNode []) ns ≡ ns
+unfolding movedNode movedLink
+none-moved [] = refl
+none-moved (n ∷ ns) = ap (λ (ms : List (Node ℕ)). n ∷ ms) (none-moved ns)
+
+-- What an unused place holds.
+abbrev unknown : Came
+unknown = record { from = Root }
+
+module _ (h₀ : Held) (came : List Came) (l₀ : link.Link) where
+  abbrev fetches : List (Fetched ℕ)
+  fetches = fetchesIn h₀ came
+
+  -- The fetch i.
+  abbrev fetchAt : ℕ → Fetched ℕ
+  fetchAt i = record { from = toFrom (getD came i unknown .from); tag = heldAt h₀ i .tag }
 
   -- The first i are done.
   pub record MovingTo (h : Held) (l : Link ℕ) (i : ℕ) : Type 0 where
-    pub nodes : movedNodes (drop i fetches) (nodesOf h) ≡ movedNodes fetches (nodesOf h₀)
-    pub root : movedLink (drop i fetches) l ≡ movedLink fetches (toLink l₀)
+    pub nodes : map (movedNode (drop i fetches)) (nodesOf h) ≡ map (movedNode fetches) (nodesOf h₀)
+    pub root : movedLink (drop i fetches) prog.root l ≡ movedLink fetches prog.root (toLink l₀)
     pub counted : h .count ≡ h₀ .count
     pub places : length (h .nodes) ≡ 33
     pub within : i ≤ h₀ .count
 
-  module _ (few : h₀ .count ≤ 33) (full : length (h₀ .nodes) ≡ 33) (all : length froms ≡ 33) where
+  module _ (few : h₀ .count ≤ 33) (full : length (h₀ .nodes) ≡ 33) (all : length came ≡ 33) where
     pub tags-start : MovingTo h₀ (toLink l₀) 0
     tags-start = record { nodes = refl; root = refl; counted = refl; places = full; within = omega arith }
 
-    fetch-next : (i : ℕ) → i < h₀ .count
-        → drop i fetches ≡ record { from = toFrom (getD froms i Root); tag = heldAt h₀ i .tag } ∷ drop (suc i) fetches
+    fetch-next : (i : ℕ) → i < h₀ .count → drop i fetches ≡ fetchAt i ∷ drop (suc i) fetches
     unfolding fetchesOf
     fetch-next i k =
-        let fs = map toFrom (take (h₀ .count) froms) in
+        let from : Came → prog.From = λ c. toFrom (c .from) in
+        let fs = map from (take (h₀ .count) came) in
         fetch-drop i fs (nodesOf h₀)
-        ∙ ap₂ fetchesOf (first-next toFrom froms (h₀ .count) (omega arith) i Root k) (held-next h₀ i k (omega arith))
-        ∙ ap (λ (r : List (Fetched ℕ)). record { from = toFrom (getD froms i Root); tag = heldAt h₀ i .tag } ∷ r) (sym (fetch-drop (suc i) fs (nodesOf h₀)))
+        ∙ ap₂ fetchesOf (first-next from came (h₀ .count) (omega arith) i unknown k) (held-next h₀ i k (omega arith))
+        ∙ ap (λ (r : List (Fetched ℕ)). fetchAt i ∷ r) (sym (fetch-drop (suc i) fs (nodesOf h₀)))
 
     module _ (h : Held) {l : Link ℕ} (i : ℕ) (now : MovingTo h l i) where
       pub tags-turn : {h′ : Held} {l′ : Link ℕ} → i < h₀ .count
-          → MovedBy h (toFrom (getD froms i Root)) (heldAt h₀ i .tag) h′ → l′ ≡ movedRoot (toFrom (getD froms i Root)) (heldAt h₀ i .tag) l
+          → MovedBy h (fetchAt i .from) (fetchAt i .tag) h′ → l′ ≡ movedLink (fetchAt i ∷ []) prog.root l
           → MovingTo h′ l′ (i + 1)
-      unfolding movedNodes movedLink
+      unfolding movedLink
       tags-turn k m e =
           rw (add-one i)
           record {
             nodes =
-                ap (movedNodes (drop (suc i) fetches)) (m .nodes)
-                ∙ sym (ap (λ (fs : List (Fetched ℕ)). movedNodes fs (nodesOf h)) (fetch-next i k))
+                ap (map (movedNode (drop (suc i) fetches))) (m .nodes)
+                ∙ split-all (fetchAt i) (drop (suc i) fetches) (nodesOf h)
+                ∙ sym (ap (λ (fs : List (Fetched ℕ)). map (movedNode fs) (nodesOf h)) (fetch-next i k))
                 ∙ now .nodes;
             root =
-                ap (movedLink (drop (suc i) fetches)) e
-                ∙ sym (ap (λ (fs : List (Fetched ℕ)). movedLink fs l) (fetch-next i k))
+                ap (movedLink (drop (suc i) fetches) prog.root) e
+                ∙ sym (ap (λ (fs : List (Fetched ℕ)). movedLink fs prog.root l) (fetch-next i k))
                 ∙ now .root;
             counted = m .counted ∙ now .counted;
             places = m .places;
             within = omega arith;
           }
 
-      pub tags-end : {r : Moved} → r .held ≡ h → toLink (r .root) ≡ l → h₀ .count ≤ i → MovedTo h₀ froms l₀ r
-      unfolding movedNodes movedLink
+      pub tags-end : {r : Moved} → r .held ≡ h → toLink (r .root) ≡ l → h₀ .count ≤ i → MovedTo h₀ came l₀ r
+      unfolding movedLink
       tags-end a b k =
           let m : length fetches ≤ i =
-          omega (arith, fetch-length (map toFrom (take (h₀ .count) froms)) (nodesOf h₀), held-length h₀ (omega arith)) in
+          omega (arith, fetch-length (map (λ (c : Came). toFrom (c .from)) (take (h₀ .count) came)) (nodesOf h₀), held-length h₀ (omega arith)) in
           let none = drop-of-length-le fetches {i = i} m in
           record {
-            nodes = ap nodesOf a ∙ sym (ap (λ (fs : List (Fetched ℕ)). movedNodes fs (nodesOf h)) none) ∙ now .nodes;
+            nodes =
+                ap nodesOf a
+                ∙ sym (none-moved (nodesOf h))
+                ∙ sym (ap (λ (fs : List (Fetched ℕ)). map (movedNode fs) (nodesOf h)) none)
+                ∙ now .nodes;
             counted = ap (λ (x : Held). x .count) a ∙ now .counted;
-            root = b ∙ sym (ap (λ (fs : List (Fetched ℕ)). movedLink fs l) none) ∙ now .root;
+            places = ap (λ (x : Held). length (x .nodes)) a ∙ now .places;
+            root = b ∙ sym (ap (λ (fs : List (Fetched ℕ)). movedLink fs prog.root l) none) ∙ now .root;
           }
+
+-- ---- as an outcome
+
+-- The first i nodes are copied.
+pub record Copied (h : Held) (nodes : List node.Node) (i : ℕ) : Type 0 where
+  pub first : take i nodes ≡ take i (h .nodes)
+  pub places : length nodes ≡ 34
+  pub within : i ≤ h .count
+
+module _ (h : Held) (few : h .count ≤ 33) (full : length (h .nodes) ≡ 33) (nodes : List node.Node) where
+  pub copied-none : length nodes ≡ 34 → Copied h nodes 0
+  copied-none e = record { first = refl; places = e; within = omega arith }
+
+  pub copied-more : (i : ℕ) → Copied h nodes i → i < h .count → Copied h (set nodes i (getD (h .nodes) i blank)) (i + 1)
+  copied-more i now k =
+      rw (add-one i)
+      record {
+        first =
+            take-suc-set nodes i (getD (h .nodes) i blank) (omega (arith, now .places))
+            ∙ ap (λ (l : List node.Node). l ++ (getD (h .nodes) i blank ∷ [])) (now .first)
+            ∙ sym (take-suc (h .nodes) i blank (omega arith));
+        places = length-set nodes i _ ∙ now .places;
+        within = omega arith;
+      }
+
+pub closed-to : (h : Held) (came : List Came) (l : link.Link) {entries : ℕ} {m : Moved} {r : outcome.Outcome} {i : ℕ}
+    → MovedTo h came l m → Copied (m .held) (r .nodes) i → m .held .count ≤ i → r .count ≡ m .held .count
+    → toLink (r .root) ≡ toLink (m .root) → r .entries ≡ entries → ClosedTo h came l entries r
+closed-to h came l {m = m} {r} {i} moved copied k counted root kept =
+    let all : i ≡ m .held .count = omega (arith, copied .within) in
+    record {
+      nodes = rw counted (ap (map toNode) (rw all at (copied .first)) ∙ moved .nodes);
+      counted = counted ∙ moved .counted;
+      places = copied .places;
+      root = root ∙ moved .root;
+      kept = kept;
+    }

@@ -1,6 +1,6 @@
 -- The five operations by their programs.
 use Prim.Native.Nat.{ℕ, _<_}
-use mathlib.Core.Path.{_≡_, refl, sym, _∙_, ap}
+use mathlib.Core.Path.{_≡_, sym, _∙_, ap}
 use mathlib.Core.Option.{Option, none}
 use native.Mathlib.Omega.{arith}
 use native.Mathlib.Decide.{decLt}
@@ -14,7 +14,7 @@ use Rattle.steps.specs.declared.Held.{Held}
 use Rattle.steps.specs.declared.Op.{Op}
 use Rattle.steps.specs.declared.Op.the-variants.{Get, Put, Remove, Push, Pop}
 use Rattle.steps.specs.declared.Bottom.{Bottom}
-use Rattle.steps.specs.Method.{toLink, toOp, wantedIn, outcomeIn, nodesOf}
+use Rattle.steps.specs.Method.{toOp, wantedIn, outcomeIn, nodesOf}
 use Rattle.steps.specs.Resume.{resume}
 use Rattle.steps.specs.Bottom.{StartsUp}
 use Rattle.steps.specs.Outcome.{wantedOf, outcomeOf, fromBottom}

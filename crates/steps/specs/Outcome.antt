@@ -10,6 +10,7 @@ use Rattle.method.specs.Map.{Outcome}
 use Rattle.slots.specs.declared.Link as link
 use Rattle.steps.specs.declared.Held.{Held}
 use Rattle.steps.specs.declared.Bottom.{Bottom}
+use Rattle.steps.specs.declared.Outcome as outcome
 use Rattle.steps.specs.declared.climb.Climbed.{Climbed}
 use Rattle.steps.specs.Method.{toSub, toAnswer, nothing, nodesOf}
 use Rattle.steps.specs.Heights.{LowSub, Lows}
@@ -27,6 +28,11 @@ pub record LowHeld (root : link.Link) (h : Held) : Type 0 where
   pub low : Lows 100 (nodesOf h)
   pub root-low : root .height ≤ 100
 
+-- The array of an outcome has 34 places, and room for its nodes.
+pub record InPlaces (o : outcome.Outcome) : Type 0 where
+  pub few : o .count ≤ 34
+  pub places : length (o .nodes) ≡ 34
+
 -- The node that is missing, if one is.
 abbrev pub wantedOf : {A : Type 0} → Resumed ℕ A → Option (Want ℕ)
 wantedOf (missing w) = some w
@@ -42,8 +48,8 @@ abbrev pub fromBottom : ℕ → link.Link → Held → Bottom → Resumed ℕ (O
 fromBottom key root h b = unlessMissing (b .wanted) (resume (upFrom key root h b) (drop (b .at) (nodesOf h)))
 
 pub record RoomToFinish (c : Climbed) : Type 0 where
-  pub places : length (c .nodes) ≡ 34
-  pub room : c .count + weight (toSub (c .sub)) ≤ 34
+  pub places : length (c .list .nodes) ≡ 34
+  pub room : c .list .count + weight (toSub (c .sub)) ≤ 34
   pub low : LowSub 250 (toSub (c .sub))
 
 pub record Rises (key : ℕ) (root : link.Link) (h : Held) (b : Bottom) (r : Climbed) : Type 0 where

@@ -1,19 +1,19 @@
 -- The outcome and the next wanted node, put together from their parts as the code computes them.
-use Prim.Native.Nat.{ℕ, suc, pred, _+_, _≤_, _<_}
+use Prim.Native.Nat.{ℕ, _+_, _≤_, _<_}
 use native.Mathlib.Omega.{arith}
-use native.Mathlib.Numerals.{add-one}
-use mathlib.Core.Path.{_≡_, refl, sym, _∙_, ap, subst}
-use mathlib.Core.Bool.{Bool, true, false}
-use mathlib.Core.List.{List, [], _∷_, _++_}
-use mathlib.Core.Option.{Option, none, some}
-use lib.ListN.{length, drop, set, length-append}
+use mathlib.Core.Path.{_≡_, refl, _∙_}
+use mathlib.Core.Bool.{true, false}
+use mathlib.Core.List.{List, [], _∷_}
+use mathlib.Core.Option.{none, some}
+use lib.ListN.{length, drop, length-append}
 use Rattle.method.specs.Node.{Link, Node}
 use Rattle.method.specs.Prog.{Want, Prog, done, want, bind, after}
-use Rattle.method.specs.Map.{Outcome, Sub, stub, top, Built, linkOf, listed, topOf, kid, kids, start, finish, unwind}
+use Rattle.method.specs.Map.{Outcome, linkOf, listed, topOf, kid, start, finish}
 use Rattle.slots.specs.declared.Node as node
 use Rattle.slots.specs.declared.Link as link
 use Rattle.steps.specs.declared.Held.{Held}
 use Rattle.steps.specs.declared.Kid.{Kid}
+use Rattle.steps.specs.declared.Kid.the-variants.{Away, Here}
 use Rattle.steps.specs.declared.Path.{Path}
 use Rattle.steps.specs.declared.Want as want
 use Rattle.steps.specs.declared.Answer as answer
@@ -22,17 +22,17 @@ use Rattle.steps.specs.declared.Wanted.the-variants.{Done, Fetch}
 use Rattle.steps.specs.declared.Bottom.{Bottom}
 use Rattle.steps.specs.declared.Outcome as outcome
 use Rattle.steps.specs.declared.climb.Climbed.{Climbed}
-use Rattle.steps.specs.Method.{toLink, toKid, toSub, toWant, toWanted, wantedIn, toAnswer, toOutcome, outcomeIn, nothing, nodesOf}
-use Rattle.steps.specs.LevelLaws.{weight}
-use Rattle.steps.specs.Resume.{Resumed, missing, finished, resume, follow}
+use Rattle.steps.specs.declared.climb.Listed.{Listed}
+use Rattle.steps.specs.Method.{toLink, toKid, toSub, toWant, toWanted, wantedIn, toAnswer, toOutcome, outcomeIn, nodesOf}
+use Rattle.steps.specs.Resume.{missing, finished, resume, follow}
 use Rattle.steps.specs.ResumeLaws.{resume-map}
-use Rattle.steps.specs.Raise.{HeldFrom, resumedAs}
-use Rattle.steps.specs.Climb.{nodeOr, upward, pathOf, firstOf, climbedOf, Climbs, ClimbsTo}
-use Rattle.steps.specs.ClimbLaws.{Writes, writes-kid, writes-then}
+use Rattle.steps.specs.Raise.{resumedAs}
+use Rattle.steps.specs.Climb.{Lists, upward, climbedOf, Climbs, ClimbsTo}
+use Rattle.steps.specs.ClimbLaws.{lists-then}
 use Rattle.steps.specs.Walk.{Walks}
 use Rattle.steps.specs.PathTo.{pathTo, LeadsTo}
-use Rattle.steps.specs.Bottom.{unlessMissing, upFrom, Ready}
-use Rattle.steps.specs.Outcome.{LowHeld, wantedOf, outcomeOf, fromBottom, RoomToFinish, Rises}
+use Rattle.steps.specs.Bottom.{Ready}
+use Rattle.steps.specs.Outcome.{LowHeld, InPlaces, wantedOf, outcomeOf, fromBottom, RoomToFinish, Rises}
 
 -- ---- what the parts ask
 
@@ -91,24 +91,24 @@ module _ (key : ℕ) (root : link.Link) (h : Held) (b : Bottom) (walks : Walks r
 
 -- ---- the last nodes
 
+pub listed-one : (k : Kid) → length (listed (toKid k)) ≤ 1
+listed-one Away = omega arith
+listed-one (Here n) = omega arith
+
 module _ (c : Climbed) (room : RoomToFinish c) (left right : Kid) (l : toKid left ≡ kid true (toSub (c .sub)))
     (r : toKid right ≡ kid false (toSub (c .sub))) where
-  pub finish-room : c .count + length (listed (toKid left)) + length (listed (toKid right)) < 34
+  pub finish-room : c .list .count + length (listed (toKid left)) + length (listed (toKid right)) < 34
   finish-room = rw (l, r) (omega (arith, room .room, length-append (listed (kid true (toSub (c .sub)))) (listed (kid false (toSub (c .sub))))))
 
-  pub finish-is : (last : Kid) (t : toKid last ≡ topOf (toSub (c .sub))) {n₁ n₂ n₃ : node.Node} {s₁ s₂ s₃ : ℕ} {k : link.Link} (entries : ℕ) (a : answer.Answer)
-      → n₁ ≡ nodeOr left → s₁ ≡ length (listed (toKid left)) → n₂ ≡ nodeOr right → s₂ ≡ length (listed (toKid right))
-      → n₃ ≡ nodeOr last → s₃ ≡ length (listed (toKid last)) → toLink k ≡ linkOf (toSub (c .sub))
-      → toOutcome (record { nodes = set (set (set (c .nodes) (c .count) n₁) (c .count + s₁) n₂) (c .count + s₁ + s₂) n₃; count = c .count + s₁ + s₂ + s₃; root = k; entries = entries; answer = a })
-      ≡ finish entries (toAnswer a) (climbedOf c)
-  finish-is last t {n₁} {n₂} {n₃} {s₁} {s₂} {s₃} entries a d e f g i j q =
-      let space = finish-room in
-      let two = set (c .nodes) (c .count) n₁ in
-      let three = set two (c .count + s₁) n₂ in
-      let u = writes-kid (c .nodes) (c .count) left d e (omega (arith, room .places)) in
-      let v = writes-kid two (c .count + s₁) right f g (omega (arith, u .places, room .places)) in
-      let w = writes-kid three (c .count + s₁ + s₂) last i j (omega (arith, v .places, u .places, room .places)) in
-      rw (writes-then (writes-then u v) w .first, q, l, r, t)
+  pub finish-is : (last : Kid) (t : toKid last ≡ topOf (toSub (c .sub))) {some more all : Listed} {k : link.Link} (entries : ℕ) (a : answer.Answer)
+      → Lists (c .list) (listed (toKid left)) some → Lists some (listed (toKid right)) more → Lists more (listed (toKid last)) all
+      → toLink k ≡ linkOf (toSub (c .sub))
+      → (toOutcome (record { nodes = all .nodes; count = all .count; root = k; entries = entries; answer = a }) ≡ finish entries (toAnswer a) (climbedOf c))
+      × InPlaces (record { nodes = all .nodes; count = all .count; root = k; entries = entries; answer = a })
+  finish-is last t entries a u v w q = (
+    rw (lists-then (c .list) (lists-then (c .list) u v) w .first, q, l, r, t),
+    record { few = omega (arith, finish-room, u .counted, v .counted, w .counted, listed-one last); places = w .places },
+  )
 
 -- ---- what is wanted, and the step
 

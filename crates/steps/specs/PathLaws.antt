@@ -6,7 +6,7 @@ use native.Mathlib.Numerals.{add-one}
 use mathlib.Core.Path.{_≡_, refl, sym, _∙_, ap, ap₂, subst}
 use mathlib.Core.Bool.{Bool, true, false}
 use mathlib.Core.List.{List, [], _∷_, _++_}
-use lib.Dec.{eqb, ltb}
+use lib.Dec.{eqb}
 use lib.ListN.{length, getD, set, length-set}
 use lib.Seq.{getD-set-same, getD-set-other}
 use borrow.Author.Tests.{eq-eqb, ne-eqb, lt-ltb, le-ltb}
@@ -22,7 +22,7 @@ use Rattle.steps.specs.Method.{toNode, toStep, blank}
 use Rattle.steps.specs.Heights.{Low}
 use Rattle.steps.specs.HeldLaws.{heldAt, held-low}
 use Rattle.steps.specs.Raise.{HeldFrom}
-use Rattle.steps.specs.Climb.{blankStep, stepOf, lastFirst, pathOf}
+use Rattle.steps.specs.Climb.{blankStep, stepOf, lastFirst}
 use Rattle.steps.specs.Walk.{wantAt, passed, trail, byKey, after, LeftFrom}
 use Rattle.steps.specs.WalkLaws.{want-first, want-next, trail-none, trail-next}
 use Rattle.steps.specs.LowestLaws.{after-found, after-next}

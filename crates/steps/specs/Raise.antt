@@ -16,7 +16,7 @@ use Rattle.steps.specs.declared.Wanted.the-variants.{Done, Fetch}
 use Rattle.steps.specs.declared.raise.Opened.{Opened}
 use Rattle.steps.specs.declared.raise.Others.{Others}
 use Rattle.steps.specs.declared.raise.Raised.{Raised}
-use Rattle.steps.specs.Method.{toNode, toKid, toSub, toWant, nodesOf}
+use Rattle.steps.specs.Method.{toKid, toSub, toWant, nodesOf}
 use Rattle.steps.specs.Heights.{LowKid, Lows}
 use Rattle.steps.specs.Resume.{Resumed, missing, finished, resume}
 

@@ -2,15 +2,14 @@
 use Prim.Native.Nat.{ℕ, suc, _+_, _≤_, _<_}
 use native.Mathlib.Omega.{arith}
 use native.Mathlib.Numerals.{add-one}
-use mathlib.Core.Path.{_≡_, refl, sym, _∙_, ap, subst}
+use mathlib.Core.Path.{_≡_, sym, _∙_, ap, subst}
 use mathlib.Core.Bool.{Bool, true, false, not}
-use mathlib.Core.List.{List, [], _∷_, _++_, append-nil}
+use mathlib.Core.List.{List, [], _++_, append-nil}
 use mathlib.Core.Option.{Option, none, some}
 use lib.ListN.{length, getD, drop}
-use lib.Dec.{leb}
 use Rattle.method.specs.Node.{Link, Node, child}
-use Rattle.method.specs.Prog.{Want, Prog, done, want, bind}
-use Rattle.method.specs.Map.{Step, Sub, Built, listed, kid, topOf, kids, beside, below, stepAt, tall, opened, single, double, turn, placed, rest, nearOn, othersOf, seat, raise}
+use Rattle.method.specs.Prog.{Want, Prog, done, want}
+use Rattle.method.specs.Map.{Step, Sub, Built, listed, kid, topOf, beside, below, stepAt, tall, opened, single, double, turn, placed, rest, nearOn, othersOf, seat, raise}
 use Rattle.slots.specs.declared.Node as node
 use Rattle.steps.specs.declared.Sub as sub
 use Rattle.steps.specs.declared.Want as want
@@ -22,12 +21,12 @@ use Rattle.steps.specs.declared.Kid.{Kid}
 use Rattle.steps.specs.declared.Kid.the-variants.{Away, Here}
 use Rattle.steps.specs.declared.Held.{Held}
 use Rattle.steps.specs.Method.{toNode, toKid, toSub, toWant, blank, nodesOf}
-use Rattle.steps.specs.Heights.{Low, Lows}
+use Rattle.steps.specs.Heights.{Low}
 use Rattle.steps.specs.HeldLaws.{held-next, held-none, held-low}
 use Rattle.steps.specs.Balance.{leansOut}
-use Rattle.steps.specs.Resume.{Resumed, resume, finished, missing, follow}
+use Rattle.steps.specs.Resume.{resume, finished, follow}
 use Rattle.steps.specs.ResumeLaws.{resume-done, resume-want, resume-missing, resume-bind, resume-map}
-use Rattle.steps.specs.Raise.{HeldFrom, Opens, openedAs, listOf, resumedAs, builtOf, Raises, turnOver, level}
+use Rattle.steps.specs.Raise.{HeldFrom, Opens, openedAs, listOf, builtOf, Raises, turnOver}
 
 -- ---- opening
 

@@ -1,5 +1,4 @@
 -- The rotations, put together from their parts as the code computes them.
-use Prim.Native.Nat.{ℕ}
 use mathlib.Core.Path.{_≡_, refl, ap}
 use mathlib.Core.Bool.{Bool, true, false, not}
 use Rattle.method.specs.Node.{Link, Node, child, withChild, linkTo}

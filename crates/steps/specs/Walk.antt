@@ -6,9 +6,9 @@ use mathlib.Core.List.{List, [], _∷_}
 use lib.Dec.{ltb}
 use lib.ListN.{drop}
 use Rattle.basics.specs.Choice.{pick}
-use Rattle.method.specs.Node.{Link, Node}
+use Rattle.method.specs.Node.{Link}
 use Rattle.method.specs.Prog.{Want, Prog, want}
-use Rattle.method.specs.Map.{Step, Spot, gap, hit, Lowest, start, stepAt, below, walk, lowest}
+use Rattle.method.specs.Map.{Step, Spot, gap, hit, Lowest, stepAt, below, walk, lowest}
 use Rattle.slots.specs.declared.Link as link
 use Rattle.steps.specs.declared.Held.{Held}
 use Rattle.steps.specs.declared.walk.End.{End}
@@ -16,7 +16,7 @@ use Rattle.steps.specs.declared.walk.End.the-variants.{Missing, Gap, Hit
 use Rattle.steps.specs.declared.walk.Descent.{Descent}
 use Rattle.steps.specs.declared.walk.Lowest as search
 use Rattle.steps.specs.declared.Wanted.the-variants.{Done}
-use Rattle.steps.specs.Method.{toLink, toWant, nodesOf}
+use Rattle.steps.specs.Method.{toWant, nodesOf}
 use Rattle.steps.specs.HeldLaws.{heldAt}
 use Rattle.steps.specs.Resume.{Resumed, missing, finished, resume}
 use Rattle.steps.specs.Raise.{HeldFrom, resumedAs}

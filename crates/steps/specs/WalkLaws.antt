@@ -3,24 +3,22 @@ use Prim.Native.Nat.{ℕ, zero, suc, _+_, _-_, _≤_, _<_}
 use native.Mathlib.Omega.{arith}
 use native.Mathlib.Numerals.{add-one}
 use mathlib.Core.Path.{_≡_, refl, sym, _∙_, ap, subst}
-use mathlib.Core.Bool.{Bool, true, false}
+use mathlib.Core.Bool.{Bool}
 use mathlib.Core.List.{List, [], _∷_}
-use lib.Dec.{eqb, ltb}
+use lib.Dec.{ltb}
 use lib.ListN.{length, drop}
 use borrow.Author.Tests.{eq-eqb, ne-eqb}
-use Rattle.basics.specs.Choice.{pick}
-use Rattle.method.specs.Node.{Link, Node, child}
-use Rattle.method.specs.Prog.{Want, Prog, done, want}
-use Rattle.method.specs.Map.{Step, Spot, gap, hit, stepAt, below, walk}
+use Rattle.method.specs.Node.{Node}
+use Rattle.method.specs.Prog.{Want, want}
+use Rattle.method.specs.Map.{Step, gap, hit, stepAt, below, walk}
 use Rattle.steps.specs.declared.Held.{Held}
 use Rattle.steps.specs.declared.Want as want
 use Rattle.steps.specs.declared.walk.Descent.{Descent}
 use Rattle.steps.specs.declared.walk.End.the-variants.{Missing, Gap, Hit}
 use Rattle.steps.specs.Method.{toWant, nodesOf}
-use Rattle.steps.specs.Heights.{Low}
 use Rattle.steps.specs.HeightLaws.{low-child}
 use Rattle.steps.specs.HeldLaws.{heldAt, held-next, held-none, held-low}
-use Rattle.steps.specs.Resume.{Resumed, missing, finished, resume}
+use Rattle.steps.specs.Resume.{missing, finished, resume}
 use Rattle.steps.specs.ResumeLaws.{resume-done, resume-want, resume-missing}
 use Rattle.steps.specs.Raise.{HeldFrom}
 use Rattle.steps.specs.Walk.{wantAt, passed, trail, byKey, DescendsTo, Descending}

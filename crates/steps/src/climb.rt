@@ -5,15 +5,18 @@ use super::NODES;
 use super::Path;
 use super::Sub;
 use super::Wanted;
+use super::raise::Others;
 use super::raise::raise_or_rest;
 use slots::Link;
 use slots::Node;
 ghost use mathlib.Core.Path.{_≡_};
-ghost use Prim.Native.Nat.{_≤_};
+ghost use Prim.Native.Nat.{_+_, _≤_};
+ghost use mathlib.Core.List.{_++_};
 ghost use lib.ListN.{length};
 ghost use Rattle.method.specs.Map.{listed};
 ghost use Rattle.steps.specs.Method.{toKid, blank};
-ghost use Rattle.steps.specs.Climb.{nodeOr, Climbs, ClimbsTo};
+ghost use Rattle.steps.specs.Raise.{listOf};
+ghost use Rattle.steps.specs.Climb.{Lists, Climbs, ClimbsTo};
 
 // What an unused place of an array holds.
 pub fn blank_node() -> Node
@@ -33,32 +36,48 @@ pub fn blank_node() -> Node
     }
 }
 
-// The node at hand, if there is one.
-pub fn node_or_blank(k: Kid) -> Node
-    ensures { λ r. ⌜ r ≡ nodeOr k ⌝ }
+// Nodes that are done with, in the first places of an array.
+pub struct Listed {
+    pub nodes: [Node; NODES],
+    pub count: usize,
+}
+
+// With one more, if it is at hand.
+pub fn list_kid(list: Listed, k: Kid) -> Listed
+    requires { ⌜ list .count + length (listed (toKid k)) ≤ 34 ⌝ }
+    ensures { λ r. ⌜ Lists list (listed (toKid k)) r ⌝ }
 {
     match k {
-        Kid::Away => blank_node(),
-        Kid::Here(n) => n,
+        Kid::Away => list,
+        Kid::Here(n) => {
+            let mut l = list;
+            let at = l.count;
+            l.nodes[at] = n;
+            l.count = at + 1;
+            l
+        }
     }
 }
 
-// How many nodes are at hand: one or none.
-pub fn size_of(k: Kid) -> usize
-    ensures { λ r. ⌜ (r ≡ length (listed (toKid k))) × (r ≤ 1) ⌝ }
+// With what a level of the climb is done with.
+fn list_level(list: Listed, aside: Kid, others: Others) -> Listed
+    requires { ⌜ list .count + length (listed (toKid aside) ++ listOf others) ≤ 34 ⌝ }
+    ensures { λ r. ⌜ Lists list (listed (toKid aside) ++ listOf others) r ⌝ }
 {
-    match k {
-        Kid::Away => 0,
-        Kid::Here(_) => 1,
-    }
+    let left = others.left;
+    let right = others.right;
+    let top = others.top;
+    let first = list_kid(list, aside);
+    let second = list_kid(first, left);
+    let third = list_kid(second, right);
+    list_kid(third, top)
 }
 
 // A climb: the subtree at hand at its end, and the nodes that are done with; or the node that is missing.
 pub struct Climbed {
     pub wanted: Wanted,
     pub sub: Sub,
-    pub nodes: [Node; NODES],
-    pub count: usize,
+    pub list: Listed,
     pub next: usize,
 }
 
@@ -68,8 +87,8 @@ pub fn climb(rotating: bool, path: Path, bottom: Sub, held: Held, at: usize) -> 
     ensures { λ r. ⌜ ClimbsTo rotating path bottom held at r ⌝ }
 {
     let none = blank_node();
-    let mut nodes = [none; NODES];
-    let mut count: usize = 0;
+    let nodes = [none; NODES];
+    let mut list = Listed { nodes, count: 0 };
     let mut sub = bottom;
     let mut next = at;
     let mut i = path.count;
@@ -82,32 +101,20 @@ pub fn climb(rotating: bool, path: Path, bottom: Sub, held: Held, at: usize) -> 
             return Climbed {
                 wanted: Wanted::Fetch(w),
                 sub,
-                nodes,
-                count,
+                list,
                 next,
             };
         }
         let aside = r.aside;
-        nodes[count] = node_or_blank(aside);
-        count += size_of(aside);
         let others = r.others;
-        let left = others.left;
-        nodes[count] = node_or_blank(left);
-        count += size_of(left);
-        let right = others.right;
-        nodes[count] = node_or_blank(right);
-        count += size_of(right);
-        let top = others.top;
-        nodes[count] = node_or_blank(top);
-        count += size_of(top);
+        list = list_level(list, aside, others);
         sub = r.sub;
         next = r.next;
     }
     Climbed {
         wanted: Wanted::Done,
         sub,
-        nodes,
-        count,
+        list,
         next,
     }
 }

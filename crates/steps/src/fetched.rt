@@ -1,10 +1,15 @@
 // What a fetched node is asked, and what becomes of the fetched nodes where a store closes before the step.
+use super::Answer;
 use super::Bound;
+use super::Came;
 use super::FETCHES;
 use super::From;
 use super::Held;
+use super::NODES;
+use super::Outcome;
 use super::Want;
 use super::balance::is_tall;
+use super::climb::blank_node;
 use super::rotation::child_link;
 use super::rotation::taller;
 use super::rotation::with_child;
@@ -16,8 +21,9 @@ ghost use lib.ListN.{length};
 ghost use Rattle.method.specs.Map as map;
 ghost use Rattle.method.specs.Stack.{stackTest};
 ghost use Rattle.steps.specs.Method.{toLink, toNode, toBound, toFrom, toWant, nodesOf};
-ghost use Rattle.steps.specs.Moved.{movedIn, movedRoot};
-ghost use Rattle.steps.specs.MoveLaws.{MovedBy, MovedTo};
+ghost use mathlib.Core.List.{[], _∷_};
+ghost use Rattle.method.specs.Prog as prog;
+ghost use Rattle.steps.specs.Moved.{movedLink, movedIn, MovedBy, MovedTo, ClosedTo};
 
 // A key strictly between the nearest keys that the walk passed.
 fn is_between(low: Bound, high: Bound, key: u32) -> bool
@@ -97,7 +103,7 @@ fn moved_in(n: Node, from: From, tag: u16) -> Node
 }
 
 fn moved_root(root: Link, from: From, tag: u16) -> Link
-    ensures { λ r. ⌜ toLink r ≡ movedRoot (toFrom from) tag (toLink root) ⌝ }
+    ensures { λ r. ⌜ toLink r ≡ movedLink (record { from = toFrom from; tag = tag } ∷ []) prog.root (toLink root) ⌝ }
 {
     let mut link = root;
     if let From::Root = from {
@@ -127,17 +133,18 @@ pub struct Moved {
     pub root: Link,
 }
 
-// Each link that was followed carries the new tag of the node that it led to; `froms` says where it stood.
-pub fn move_tags(held: Held, froms: [From; FETCHES], root: Link) -> Moved
+// Each link that was followed carries the new tag of the node that it led to; `came` says where it stood.
+pub fn move_tags(held: Held, came: [Came; FETCHES], root: Link) -> Moved
     requires { ⌜ held .count ≤ 33 ⌝ }
-    ensures { λ r. ⌜ MovedTo held froms root r ⌝ }
+    ensures { λ r. ⌜ MovedTo held came root r ⌝ }
 {
     let mut h = held;
     let mut link = root;
     let mut i: usize = 0;
     while i < held.count {
         let n = held.nodes[i];
-        let from = froms[i];
+        let c = came[i];
+        let from = c.from;
         h = moved_by(h, from, n.tag);
         link = moved_root(link, from, n.tag);
         i += 1;
@@ -145,5 +152,30 @@ pub fn move_tags(held: Held, froms: [From; FETCHES], root: Link) -> Moved
     Moved {
         held: h,
         root: link,
+    }
+}
+
+// What a call leaves that ends before its step: the held nodes as they were fetched, with only tags moved.
+pub fn closed(held: Held, came: [Came; FETCHES], root: Link, entries: u16) -> Outcome
+    requires { ⌜ held .count ≤ 33 ⌝ }
+    ensures { λ r. ⌜ ClosedTo held came root entries r ⌝ }
+{
+    let moved = move_tags(held, came, root);
+    let h = moved.held;
+    let link = moved.root;
+    let none = blank_node();
+    let mut nodes = [none; NODES];
+    let mut i: usize = 0;
+    while i < h.count {
+        let n = h.nodes[i];
+        nodes[i] = n;
+        i += 1;
+    }
+    Outcome {
+        nodes,
+        count: h.count,
+        root: link,
+        entries,
+        answer: Answer::Absent,
     }
 }

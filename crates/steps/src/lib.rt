@@ -42,6 +42,11 @@ pub enum From {
     Side(u32, bool),
 }
 
+// Where the link to a fetched node stood.
+pub struct Came {
+    pub from: From,
+}
+
 // The nearest key that a walk passed, below or above.
 pub enum Bound {
     Open,
@@ -90,7 +95,7 @@ pub struct Path {
     pub count: usize,
 }
 
-// A step: the nodes that wait again, the root link, the entries and the answer.
+// A step, or what a call leaves that ends before it: the nodes that wait again, the root link, the entries and the answer.
 pub struct Outcome {
     pub nodes: [Node; NODES],
     pub count: usize,

@@ -15,11 +15,11 @@ ghost use Rattle.method.specs.Stack.{pushProg, popProg};
 ghost use Rattle.steps.specs.Method.{toLink, toOutcome, toWanted, nodesOf};
 ghost use Rattle.steps.specs.Resume.{resume};
 ghost use Rattle.steps.specs.Raise.{HeldFrom};
-ghost use Rattle.steps.specs.Outcome.{wantedOf, outcomeOf};
+ghost use Rattle.steps.specs.Outcome.{InPlaces, wantedOf, outcomeOf};
 
 // A push fetches none: a node with key entries + 1 whose left link is the old top.
 pub fn push(value: u64, tag: u16, limit: u16, entries: u16, root: Link, held: Held) -> Outcome
-    ensures { λ r. ⌜ toOutcome r ≡ outcomeOf (toLink root) entries (resume (pushProg 0 value tag entries limit (toLink root)) (nodesOf held)) ⌝ }
+    ensures { λ r. ⌜ (toOutcome r ≡ outcomeOf (toLink root) entries (resume (pushProg 0 value tag entries limit (toLink root)) (nodesOf held))) × InPlaces r ⌝ }
 {
     if entries >= limit {
         return no_nodes(root, entries, Answer::Full);
@@ -68,7 +68,7 @@ pub fn pop_wanted(entries: u16, root: Link, held: Held) -> Wanted
 // The root link becomes the top's left link.
 pub fn pop(entries: u16, root: Link, held: Held) -> Outcome
     requires { ⌜ HeldFrom 100 held 0 ⌝ }
-    ensures { λ r. ⌜ toOutcome r ≡ outcomeOf (toLink root) entries (resume (popProg entries (toLink root)) (nodesOf held)) ⌝ }
+    ensures { λ r. ⌜ (toOutcome r ≡ outcomeOf (toLink root) entries (resume (popProg entries (toLink root)) (nodesOf held))) × InPlaces r ⌝ }
 {
     if root.height == 0 {
         return no_nodes(root, entries, Answer::Empty);

@@ -8,8 +8,7 @@ use super::Wanted;
 use super::climb::Climbed;
 use super::climb::blank_node;
 use super::climb::climb;
-use super::climb::node_or_blank;
-use super::climb::size_of;
+use super::climb::list_kid;
 use super::paths::path_to;
 use super::subtree::kid_of;
 use super::subtree::link_of;
@@ -22,11 +21,11 @@ ghost use Rattle.steps.specs.Method.{toLink, toAnswer, toOutcome, toWant
 ghost use Rattle.steps.specs.Climb.{climbedOf};
 ghost use Rattle.steps.specs.Walk.{Walks};
 ghost use Rattle.steps.specs.Bottom.{Ready};
-ghost use Rattle.steps.specs.Outcome.{RoomToFinish, Rises, fromBottom, wantedOf, outcomeOf};
+ghost use Rattle.steps.specs.Outcome.{InPlaces, RoomToFinish, Rises, fromBottom, wantedOf, outcomeOf};
 
 // A step that makes no nodes.
 pub fn no_nodes(root: Link, entries: u16, answer: Answer) -> Outcome
-    ensures { λ r. ⌜ toOutcome r ≡ nothing (toLink root) entries (toAnswer answer) ⌝ }
+    ensures { λ r. ⌜ (toOutcome r ≡ nothing (toLink root) entries (toAnswer answer)) × InPlaces r ⌝ }
 {
     let none = blank_node();
     let nodes = [none; NODES];
@@ -52,24 +51,21 @@ pub fn rise(b: Bottom, key: u32, root: Link, held: Held) -> Climbed
 // The outcome of a climb that came to its end: the nodes at hand there are done with too.
 pub fn finish(c: Climbed, entries: u16, answer: Answer) -> Outcome
     requires { ⌜ RoomToFinish c ⌝ }
-    ensures { λ r. ⌜ toOutcome r ≡ map.finish entries (toAnswer answer) (climbedOf c) ⌝ }
+    ensures { λ r. ⌜ (toOutcome r ≡ map.finish entries (toAnswer answer) (climbedOf c)) × InPlaces r ⌝ }
 {
     let sub = c.sub;
-    let mut nodes = c.nodes;
-    let mut count = c.count;
+    let list = c.list;
     let left = kid_of(true, sub);
-    nodes[count] = node_or_blank(left);
-    count += size_of(left);
     let right = kid_of(false, sub);
-    nodes[count] = node_or_blank(right);
-    count += size_of(right);
     let top = top_of(sub);
-    nodes[count] = node_or_blank(top);
-    count += size_of(top);
+    let some = list_kid(list, left);
+    let more = list_kid(some, right);
+    let all = list_kid(more, top);
+    let nodes = all.nodes;
     let root = link_of(sub);
     Outcome {
         nodes,
-        count,
+        count: all.count,
         root,
         entries,
         answer,
@@ -95,7 +91,7 @@ pub fn map_wanted(b: Bottom, key: u32, root: Link, held: Held) -> Wanted
 // The step of an operation of the map.
 pub fn map_step(b: Bottom, key: u32, entries: u16, root: Link, held: Held) -> Outcome
     requires { ⌜ Walks root held × (b .wanted ≡ Done → Ready key root held b) ⌝ }
-    ensures { λ r. ⌜ toOutcome r ≡ outcomeOf (toLink root) entries (fromBottom key root held b) ⌝ }
+    ensures { λ r. ⌜ (toOutcome r ≡ outcomeOf (toLink root) entries (fromBottom key root held b)) × InPlaces r ⌝ }
 {
     let wanted = b.wanted;
     if let Wanted::Fetch(_) = wanted {

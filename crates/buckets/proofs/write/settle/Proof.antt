@@ -36,7 +36,7 @@ returns c =
     let a = b .args in
     let o = c .before .before .before .before .before .before .before .before .take-out in
     let p = c .before .before .before .before .before .write-path in
-    settled (a .size) (a .leaf) (a .m) (o .result) (a .wanted) (a .at) (a .s .now) (o .last .0) (a .tree .now) (p .last .0) (c .copy .last .1 .1 .0) (p .last .1 .1 .0) (p .result) (o .ensures .1) (o .ensures .2) (p .ensures) (c .copy .ensures .0) (c .copy .ensures .1)
+    settled (a .size) (a .leaf) (a .m) (o .result) (a .wanted) (a .at) (a .s .now) (o .last .0) (a .tree .now) (p .last .0) (c .copy .last .1 .1 .0) (p .last .1 .1 .0) (p .result) (b .pre .room) (o .ensures .1) (o .ensures .2) (p .ensures) (c .copy .ensures .0) (c .copy .ensures .1)
 
 pub settle-spec : {M : Type 1} → statement M
 settle-spec =

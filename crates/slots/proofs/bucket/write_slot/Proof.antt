@@ -16,7 +16,7 @@ same-length : tie.Need-same-length
 same-length c = search needs
 
 returns : tie.Need-returns
-returns c = let a = c .before .before .before .before .before .before .args in c .before .before .store .ensures ∙ ap (sets (a .tree .now) (a .at)) (c .before .before .before .slot-of .ensures)
+returns c = let a = c .before .before .before .before .before .before .args in c .before .before .store .ensures ∙ ap (sets (a .tree .now) (a .at)) (c .before .before .before .slot-of .ensures .0)
 
 pub write-slot-spec : {M : Type 1} → statement M
 write-slot-spec = tie.close (tie.spec slot-of-requires store-requires same-length returns)

@@ -1,4 +1,5 @@
 -- `slots::codec::slot_of` meets its contract: the words of a node are its bytes.
+use mathlib.Core.Path.{refl}
 use Rattle.slots.specs.Slot.{slotOf}
 use Rattle.slots.specs.SlotLaws.{slot-encoded}
 use Rattle.slots.proofs.Ranges.{node-ranges}
@@ -71,7 +72,7 @@ returns : tie.Need-returns
 unfolding slotOf
 returns c =
     let n = c .before .before .before .before .before .before .before .before .args .n in
-    slot-encoded n (node-ranges n (c .struct-known8 .given))
+    (slot-encoded n (node-ranges n (c .struct-known8 .given)), refl)
 
 pub slot-of-spec : {M : Type 1} → statement M
 slot-of-spec =

@@ -1,7 +1,5 @@
-use mathlib.Core.Path.{_≡_, _∙_, ap, refl}
 use Rattle.steps.specs.Method.{toNode}
 use Rattle.steps.specs.BalanceLaws.{balance-kept, balance-fits, balance-negated}
-use native.Mathlib.Omega.{arith}
 use borrow.Author.Needs.{needs}
 use Rattle.steps.proofs.balance.lean.Statement.{statement}
 use Rattle.steps.proofs.balance.lean.Tie as tie

@@ -1,6 +1,5 @@
 use Rattle.steps.specs.Method.{toNode}
 use Rattle.steps.specs.BalanceLaws.{out-test}
-use native.Mathlib.Omega.{arith}
 use borrow.Author.Needs.{needs}
 use Rattle.steps.proofs.balance.leans_out.Statement.{statement}
 use Rattle.steps.proofs.balance.leans_out.Tie as tie

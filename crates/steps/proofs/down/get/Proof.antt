@@ -1,6 +1,5 @@
-use mathlib.Core.Path.{_≡_, refl, subst, sym, _∙_, ap}
-use mathlib.Core.Bool.{Bool, true, false}
-use Prim.Native.Nat.{ℕ}
+use mathlib.Core.Path.{refl}
+use mathlib.Core.Bool.{false}
 use native.Mathlib.Omega.{arith}
 use Rattle.method.specs.Prog.{done}
 use Rattle.method.specs.Map.{start, getStep}
@@ -9,7 +8,6 @@ use Rattle.steps.specs.declared.Sub.the-variants.{Stub, Top}
 use Rattle.steps.specs.declared.Answer.the-variants.{Absent, Found}
 use lib.ListN.{getD}
 use Rattle.steps.specs.Method.{toLink, toNode, toWant, blank}
-use Rattle.steps.specs.HeldLaws.{heldAt}
 use Rattle.steps.specs.Walk.{trail, byKey}
 use Rattle.steps.specs.BottomLaws.{get-is, get-gap, get-hit, starts-missing, starts-gap, starts-hit, hit-within, hit-low}
 use borrow.Author.Needs.{needs}

@@ -1,11 +1,10 @@
-use mathlib.Core.Path.{_≡_, refl, subst, sym, _∙_, ap}
-use mathlib.Core.Bool.{Bool, true, false}
+use mathlib.Core.Path.{refl, subst, sym}
+use mathlib.Core.Bool.{true, false}
 use Prim.Native.Nat.{ℕ, _+_}
 use native.Mathlib.Omega.{arith}
 use native.Mathlib.Numerals.{add-one}
 use lib.ListN.{getD}
 use Rattle.method.specs.Node.{Node}
-use Rattle.method.specs.Prog.{done}
 use Rattle.method.specs.Map.{start, putStep}
 use Rattle.steps.specs.declared.Kid.the-variants.{Away}
 use Rattle.steps.specs.declared.Sub.the-variants.{Stub, Top}

@@ -1,10 +1,9 @@
-use mathlib.Core.Path.{_≡_, refl, subst, sym, _∙_, ap}
-use mathlib.Core.Bool.{Bool, true, false}
-use Prim.Native.Nat.{ℕ, _+_, pred}
+use mathlib.Core.Path.{refl}
+use mathlib.Core.Bool.{true, false}
 use native.Mathlib.Omega.{arith}
 use lib.ListN.{getD}
 use Rattle.method.specs.Map.{start, removeStep}
-use Rattle.steps.specs.declared.Sub.the-variants.{Stub, Top}
+use Rattle.steps.specs.declared.Sub.the-variants.{Stub}
 use Rattle.steps.specs.declared.Answer.the-variants.{Absent, Removed}
 use Rattle.steps.specs.Method.{toLink, toNode, toWant, blank}
 use Rattle.steps.specs.Walk.{trail, byKey}

@@ -1,6 +1,5 @@
 use Rattle.method.specs.Map.{between}
 use borrow.Author.Tests.{lt-ltb, le-ltb}
-use native.Mathlib.Omega.{arith}
 use borrow.Author.Needs.{needs}
 use Rattle.steps.proofs.fetched.is_between.Statement.{statement}
 use Rattle.steps.proofs.fetched.is_between.Tie as tie

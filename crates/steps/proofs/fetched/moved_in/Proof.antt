@@ -1,8 +1,6 @@
-use mathlib.Core.Path.{_≡_, sym, _∙_, ap}
-use Rattle.method.specs.Node.{withChild}
+use mathlib.Core.Path.{ap}
 use Rattle.steps.specs.Method.{toNode, toFrom}
-use Rattle.steps.specs.MoveLaws.{moved-here, moved-not-here}
-use native.Mathlib.Omega.{arith}
+use Rattle.steps.specs.MoveLaws.{moved-by-root, moved-here, moved-not-here}
 use borrow.Author.Needs.{needs}
 use Rattle.steps.proofs.fetched.moved_in.Statement.{statement}
 use Rattle.steps.proofs.fetched.moved_in.Tie as tie
@@ -31,16 +29,20 @@ with-child-requires c κs = search needs
 returns : tie.Need-returns
 returns c =
     let a = c .before .before .before .before .before .before .before .args in
-    rw (c .before .before .before .before .before .from .given .1)
-    (moved-here (toNode (a .n)) (c .before .before .before .before .before .from .given .0 .0) (c .before .before .before .before .before .from .given .0 .1 .0) (a .tag) (c .before .before .if1 .taken) (c .before .child-link .ensures) (c .with-child .ensures))
+    let from = c .before .before .before .before .before .from .given in
+    rw (from .1)
+    (moved-here (toNode (a .n)) (from .0 .0) (a .tag) (from .0 .1 .0) (c .before .before .if1 .taken) (c .before .child-link .ensures) (c .with-child .ensures))
 
 -- src/fetched.rt:83:1
 returns-2 : tie.Need-returns-2
-returns-2 c = rw (c .enum-told .given .1)
+returns-2 c = let a = c .before .before .args in moved-by-root (toNode (a .n)) (a .tag) (ap toFrom (c .enum-told .given .1))
 
 -- src/fetched.rt:83:1
 returns-3 : tie.Need-returns-3
-returns-3 c = let a = c .before .before .before .before .before .args in rw (c .before .before .before .from .given .1) (moved-not-here (toNode (a .n)) (c .before .before .before .from .given .0 .0) (c .before .before .before .from .given .0 .1 .0) (a .tag) (c .if1 .left))
+returns-3 c =
+    let a = c .before .before .before .before .before .args in
+    let from = c .before .before .before .from .given in
+    rw (from .1) (moved-not-here (toNode (a .n)) (from .0 .0) (a .tag) (from .0 .1 .0) (c .if1 .left))
 
 pub moved-in-spec : {M : Type 1} → statement M
 moved-in-spec =

@@ -1,10 +1,8 @@
-use mathlib.Core.Path.{_≡_, sym, _∙_}
 use Rattle.steps.specs.Method.{toLink}
 use Rattle.steps.specs.Walk.{Walks}
 use Rattle.steps.specs.OutcomeLaws.{walks-of}
 use Rattle.steps.proofs.Places.{unmapped}
 use Rattle.steps.specs.OperationLaws.{program-get, program-put, program-remove, program-push, program-pop, outcome-by, outcome-up}
-use native.Mathlib.Omega.{arith}
 use borrow.Author.Needs.{needs}
 use Rattle.steps.proofs.operation.step.Statement.{statement}
 use Rattle.steps.proofs.operation.step.Tie as tie
@@ -77,35 +75,41 @@ pop-requires c κs = walks (c .before .before) .held
 -- src/operation.rt:37:1
 returns : tie.Need-returns
 returns c =
-    let a = c .before .before .before .before .before .args in
-    outcome-up (program-get (a .op) (a .tag) (a .limit) (a .entries) (toLink (a .root)) (c .before .before .before .op .given .1)) (a .held) _ (a .root) (c .before .get .result) (c .before .get .ensures) (toLink (a .root)) (a .entries)
-    (c .map-step .ensures)
+    let a = c .before .before .before .before .before .args in (
+      outcome-up (program-get (a .op) (a .tag) (a .limit) (a .entries) (toLink (a .root)) (c .before .before .before .op .given .1)) (a .held) _ (a .root) (c .before .get .result) (c .before .get .ensures) (toLink (a .root)) (a .entries)
+          (c .map-step .ensures .0),
+      c .map-step .ensures .1,
+    )
 
 -- src/operation.rt:37:1
 returns-2 : tie.Need-returns-2
 returns-2 c =
-    let a = c .before .before .before .before .before .args in
-    outcome-up (program-put (a .op) (a .tag) (a .limit) (a .entries) (toLink (a .root)) (c .before .before .before .op2 .given .1)) (a .held) _ (a .root) (c .before .put .result) (c .before .put .ensures) (toLink (a .root)) (a .entries)
-    (c .map-step2 .ensures)
+    let a = c .before .before .before .before .before .args in (
+      outcome-up (program-put (a .op) (a .tag) (a .limit) (a .entries) (toLink (a .root)) (c .before .before .before .op2 .given .1)) (a .held) _ (a .root) (c .before .put .result) (c .before .put .ensures) (toLink (a .root)) (a .entries)
+          (c .map-step2 .ensures .0),
+      c .map-step2 .ensures .1,
+    )
 
 -- src/operation.rt:37:1
 returns-3 : tie.Need-returns-3
 returns-3 c =
-    let a = c .before .before .before .before .before .args in
-    outcome-up (program-remove (a .op) (a .tag) (a .limit) (a .entries) (toLink (a .root)) (c .before .before .before .op3 .given .1)) (a .held) _ (a .root) (c .before .remove .result) (c .before .remove .ensures) (toLink (a .root)) (a .entries)
-    (c .map-step3 .ensures)
+    let a = c .before .before .before .before .before .args in (
+      outcome-up (program-remove (a .op) (a .tag) (a .limit) (a .entries) (toLink (a .root)) (c .before .before .before .op3 .given .1)) (a .held) _ (a .root) (c .before .remove .result) (c .before .remove .ensures) (toLink (a .root)) (a .entries)
+          (c .map-step3 .ensures .0),
+      c .map-step3 .ensures .1,
+    )
 
 -- src/operation.rt:37:1
 returns-4 : tie.Need-returns-4
 returns-4 c =
     let a = c .before .before .before .before .args in
-    outcome-by (program-push (a .op) (a .tag) (a .limit) (a .entries) (toLink (a .root)) (c .before .before .op4 .given .1)) (a .held) (toLink (a .root)) (a .entries) (c .push .ensures)
+    (outcome-by (program-push (a .op) (a .tag) (a .limit) (a .entries) (toLink (a .root)) (c .before .before .op4 .given .1)) (a .held) (toLink (a .root)) (a .entries) (c .push .ensures .0), c .push .ensures .1)
 
 -- src/operation.rt:37:1
 returns-5 : tie.Need-returns-5
 returns-5 c =
     let a = c .before .before .before .args in
-    outcome-by (program-pop (a .op) (a .tag) (a .limit) (a .entries) (toLink (a .root)) (c .before .enum-told .given .1)) (a .held) (toLink (a .root)) (a .entries) (c .pop .ensures)
+    (outcome-by (program-pop (a .op) (a .tag) (a .limit) (a .entries) (toLink (a .root)) (c .before .enum-told .given .1)) (a .held) (toLink (a .root)) (a .entries) (c .pop .ensures .0), c .pop .ensures .1)
 
 pub step-spec : {M : Type 1} → statement M
 step-spec =

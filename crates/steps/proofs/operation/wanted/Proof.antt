@@ -1,10 +1,8 @@
-use mathlib.Core.Path.{_≡_, sym, _∙_}
 use Rattle.steps.specs.Method.{toLink}
 use Rattle.steps.specs.Walk.{Walks}
 use Rattle.steps.specs.OutcomeLaws.{walks-of}
 use Rattle.steps.proofs.Places.{unmapped}
 use Rattle.steps.specs.OperationLaws.{program-get, program-put, program-remove, program-push, program-pop, wanted-by, wanted-up, push-wants-none}
-use native.Mathlib.Omega.{arith}
 use borrow.Author.Needs.{needs}
 use Rattle.steps.proofs.operation.wanted.Statement.{statement}
 use Rattle.steps.proofs.operation.wanted.Tie as tie

@@ -1,5 +1,3 @@
-use Rattle.steps.specs.Climb.{blankStep}
-use native.Mathlib.Omega.{arith}
 use borrow.Author.Needs.{needs}
 use Rattle.steps.proofs.paths.blank_step.Statement.{statement}
 use Rattle.steps.proofs.paths.blank_step.Tie as tie

@@ -1,5 +1,3 @@
-use borrow.Author.Needs.{needs}
-use native.Mathlib.Omega.{arith}
 use Rattle.steps.proofs.paths.exchanged.Statement.{statement}
 use Rattle.steps.proofs.paths.exchanged.Tie as tie
 use Rattle.steps.proofs.paths.exchanged.Reads as reads

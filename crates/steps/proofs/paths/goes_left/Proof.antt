@@ -1,6 +1,4 @@
 use borrow.Author.Tests.{lt-ltb, le-ltb}
-use borrow.Author.Needs.{needs}
-use native.Mathlib.Omega.{arith}
 use Rattle.steps.proofs.paths.goes_left.Statement.{statement}
 use Rattle.steps.proofs.paths.goes_left.Tie as tie
 use Rattle.steps.proofs.paths.goes_left.Reads as reads

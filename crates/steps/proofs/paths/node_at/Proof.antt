@@ -1,5 +1,5 @@
-use mathlib.Core.Path.{_≡_, sym, _∙_}
-use lib.ListN.{length, List·getD-eq-default}
+use mathlib.Core.Path.{sym, _∙_}
+use lib.ListN.{List·getD-eq-default}
 use native.Mathlib.Omega.{arith}
 use Rattle.steps.specs.Method.{blank}
 use borrow.Author.Needs.{needs}

@@ -1,5 +1,5 @@
-use mathlib.Core.Path.{_≡_, refl, subst, sym, _∙_, ap}
-use Prim.Native.Nat.{ℕ, _-_, _≤_}
+use mathlib.Core.Path.{refl}
+use Prim.Native.Nat.{_-_}
 use native.Mathlib.Omega.{arith}
 use Rattle.method.specs.Map.{below}
 use Rattle.steps.specs.Method.{toWant}

@@ -1,13 +1,7 @@
-use mathlib.Core.Path.{_≡_, subst, sym}
-use mathlib.Core.Option.{Option}
-use Prim.Native.Nat.{ℕ}
-use native.Mathlib.Omega.{arith}
-use lib.ListN.{length}
-use Rattle.method.specs.Node.{Node}
+use mathlib.Core.Path.{subst}
 use Rattle.steps.specs.declared.Kid.{Kid}
 use Rattle.steps.specs.Method.{toKid}
 use Rattle.steps.specs.Heights.{LowKid}
-use Rattle.steps.specs.Raise.{HeldFrom, Opens}
 use Rattle.steps.specs.RaiseLaws.{opens-here, opens-next, opens-none}
 use borrow.Author.Needs.{needs}
 use Rattle.steps.proofs.raise.open_kid.Statement.{statement}

@@ -1,10 +1,10 @@
-use mathlib.Core.Path.{_≡_, subst, sym, _∙_}
+use mathlib.Core.Path.{subst, sym, _∙_}
 use mathlib.Core.Bool.{true, false}
 use Prim.Native.Nat.{ℕ}
 use native.Mathlib.Omega.{arith}
 use Rattle.method.specs.Node.{Node}
 use Rattle.method.specs.Map.{placed}
-use Rattle.steps.specs.Method.{toNode, toStep, toSub}
+use Rattle.steps.specs.Method.{toStep, toSub}
 use Rattle.steps.specs.Heights.{Low}
 use Rattle.steps.specs.HeightLaws.{low-more, low-sub-more, low-placed, low-near}
 use Rattle.steps.specs.RaiseLaws.{raises-left, raises-right, raises-rest, raises-level-rest}

@@ -1,6 +1,5 @@
 use Rattle.steps.specs.Method.{toStep, toSub}
 use Rattle.steps.specs.RaiseLaws.{raises-rest}
-use native.Mathlib.Omega.{arith}
 use borrow.Author.Needs.{needs}
 use Rattle.steps.proofs.raise.raise_or_rest.Statement.{statement}
 use Rattle.steps.proofs.raise.raise_or_rest.Tie as tie

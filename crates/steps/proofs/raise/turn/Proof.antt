@@ -1,11 +1,10 @@
-use mathlib.Core.Path.{_≡_, subst, sym, _∙_, ap}
+use mathlib.Core.Path.{subst, _∙_, ap}
 use native.Mathlib.Omega.{arith}
 use Rattle.method.specs.Map.{beside}
 use Rattle.steps.specs.declared.Kid.{Kid}
 use Rattle.steps.specs.Method.{toNode, toKid, toSub, toStep}
 use Rattle.steps.specs.Heights.{LowKid}
 use Rattle.steps.specs.HeightLaws.{low-more, low-top}
-use Rattle.steps.specs.Raise.{HeldFrom}
 use Rattle.steps.specs.RaiseLaws.{raises-missing, raises-turn}
 use borrow.Author.Needs.{needs}
 use Rattle.steps.proofs.raise.turn.Statement.{statement}

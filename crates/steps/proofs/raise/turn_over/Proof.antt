@@ -1,10 +1,7 @@
-use mathlib.Core.Path.{_≡_, subst, sym, _∙_, ap}
+use mathlib.Core.Path.{subst, sym, _∙_, ap}
 use mathlib.Core.Bool.{not}
-use mathlib.Core.Option.{Option}
-use Prim.Native.Nat.{ℕ}
 use native.Mathlib.Omega.{arith}
-use Rattle.method.specs.Node.{Node, child}
-use Rattle.method.specs.Map.{below, stepAt, beside}
+use Rattle.method.specs.Map.{below, beside}
 use Rattle.steps.specs.declared.Kid.{Kid}
 use Rattle.steps.specs.Method.{toNode, toKid, toSub, toStep}
 use Rattle.steps.specs.Heights.{LowKid}

@@ -1,5 +1,3 @@
-use borrow.Author.Needs.{needs}
-use native.Mathlib.Omega.{arith}
 use Rattle.steps.proofs.rotation.child_link.Statement.{statement}
 use Rattle.steps.proofs.rotation.child_link.Tie as tie
 use Rattle.steps.proofs.rotation.child_link.Reads as reads

@@ -3,7 +3,7 @@ use mathlib.Core.Bool.{not}
 use Prim.Native.Nat.{ℕ}
 use native.Mathlib.Omega.{arith}
 use Rattle.method.specs.Map.{Rotated}
-use Rattle.steps.specs.Method.{toNode, toRotated}
+use Rattle.steps.specs.Method.{toNode}
 use Rattle.steps.specs.Heights.{Low}
 use Rattle.steps.specs.HeightLaws.{low-more, low-up}
 use Rattle.steps.specs.RotationLaws.{double-is}

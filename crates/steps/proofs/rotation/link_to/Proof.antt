@@ -1,5 +1,4 @@
 use native.Mathlib.Numerals.{add-one}
-use native.Mathlib.Omega.{arith}
 use borrow.Author.Needs.{needs}
 use Rattle.steps.proofs.rotation.link_to.Statement.{statement}
 use Rattle.steps.proofs.rotation.link_to.Tie as tie

@@ -6,7 +6,6 @@ use Rattle.method.specs.Node.{Node}
 use Rattle.steps.specs.Method.{toNode, toLink}
 use Rattle.steps.specs.Heights.{Low}
 use Rattle.steps.specs.HeightLaws.{low-child, low-with}
-use native.Mathlib.Omega.{arith}
 use borrow.Author.Needs.{needs}
 use Rattle.steps.proofs.rotation.rotate.Statement.{statement}
 use Rattle.steps.proofs.rotation.rotate.Tie as tie

@@ -1,5 +1,3 @@
-use borrow.Author.Needs.{needs}
-use native.Mathlib.Omega.{arith}
 use Rattle.steps.proofs.rotation.seated.Statement.{statement}
 use Rattle.steps.proofs.rotation.seated.Tie as tie
 use Rattle.steps.proofs.rotation.seated.Reads as reads

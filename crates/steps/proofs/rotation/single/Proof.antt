@@ -1,6 +1,5 @@
 use Rattle.steps.specs.Method.{toNode, toKid}
 use Rattle.steps.specs.RotationLaws.{single-is}
-use native.Mathlib.Omega.{arith}
 use borrow.Author.Needs.{needs}
 use Rattle.steps.proofs.rotation.single.Statement.{statement}
 use Rattle.steps.proofs.rotation.single.Tie as tie

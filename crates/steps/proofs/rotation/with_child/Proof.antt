@@ -1,5 +1,3 @@
-use borrow.Author.Needs.{needs}
-use native.Mathlib.Omega.{arith}
 use Rattle.steps.proofs.rotation.with_child.Statement.{statement}
 use Rattle.steps.proofs.rotation.with_child.Tie as tie
 use Rattle.steps.proofs.rotation.with_child.Reads as reads

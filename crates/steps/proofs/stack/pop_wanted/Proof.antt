@@ -1,9 +1,7 @@
-use mathlib.Core.Path.{_≡_, sym, _∙_, ap}
+use mathlib.Core.Path.{ap}
 use mathlib.Core.Option.{some}
-use native.Mathlib.Omega.{arith}
 use Rattle.steps.specs.Method.{toLink, nodesOf}
 use Rattle.steps.specs.StackLaws.{pop-empty, pop-held-none, pop-held}
-use Rattle.steps.specs.HeldLaws.{heldAt, held-next, held-none}
 use borrow.Author.Needs.{needs}
 use Rattle.steps.proofs.stack.pop_wanted.Statement.{statement}
 use Rattle.steps.proofs.stack.pop_wanted.Tie as tie

@@ -1,8 +1,6 @@
-use mathlib.Core.Path.{_≡_, sym, _∙_, ap}
 use native.Mathlib.Numerals.{add-one}
 use Rattle.steps.specs.Method.{toLink, nodesOf}
 use Rattle.steps.specs.StackLaws.{push-full, push-one}
-use native.Mathlib.Omega.{arith}
 use borrow.Author.Needs.{needs}
 use Rattle.steps.proofs.stack.push.Statement.{statement}
 use Rattle.steps.proofs.stack.push.Tie as tie
@@ -17,7 +15,7 @@ no-nodes-requires c κs = search needs
 
 -- src/stack.rt:25:9
 returns : tie.Need-returns
-returns c = let a = c .before .before .args in rw (push-full (a .value) (a .tag) (a .entries) (a .limit) (toLink (a .root)) (nodesOf (a .held)) (c .before .if1 .taken)) (c .no-nodes .ensures)
+returns c = let a = c .before .before .args in (rw (push-full (a .value) (a .tag) (a .entries) (a .limit) (toLink (a .root)) (nodesOf (a .held)) (c .before .if1 .taken)) (c .no-nodes .ensures .0), c .no-nodes .ensures .1)
 
 -- src/stack.rt:27:16
 add-more : tie.Need-add-more
@@ -37,7 +35,7 @@ array-set-from-nodes c = search needs
 
 -- src/stack.rt:21:1
 returns-2 : tie.Need-returns-2
-returns-2 c = let a = c .before .before .before .args in rw (push-one (a .value) (a .tag) (a .entries) (a .limit) (toLink (a .root)) (nodesOf (a .held)) (c .before .before .if1 .left)) (rw (c .before .blank-node .ensures, add-one (a .entries)))
+returns-2 c = let a = c .before .before .before .args in (rw (push-one (a .value) (a .tag) (a .entries) (a .limit) (toLink (a .root)) (nodesOf (a .held)) (c .before .before .if1 .left)) (rw (c .before .blank-node .ensures, add-one (a .entries))), search needs)
 
 pub push-spec : {M : Type 1} → statement M
 push-spec =

@@ -2,7 +2,6 @@ use mathlib.Core.Path.{subst}
 use Rattle.steps.specs.Method.{toSub}
 use Rattle.steps.specs.declared.Sub.{Sub}
 use Rattle.steps.specs.Heights.{LowSub}
-use native.Mathlib.Omega.{arith}
 use borrow.Author.Needs.{needs}
 use Rattle.steps.proofs.subtree.link_of.Statement.{statement}
 use Rattle.steps.proofs.subtree.link_of.Tie as tie

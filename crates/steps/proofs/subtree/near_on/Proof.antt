@@ -1,4 +1,3 @@
-use native.Mathlib.Omega.{arith}
 use borrow.Author.Needs.{needs}
 use Rattle.steps.proofs.subtree.near_on.Statement.{statement}
 use Rattle.steps.proofs.subtree.near_on.Tie as tie

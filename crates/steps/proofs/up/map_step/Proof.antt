@@ -1,6 +1,5 @@
-use mathlib.Core.Path.{_≡_, sym, _∙_}
+use mathlib.Core.Path.{sym, _∙_}
 use Rattle.steps.specs.OutcomeLaws.{from-missing, from-climbing, from-climbed}
-use native.Mathlib.Omega.{arith}
 use borrow.Author.Needs.{needs}
 use Rattle.steps.proofs.up.map_step.Statement.{statement}
 use Rattle.steps.proofs.up.map_step.Tie as tie
@@ -20,7 +19,7 @@ no-nodes-requires c κs = search needs
 
 -- src/up.rt:102:9
 returns : tie.Need-returns
-returns c = let a = c .before .before .before .args in rw (from-missing (a .key) (a .root) (a .held) (a .b) (c .before .enum-told .given .1)) (c .no-nodes .ensures)
+returns c = let a = c .before .before .before .args in (rw (from-missing (a .key) (a .root) (a .held) (a .b) (c .before .enum-told .given .1)) (c .no-nodes .ensures .0), c .no-nodes .ensures .1)
 
 enum-told-2 : tie.Need-enum-told-2
 enum-told-2 c = search needs
@@ -39,7 +38,7 @@ no-nodes-requires-2 c κs = search needs
 
 -- src/up.rt:107:9
 returns-2 : tie.Need-returns-2
-returns-2 c = let a = c .before .before .before .before .before .before .args in rw (from-climbing (a .key) (a .root) (a .held) (a .b) (c .before .before .before .before .enum-told2 .given .1) (c .before .before .before .rise .ensures) (c .before .enum-told3 .given .1)) (c .no-nodes2 .ensures)
+returns-2 c = let a = c .before .before .before .before .before .before .args in (rw (from-climbing (a .key) (a .root) (a .held) (a .b) (c .before .before .before .before .enum-told2 .given .1) (c .before .before .before .rise .ensures) (c .before .enum-told3 .given .1)) (c .no-nodes2 .ensures .0), c .no-nodes2 .ensures .1)
 
 enum-told-4 : tie.Need-enum-told-4
 enum-told-4 c = search needs
@@ -52,7 +51,7 @@ finish-requires c κs = c .before .before .rise .ensures .room
 returns-3 : tie.Need-returns-3
 returns-3 c =
     let a = c .before .before .before .before .before .before .args in
-    c .finish .ensures ∙ sym (from-climbed (a .key) (a .root) (a .held) (a .b) (c .before .before .before .before .enum-told2 .given .1) (c .before .before .before .rise .ensures) (a .entries) (c .before .enum-told4 .given .1))
+    (c .finish .ensures .0 ∙ sym (from-climbed (a .key) (a .root) (a .held) (a .b) (c .before .before .before .before .enum-told2 .given .1) (c .before .before .before .rise .ensures) (a .entries) (c .before .enum-told4 .given .1)), c .finish .ensures .1)
 
 pub map-step-spec : {M : Type 1} → statement M
 map-step-spec =

@@ -1,7 +1,6 @@
-use mathlib.Core.Path.{_≡_, sym, _∙_}
-use borrow.Author.Tests.{not-true, not-false}
+use mathlib.Core.Path.{sym}
+use borrow.Author.Tests.{not-true}
 use Rattle.steps.specs.OutcomeLaws.{from-missing, from-resting, from-rising}
-use native.Mathlib.Omega.{arith}
 use borrow.Author.Needs.{needs}
 use Rattle.steps.proofs.up.map_wanted.Statement.{statement}
 use Rattle.steps.proofs.up.map_wanted.Tie as tie

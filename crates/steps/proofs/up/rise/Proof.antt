@@ -1,6 +1,5 @@
 use native.Mathlib.Omega.{arith}
 use Rattle.steps.specs.OutcomeLaws.{rise-asks, rises}
-use borrow.Author.Needs.{needs}
 use Rattle.steps.proofs.up.rise.Statement.{statement}
 use Rattle.steps.proofs.up.rise.Tie as tie
 use Rattle.steps.proofs.up.rise.Reads as reads

@@ -1,10 +1,10 @@
-use mathlib.Core.Path.{_≡_, subst, sym, _∙_, ap}
+use mathlib.Core.Path.{subst, sym, _∙_, ap}
 use Prim.Native.Nat.{ℕ, _≤_}
 use native.Mathlib.Omega.{arith}
 use Rattle.method.specs.Prog.{Want}
 use Rattle.method.specs.Map.{below}
 use Rattle.steps.specs.Method.{toWant}
-use Rattle.steps.specs.Walk.{Descending, DescendsTo}
+use Rattle.steps.specs.Walk.{Descending}
 use Rattle.steps.specs.WalkLaws.{descends-from, descend-start, descend-gap, descend-spent, descend-missing, descend-hit, descend-turn}
 use borrow.Author.Needs.{needs}
 use Rattle.steps.proofs.walk.descend.Statement.{statement}

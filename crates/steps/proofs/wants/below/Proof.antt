@@ -1,4 +1,3 @@
-use native.Mathlib.Omega.{arith}
 use borrow.Author.Needs.{needs}
 use Rattle.steps.proofs.wants.below.Statement.{statement}
 use Rattle.steps.proofs.wants.below.Tie as tie

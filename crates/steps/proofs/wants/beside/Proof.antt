@@ -1,5 +1,3 @@
-use borrow.Author.Needs.{needs}
-use native.Mathlib.Omega.{arith}
 use Rattle.steps.proofs.wants.beside.Statement.{statement}
 use Rattle.steps.proofs.wants.beside.Tie as tie
 use Rattle.steps.proofs.wants.beside.Reads as reads

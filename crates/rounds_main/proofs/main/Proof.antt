@@ -1,0 +1,18 @@
+-- `rounds_main::main` is safe and ends.
+use native.Mathlib.Omega.{arith}
+use borrow.Author.Needs.{needs}
+use Rattle.single_rounds.specs.SingleLaws.{none-waits}
+use Rattle.rounds_main.proofs.main.Statement.{statement}
+use Rattle.rounds_main.proofs.main.Tie as tie
+
+slice-aggregate-run : tie.Need-slice-aggregate-run
+slice-aggregate-run c = search needs
+
+run-requires : tie.Need-run-requires
+run-requires c κs = (none-waits 2 _ _ _ (omega arith) (search needs) (search needs) (search needs), search needs)
+
+returns : tie.Need-returns
+returns c = search needs
+
+pub main-spec : {M : Type 1} → statement M
+main-spec = tie.close (tie.spec slice-aggregate-run run-requires returns)

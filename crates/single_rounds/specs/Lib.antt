@@ -1,0 +1,2 @@
+pub mod Single
+pub mod SingleLaws

@@ -91,11 +91,11 @@ within-none stops e w c q = let z : _≡_ {A = ℕ} 0 1 = cc in omega arith
 within-none (asks {n = n} more) e w c q = let z : suc n ≡ 0 = e in omega arith
 
 module _ {s : Structure} (k F : ℕ) (op : Op s) (draw : ℕ → ℕ) (st : Store) where
-  left-shut : (m : ℕ) (g : Going) → fetchedBy k F op draw st ≡ shut m g → bucketCall k F op draw st ≡ closing m (st .entries) (st .root) g
+  pub left-shut : (m : ℕ) (g : Going) → fetchedBy k F op draw st ≡ shut m g → bucketCall k F op draw st ≡ closing m (st .entries) (st .root) g
   unfolding bucketCall afterFetches
   left-shut m g e = rw e
 
-  left-on : (g : Going) (o : Outcome ℕ) → fetchedBy k F op draw st ≡ on g (done o)
+  pub left-on : (g : Going) (o : Outcome ℕ) → fetchedBy k F op draw st ≡ on g (done o)
       → bucketCall k F op draw st ≡ afterPuts o (putRounds k draw F (F + 1) o (stepped o g))
   unfolding bucketCall afterFetches
   left-on g o e = rw e

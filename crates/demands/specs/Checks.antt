@@ -7,7 +7,7 @@ use mathlib.Core.Option.{Option, none, some}
 use lib.Dec.{eqb, ltb}
 use lib.ListN.{length}
 use native.Mathlib.Omega.{arith}
-use borrow.Author.Tests.{eqb-false}
+use borrow.Author.Tests.{eqb-true, eqb-false}
 use Rattle.basics.specs.Choice.{pick}
 use Rattle.slots.specs.Tree.{treeLength}
 use Rattle.method.specs.Answer.{Structure, Op}
@@ -24,31 +24,34 @@ module _ (st : Structure) (s : State) (tree ticket tape trace : List ℕ) where
   abbrev pub leftBy : Op st → Left
   leftBy op = bucketCall (s .size) (rounds st (s .size)) op (drawOf (s .size) tape) (storeOf s tree)
 
-  -- What a call comes to: refusal 1, 2 or 3, one of the refusals 4 to 7 that what it brings decides, or the rounds.
+  -- What a call comes to: refusal 1, 2 or 3, one of the refusals 4 to 7 that what it brings decides, or, on a fit state and a tree of its
+  -- size, the rounds.
   pub data Verdict (e : Ended) : Type 0 where
     closed : (s .mark ≡ 0 → ⊥) → e ≡ refusing 1 s tree trace → Verdict e
     unfit : fits s ≡ false → e ≡ refusing 2 s tree trace → Verdict e
     other-tree : (length tree ≡ treeLength (s .size) → ⊥) → e ≡ refusing 3 s tree trace → Verdict e
     ill-brought : (n : ℕ) → 4 ≤ n → n ≤ 7 → e ≡ refusing n s tree trace → Verdict e
-    counts : (op : Op st) → opIn st ticket ≡ some op → e ≡ ending s trace (leftBy op) → Verdict e
+    counts : fits s ≡ true → length tree ≡ treeLength (s .size) → (op : Op st) → opIn st ticket ≡ some op
+        → e ≡ ending s trace (leftBy op) → Verdict e
 
   -- ---- the checks of what the call brings
 
-  by-room : (op : Op st) → opIn st ticket ≡ some op → (short few : Bool)
-      → Verdict (pick short (refusing 6 s tree trace) (pick few (refusing 7 s tree trace) (ending s trace (leftBy op))))
-  by-room op e true few = ill-brought 6 (omega arith) (omega arith) refl
-  by-room op e false true = ill-brought 7 (omega arith) (omega arith) refl
-  by-room op e false false = counts op e refl
+  module _ (fit : fits s ≡ true) (sized : length tree ≡ treeLength (s .size)) where
+    by-room : (op : Op st) → opIn st ticket ≡ some op → (short few : Bool)
+        → Verdict (pick short (refusing 6 s tree trace) (pick few (refusing 7 s tree trace) (ending s trace (leftBy op))))
+    by-room op e true few = ill-brought 6 (omega arith) (omega arith) refl
+    by-room op e false true = ill-brought 7 (omega arith) (omega arith) refl
+    by-room op e false false = counts fit sized op e refl
 
-  by-kind : (o : Option (Op st)) → opIn st ticket ≡ o → Verdict (callWith st s tree tape trace o)
-  unfolding callWith
-  by-kind none e = ill-brought 5 (omega arith) (omega arith) refl
-  by-kind (some op) e =
-      by-room op e (ltb (length tape) (2 * rounds st (s .size) + 1)) (ltb (length trace) (2 * rounds st (s .size)))
+    by-kind : (o : Option (Op st)) → opIn st ticket ≡ o → Verdict (callWith st s tree tape trace o)
+    unfolding callWith
+    by-kind none e = ill-brought 5 (omega arith) (omega arith) refl
+    by-kind (some op) e =
+        by-room op e (ltb (length tape) (2 * rounds st (s .size) + 1)) (ltb (length trace) (2 * rounds st (s .size)))
 
-  by-length : (same : Bool) → Verdict (pick (not same) (refusing 4 s tree trace) (callWith st s tree tape trace (opIn st ticket)))
-  by-length true = by-kind (opIn st ticket) refl
-  by-length false = ill-brought 4 (omega arith) (omega arith) refl
+    by-length : (same : Bool) → Verdict (pick (not same) (refusing 4 s tree trace) (callWith st s tree tape trace (opIn st ticket)))
+    by-length true = by-kind (opIn st ticket) refl
+    by-length false = ill-brought 4 (omega arith) (omega arith) refl
 
   -- ---- the checks of the state and the tree
 
@@ -56,15 +59,16 @@ module _ (st : Structure) (s : State) (tree ticket tape trace : List ℕ) where
   afterTree =
       pick (not (eqb (length ticket) ticketLength)) (refusing 4 s tree trace) (callWith st s tree tape trace (opIn st ticket))
 
-  by-tree : (same : Bool) → eqb (length tree) (treeLength (s .size)) ≡ same → Verdict (pick (not same) (refusing 3 s tree trace) afterTree)
-  by-tree true e = by-length (eqb (length ticket) ticketLength)
-  by-tree false e = other-tree (eqb-false (length tree) (treeLength (s .size)) e) refl
+  by-tree : fits s ≡ true → (same : Bool) → eqb (length tree) (treeLength (s .size)) ≡ same → Verdict (pick (not same) (refusing 3 s tree trace) afterTree)
+  by-tree fit true e =
+      by-length fit (eqb-true (length tree) (treeLength (s .size)) e) (eqb (length ticket) ticketLength)
+  by-tree fit false e = other-tree (eqb-false (length tree) (treeLength (s .size)) e) refl
 
   abbrev afterFit : Ended
   afterFit = pick (not (eqb (length tree) (treeLength (s .size)))) (refusing 3 s tree trace) afterTree
 
   by-fit : (fit : Bool) → fits s ≡ fit → Verdict (pick (not fit) (refusing 2 s tree trace) afterFit)
-  by-fit true e = by-tree (eqb (length tree) (treeLength (s .size))) refl
+  by-fit true e = by-tree e (eqb (length tree) (treeLength (s .size))) refl
   by-fit false e = unfit e refl
 
   by-mark : (zero : Bool) → eqb (s .mark) 0 ≡ zero

@@ -31,7 +31,8 @@ use Rattle.state.specs.Opening.{opened}
 use Rattle.state.specs.Ticket.{opIn, structureOf}
 use Rattle.store.specs.declared.Reply.the-variants.{Refused}
 use Rattle.store.specs.Store.{Ended, called, refusing, storeOf, replyOf}
-use Rattle.demands.specs.History.{Brought, Kept, history, finally, counted, replies, traceOf, opsIn, tapesOf, pairOf, pairsIn, numberOf, Widths}
+use Rattle.fit_stores.specs.Widths.{Widths}
+use Rattle.demands.specs.History.{Brought, Kept, history, finally, counted, replies, traceOf, opsIn, tapesOf, pairOf, pairsIn, numberOf}
 
 -- ---- demand 1: any state, tree, ticket, tape and trace buffer
 module _ (s : State) (tree ticket tape trace : List ℕ) where

@@ -18,7 +18,7 @@ use Rattle.method.specs.Call.{capacity, Memory}
 use Rattle.theorems.specs.MapRepresents.{holds-shaped}
 use Rattle.theorems.specs.Represented.{Held, held-fits}
 use Rattle.rounds.specs.Round.{limit, keysOf}
-use Rattle.round_laws.specs.Sorted as sorted
+use Rattle.fit_stores.specs.Order.{ascends}
 use Rattle.leaf_nodes.specs.Convert.{fromLink}
 use Rattle.leaf_nodes.specs.Leaf.{leafFormat}
 use Rattle.calls.specs.Call.{Store}
@@ -28,26 +28,11 @@ use Rattle.simulation.specs.Relation.{Simulates}
 use Rattle.simulation.specs.CallSim.{simulates-fits}
 use Rattle.simulation.specs.Root.{root-empty, root-top}
 use Rattle.state.specs.declared.Place.{Place}
-use Rattle.state.specs.Fit.{inRange, largestStructure, largestSize, allOf, placeGood, zeroPlace, noPlace, ascending, ascendingFrom, rootGood, places, placesFit, fits}
+use Rattle.state.specs.Fit.{inRange, largestStructure, largestSize, allOf, placeGood, zeroPlace, noPlace, ascending, rootGood, places, placesFit, fits}
 use Rattle.demands.specs.History.{numberOf}
 use Rattle.demands.specs.OpenStates.{stateOf, holding, used-places, unused-places}
 
 -- ---- the waiting nodes
-
--- Keys ascend in a state as they do in the rounds.
-ascends-from : (a : ℕ) (ks : List ℕ) → ascendingFrom a ks ≡ sorted.ascendingFrom a ks
-unfolding ascendingFrom sorted.ascendingFrom
-ascends-from a [] = refl
-ascends-from a (b ∷ ks) = go (ltb a b) (ascends-from b ks)
-  where
-    go : (t : Bool) → ascendingFrom b ks ≡ sorted.ascendingFrom b ks → (t && ascendingFrom b ks) ≡ pick t (sorted.ascendingFrom b ks) false
-    go true e = e
-    go false e = refl
-
-ascends : (ks : List ℕ) → ascending ks ≡ sorted.ascending ks
-unfolding ascending sorted.ascending
-ascends [] = refl
-ascends (a ∷ ks) = ascends-from a ks
 
 good-places : (k : ℕ) (ns : List (Node ℕ)) → All (ProperLeaf k) ns → allOf (placeGood k) (map holding ns) ≡ true
 unfolding allOf

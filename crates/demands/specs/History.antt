@@ -1,5 +1,5 @@
 -- Lists of calls on a store: document 01's "Origin rule" section, first paragraph.
-use Prim.Native.Nat.{ℕ, _^_, _<_}
+use Prim.Native.Nat.{ℕ}
 use mathlib.Core.Bool.{Bool, false}
 use mathlib.Core.List.{List, [], _∷_, _++_, map}
 use mathlib.Core.Option.{none, some}
@@ -9,9 +9,6 @@ use Rattle.basics.specs.Choice.{pick}
 use Rattle.method.specs.Answer.{Structure, map as the-map, stack as the-stack, Op}
 use Rattle.method.specs.Plain.{Pair}
 use Rattle.round_laws.specs.Whole.{contents}
-use Rattle.basics.specs.Distinct.{All}
-use Rattle.slots.specs.SlotLaws.{Ranged}
-use Rattle.slots.specs.declared.Link.{Link}
 use Rattle.method.specs.Node.{Node}
 use Rattle.leaf_nodes.specs.Convert.{toNode}
 use Rattle.leaf_nodes.specs.Leaf.{leafFormat}
@@ -85,15 +82,6 @@ pairOf n = record { key = n .key; value = n .value }
 abbrev pub pairsIn : State → List ℕ → List Pair
 pairsIn s tree =
     map pairOf (contents leafFormat (s .size) tree ++ map (λ (p : Place). toNode (p .node)) (used s))
-
--- A state as a machine holds it: each number within its type's width.
-abbrev pub LinkWidths : Link → Type 0
-LinkWidths l = (l .height < 256) × ((l .key < 2 ^ 32) × (l .tag < 2 ^ 16))
-
-pub record Widths (s : State) : Type 0 where
-  pub entries : s .entries < 2 ^ 16
-  pub root : LinkWidths (s .root)
-  pub nodes : All (λ (p : Place). Ranged (p .node)) (used s)
 
 -- The structure's number: 1 map, 2 stack.
 abbrev pub numberOf : Structure → ℕ

@@ -8,6 +8,7 @@ pub mod FitKept
 pub mod Fresh
 pub mod Tickets
 pub mod HistorySteps
+pub mod NoneLost
 pub mod SoundReplies
 pub mod ListSteps
 pub mod ListRuns

@@ -64,7 +64,7 @@ module _ (st : Structure) (k : ℕ) where
         go (unfit h e) = let z : true ≡ false = sym (state-fits st k positive small s m sim t held) ∙ h in let y : _≡_ {A = ℕ} 0 1 = cc in absurd (omega arith)
         go (other-tree h e) = absurd (h (sim .kept .is-tree .sized))
         go (ill-brought n low high e) = refused n low high e
-        go (counts op h e) =
+        go (counts fit sized op h e) =
             runs op h (op-fits (b .ticket) bytes st op h)
             (e
             ∙ ap (λ (x : Store). ending (stateOf st k s) (b .trace) (bucketCall k (rounds st k) op (drawOf k (b .tape)) x))

@@ -57,11 +57,19 @@ places-same (suc n) p =
 abbrev pub holding : Node ℕ → Place
 holding n = record { full = true; node = fromNode n }
 
+-- Placed nodes are read back.
+placed-first : (ns : List (Node ℕ)) → placesFrom (length ns) 0 (placed ns) ≡ map holding ns
+placed-first ns =
+    subst (λ (n : ℕ). placesFrom n 0 (placed ns) ≡ map holding ns) (length-map ns holding)
+    (places-first (map holding ns) (replicate (places - length ns) noPlace))
+
+pub placed-back : (ns : List (Node ℕ)) → map (λ (p : Place). toNode (p .node)) (placesFrom (length ns) 0 (placed ns)) ≡ ns
+placed-back ns =
+    rw (placed-first ns) (map-map (λ (p : Place). toNode (p .node)) holding ns ∙ map-id ns)
+
 module _ (st : Structure) (k : ℕ) (s : Store) where
   pub used-places : used (stateOf st k s) ≡ map holding (s .waiting)
-  used-places =
-      subst (λ (n : ℕ). placesFrom n 0 (placed (s .waiting)) ≡ map holding (s .waiting)) (length-map (s .waiting) holding)
-      (places-first (map holding (s .waiting)) (replicate (places - length (s .waiting)) noPlace))
+  used-places = placed-first (s .waiting)
 
   pub unused-places : unused (stateOf st k s) ≡ replicate (places - length (s .waiting)) noPlace
   unused-places =
@@ -72,6 +80,4 @@ module _ (st : Structure) (k : ℕ) (s : Store) where
   -- The store of the state is the store.
   pub store-back : storeOf (stateOf st k s) (s .tree) ≡ s
   store-back =
-      let back : map (λ (p : Place). toNode (p .node)) (used (stateOf st k s)) ≡ s .waiting =
-      rw used-places (map-map (λ (p : Place). toNode (p .node)) holding (s .waiting) ∙ map-id (s .waiting)) in
-      ap (λ (ws : List (Node ℕ)). record { entries = s .entries; root = s .root; waiting = ws; tree = s .tree }) back
+      ap (λ (ws : List (Node ℕ)). record { entries = s .entries; root = s .root; waiting = ws; tree = s .tree }) (placed-back (s .waiting))

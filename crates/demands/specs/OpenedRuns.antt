@@ -13,7 +13,7 @@ use Rattle.slots.specs.LittleEndianLaws.{Bytes}
 use Rattle.method.specs.Answer.{Structure, Op}
 use Rattle.method.specs.Plain.{nothing}
 use Rattle.method.specs.Rounds.{rounds}
-use Rattle.method.specs.Call.{capacity, emptyMemory, Ran}
+use Rattle.method.specs.Call.{capacity, emptyMemory}
 use Rattle.method.specs.Origin as origin
 use Rattle.method.specs.Origin.{drawn, names, leafOf, leafRun}
 use Rattle.theorems.specs.Represented.{held-empty}

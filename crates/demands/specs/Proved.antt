@@ -1,4 +1,5 @@
--- Demands 2 and 3, proved of all lists of calls whose tickets are bytes. (Demand 1's parts are `Refusals`.)
+-- The three demands, proved: demand 1 of every state, tree, ticket, tape and trace buffer, demands 2 and 3 of all lists of calls whose
+-- tickets are bytes.
 use Prim.Native.Nat.{ℕ, suc, _*_, _≤_, _<_}
 use mathlib.Core.Path.{_≡_, refl, sym, _∙_, ap, subst}
 use mathlib.Core.List.{List, [], _∷_, map, map-map}
@@ -14,11 +15,23 @@ use Rattle.method.specs.Rounds.{rounds}
 use Rattle.method.specs.Call.{capacity}
 use Rattle.theorems.specs.Theorems.{named-once, tickets-only}
 use Rattle.simulation.specs.ListSim.{never-damaged, answers-plain}
+use Rattle.state.specs.declared.State.{State}
 use Rattle.store.specs.Store.{replied}
 use Rattle.demands.specs.History.{Brought, Kept, history, finally, counted, traceOf, opsIn, tapesOf}
-use Rattle.demands.specs.Demands.{openedStore, Demand2, Demand3, leafAt}
+use Rattle.demands.specs.Demands.{Demand1, openedStore, Demand2, Demand3, leafAt}
+use Rattle.demands.specs.Refusals.{one-reply, unchanged, stays-closed}
+use Rattle.demands.specs.NoneLost.{none-lost}
 use Rattle.demands.specs.SoundReplies.{sound-at}
 use Rattle.demands.specs.OpenedRuns.{opened-runs, follows, trace-count, trace-length, leaf-in-trace}
+
+pub demand1 : (s : State) (tree ticket tape trace : List ℕ) → Demand1 s tree ticket tape trace
+demand1 s tree ticket tape trace =
+    record {
+      one-reply = one-reply s tree ticket tape trace;
+      unchanged = unchanged s tree ticket tape trace;
+      stays-closed = stays-closed s tree ticket tape trace;
+      none-lost = none-lost s tree ticket tape trace;
+    }
 
 module _ (st : Structure) (k : ℕ) (positive : 1 ≤ k) (small : k ≤ 8) (tree : List ℕ) (sized : length tree ≡ treeLength k)
     (bs : List Brought) (bytes : All (λ b. Bytes (b .ticket)) bs) where

@@ -64,7 +64,7 @@ module _ (s : State) (tree ticket tape trace : List ℕ) where
       go (unfit h e) = early-says 2 n (omega arith) (omega arith) e r
       go (other-tree h e) = early-says 3 n (omega arith) (omega arith) e r
       go (ill-brought m low high e) = early-says m n (omega arith) high e r
-      go (counts op h e) =
+      go (counts fit sized op h e) =
           let l : Left = leftBy (structureOf (s .structure)) s tree ticket tape trace op in
           which (counted-number l (call-ends (s .size) (rounds (structureOf (s .structure)) (s .size)) op (drawOf (s .size) tape) (storeOf s tree)) n
           (ap (λ (x : Ended). x .reply) (sym e) ∙ r))

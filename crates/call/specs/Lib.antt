@@ -1,0 +1,5 @@
+pub mod Run
+pub mod MovedLaws
+pub mod EndingLaws
+pub mod RunLaws
+pub mod CallLaws

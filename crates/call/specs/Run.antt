@@ -1,0 +1,105 @@
+-- What the code of a call returns and leaves, as the definition of a call says it.
+use mathlib.Core.Path.{_≡_}
+use mathlib.Core.List.{List, _++_}
+use mathlib.Core.Bool.{true}
+use mathlib.Core.Option.{Option}
+use Prim.Native.Nat.{ℕ, _+_, _*_, _≤_, _<_}
+use lib.ListN.{length, take, drop}
+use Rattle.basics.specs.Distinct.{All}
+use Rattle.slots.specs.LittleEndianLaws.{Bytes}
+use Rattle.slots.specs.Tree.{treeLength}
+use Rattle.method.specs.Node.{Node}
+use Rattle.method.specs.Prog.{Prog, done, after}
+use Rattle.method.specs.Map.{Outcome}
+use Rattle.method.specs.Rounds.{rounds}
+use Rattle.rounds.specs.Round.{join}
+use Rattle.round_laws.specs.Whole.{IsTree}
+use Rattle.round_laws.specs.Sorted.{Ascending}
+use Rattle.leaf_nodes.specs.Convert.{fromLink}
+use Rattle.leaf_nodes.specs.Leaf.{leafFormat}
+use Rattle.buckets.specs.Words.{wordCount}
+use Rattle.calls.specs.Fetch.{Left, Going, closing}
+use Rattle.calls.specs.Call.{afterPuts, putRounds, stepped}
+use Rattle.closing.specs.Proper.{ProperLeaf}
+use Rattle.closing.specs.Changes.{OpFits}
+use Rattle.state.specs.declared.State.{State}
+use Rattle.state.specs.Fit.{fits}
+use Rattle.state.specs.Ticket as ticket
+use Rattle.steps.specs.declared.Op.{Op}
+use Rattle.steps.specs.Method.{toLink, toOp, structureOf, nodesOf, outcomeIn}
+use Rattle.steps.specs.Outcome.{LowHeld}
+use Rattle.store.specs.declared.Called.{Called}
+use Rattle.store.specs.Store.{Ended, replied}
+use Rattle.fit_stores.specs.Widths.{LinkWidths}
+use Rattle.stash.specs.Stash.{saved}
+use Rattle.waiting.specs.Waiting.{waitingIn, Holds}
+use Rattle.call_rounds.specs.OneRound.{going, Rests}
+use Rattle.phases.specs.declared.wanting.Job.{Job}
+use Rattle.phases.specs.declared.wanting.Fetched.{Fetched}
+use Rattle.phases.specs.Wanting.{fromsIn, heldIn, programOf}
+
+-- What the code returns, with the tree and the trace buffer as it leaves them.
+abbrev pub endedAs : Called → (tree trace : List ℕ) → Ended
+endedAs r tree trace = record { state = r .state; reply = r .reply; leaves = r .leaves; tree = tree; trace = trace }
+
+-- The end of a call of a store of that structure and size, of what it leaves: store's `ending`.
+abbrev pub endingWith : (structure size : ℕ) → List ℕ → Left → Ended
+endingWith structure size trace l =
+    record {
+      state = saved structure size (l .mark) (l .entries) (fromLink (l .root)) (l .waiting);
+      reply = replied (l .mark) (l .answer);
+      leaves = length (l .leaves);
+      tree = l .tree;
+      trace = l .leaves ++ drop (length (l .leaves)) trace;
+    }
+
+-- A call after its fetch rounds, with the leaves that these revealed.
+abbrev pub goingBy : Fetched → (words tree trace : List ℕ) → Going
+goingBy f words tree trace = going (f .waiting) words tree (heldIn (f .held) (f .came)) (take (f .leaves) trace)
+
+-- The step's outcome.
+abbrev pub outcomeOf : Job → Fetched → Outcome ℕ
+outcomeOf j f = outcomeIn (toLink (j .root)) (j .entries) (after (programOf j) (nodesOf (f .held)))
+
+-- What closing needs: the waiting nodes are in words, and there is room for the held ones beside them.
+pub record Shuts (f : Fetched) (words : List ℕ) : Type 0 where
+  pub holds : Holds (f .waiting) words
+  pub few : f .held .count ≤ 33
+  pub paired : length (fromsIn (f .held) (f .came)) ≡ length (nodesOf (f .held))
+  pub room : f .waiting + f .held .count ≤ 101
+
+-- The store is closed with the mark of the fetch rounds, whatever the tree and the trace are then.
+abbrev pub ShutAs : (structure size : ℕ) → Job → Fetched → List ℕ → Called → Type 0
+ShutAs structure size j f words r =
+    (tree trace : List ℕ) → f .leaves ≤ length trace
+    → endedAs r tree trace ≡ endingWith structure size trace (closing (f .mark) (j .entries) (toLink (j .root)) (goingBy f words tree trace))
+
+-- The call is finished as the definition says it: after the step the put rounds.
+abbrev pub finishedBy : Job → (ℕ → ℕ) → Fetched → (words tree trace : List ℕ) → Left
+finishedBy j draw f words tree trace =
+    afterPuts (outcomeOf j f)
+    (putRounds (j .size) draw (j .rounds) (j .rounds + 1) (outcomeOf j f) (stepped (outcomeOf j f) (goingBy f words tree trace)))
+
+-- What the step and the put rounds need: the nodes that wait then are proper and have room.
+pub record Finishes (j : Job) (f : Fetched) (words scratch tree held : List ℕ) : Type 0 where
+  pub small : j .size ≤ 8
+  pub some-rounds : 1 ≤ j .rounds
+  pub few-rounds : j .rounds ≤ 33
+  pub rests : Rests (f .waiting) words scratch held
+  pub low : LowHeld (j .root) (f .held)
+  pub is-tree : IsTree (j .size) tree
+  pub proper : All (ProperLeaf (j .size)) (join leafFormat (outcomeOf j f .nodes) (waitingIn (f .waiting) words))
+  pub room : f .waiting + length (outcomeOf j f .nodes) ≤ 65
+  pub leaves-are : f .leaves ≡ j .rounds
+
+-- What the checks of a call make sure of, with the ranges that the types give.
+pub record Checked (s : State) (op : Op) (F : ℕ) (tree tape trace : List ℕ) : Type 0 where
+  pub fit : fits s ≡ true
+  pub tree-sized : length tree ≡ treeLength (s .size)
+  pub tree-bytes : Bytes tree
+  pub root-widths : LinkWidths (s .root)
+  pub structure-is : ticket.structureOf (s .structure) ≡ structureOf op
+  pub op-fits : OpFits (toOp op)
+  pub rounds-are : F ≡ rounds (structureOf op) (s .size)
+  pub tape-long : 2 * F + 1 ≤ length tape
+  pub trace-long : 2 * F ≤ length trace

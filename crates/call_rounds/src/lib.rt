@@ -1,0 +1,156 @@
+// One round of a call over the lent tree and the waiting nodes: one that wants none, and one that wants a node.
+use buckets::WORDS;
+use buckets::read::Wish;
+use buckets::read::look;
+use buckets::stash::get;
+use buckets::write::overflows;
+use buckets::write::settle;
+use slots::Node;
+use slots::codec::key_of;
+use steps::Want;
+use steps::fetched::map_test;
+use steps::fetched::stack_test;
+ghost use mathlib.Core.Path.{_≡_};
+ghost use Prim.Native.Nat.{_+_, _^_, _<_};
+ghost use Rattle.basics.specs.Choice.{pick};
+ghost use Rattle.rounds.specs.Round.{overflows};
+ghost use Rattle.method.specs.Call.{test};
+ghost use Rattle.round_laws.specs.Sorted.{ascending};
+ghost use Rattle.state.specs.Ticket.{structureOf};
+ghost use Rattle.steps.specs.Method.{toWant};
+ghost use Rattle.leaf_nodes.specs.Convert.{toNode};
+ghost use Rattle.waiting.specs.Waiting.{Holds};
+ghost use Rattle.call_rounds.specs.OneRound.{keysWaiting, Ready, Idled, Wanted};
+
+// How a round that wants none ended: mark 0, or 8 damage or 9 overflow, and how many nodes wait then.
+pub struct Rounded {
+    pub mark: u8,
+    pub waiting: usize,
+}
+
+// How a round that wants a node ended; and whether the node was taken out, and the node as it was found.
+pub struct Took {
+    pub mark: u8,
+    pub waiting: usize,
+    pub taken: bool,
+    pub node: Node,
+}
+
+// The structure's fetch test of a wanted node: 1 is the map, 2 the stack.
+fn passes(structure: u8, want: Want, n: Node) -> bool
+    ensures { λ r. ⌜ r ≡ test (structureOf structure) (toWant want) (toNode n) ⌝ }
+{
+    if structure == 1 {
+        return map_test(want, n);
+    }
+    stack_test(want, n)
+}
+
+// The mark at a round's close: 9 if more nodes wait and are held than may, else 0.
+fn mark_at_close(waiting: usize, held: usize) -> u8
+    requires { ⌜ waiting + held < 2 ^ 64 ⌝ }
+    ensures { λ r. ⌜ r ≡ pick (overflows waiting held) 9 0 ⌝ }
+{
+    if overflows(waiting, held) {
+        return 9;
+    }
+    0
+}
+
+// A round of a leaf that wants none. The n waiting nodes are in w; s is scratch space; `held` are the keys of the held nodes.
+// Damage is found before anything is written.
+pub fn idle_round(
+    w: &mut [u64; WORDS],
+    n: usize,
+    s: &mut [u64; WORDS],
+    tree: &mut [u8],
+    size: usize,
+    leaf: usize,
+    held: &[u32],
+) -> Rounded
+    requires { ⌜ Ready size leaf n (now w) (now s) (now tree) (now held) ⌝ }
+    ensures { λ r. ⌜ Idled size leaf n (now (w .entry)) (now (tree .entry)) (now (held .entry)) (now (w .exit)) (now (s .exit)) (now (tree .exit)) r ⌝ }
+{
+    let r = look(w, n, s, tree, size, leaf, Wish::Nothing, held);
+    if !r.ok {
+        return Rounded {
+            mark: 8,
+            waiting: n,
+        };
+    }
+    let left = settle(s, r.count, false, 0, w, tree, size, leaf);
+    Rounded {
+        mark: mark_at_close(left, held.len()),
+        waiting: left,
+    }
+}
+
+// A round that wants a node: its leaf is the tag in the link that leads to it, and the structure's test is asked before
+// anything is written.
+pub fn want_round(
+    structure: u8,
+    want: Want,
+    w: &mut [u64; WORDS],
+    n: usize,
+    s: &mut [u64; WORDS],
+    tree: &mut [u8],
+    size: usize,
+    held: &[u32],
+) -> Took
+    requires { ⌜ Ready size (want .link .tag) n (now w) (now s) (now tree) (now held) ⌝ }
+    ensures { λ r. ⌜ Wanted structure size n want (now (w .entry)) (now (tree .entry)) (now (held .entry)) (now (w .exit)) (now (s .exit)) (now (tree .exit)) r ⌝ }
+{
+    let link = want.link;
+    let leaf = link.tag as usize;
+    let r = look(
+        w,
+        n,
+        s,
+        tree,
+        size,
+        leaf,
+        Wish::Node(link.key, link.tag),
+        held,
+    );
+    let node = r.node;
+    if !r.ok {
+        return Took {
+            mark: 8,
+            waiting: n,
+            taken: false,
+            node,
+        };
+    }
+    if !passes(structure, want, node) {
+        return Took {
+            mark: 8,
+            waiting: n,
+            taken: false,
+            node,
+        };
+    }
+    let left = settle(s, r.count, true, r.at, w, tree, size, leaf);
+    Took {
+        mark: mark_at_close(left, held.len() + 1),
+        waiting: left,
+        taken: true,
+        node,
+    }
+}
+
+// Whether the keys of the n waiting nodes ascend.
+pub fn ascends(w: &[u64; WORDS], n: usize) -> bool
+    requires { ⌜ Holds n (now w) ⌝ }
+    ensures { λ r. ⌜ r ≡ ascending (keysWaiting n (now (w .entry))) ⌝ }
+{
+    let mut i = 0;
+    while i + 1 < n {
+        let key = key_of(get(w, i));
+        let next = key_of(get(w, i + 1));
+        if next <= key {
+            return false;
+        }
+        i += 1;
+    }
+    true
+}

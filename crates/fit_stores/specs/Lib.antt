@@ -1,0 +1,5 @@
+pub mod Widths
+pub mod Order
+pub mod FitState
+pub mod FitStores
+pub mod Tickets

@@ -1,0 +1,9 @@
+pub mod Splits
+pub mod Idle
+pub mod IdleLaws
+pub mod Wanting
+pub mod WantingLaws
+pub mod WalkLaws
+pub mod FetchLaws
+pub mod Put
+pub mod PutLaws

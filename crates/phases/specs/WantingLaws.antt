@@ -1,0 +1,443 @@
+-- One fetch round that wants a node after another.
+use mathlib.Core.Path.{_≡_, refl, sym, _∙_, ap, ap₂, subst}
+use mathlib.Core.Bool.{Bool, true, false}
+use mathlib.Core.Logic.{_⊎_, inl, inr}
+use mathlib.Core.List.{List, [], _∷_, _++_, map, map-append, append-nil, List·Memᴰ}
+use mathlib.Core.Option.{Option, none, some}
+use Prim.Native.Nat.{ℕ, zero, suc, _+_, _-_, _*_, _^_, _≤_, _<_}
+use native.Mathlib.Nat.{add-zero, zero-add}
+use native.Mathlib.Numerals.{add-one}
+use native.Mathlib.Omega.{arith}
+use lib.Dec.{eqb}
+use lib.ListN.{length, take, drop, set, length-set, length-map, length-take, length-append}
+use lib.Seq.{take-suc-set, drop-set-lt, drop-drop}
+use Rattle.basics.specs.Choice.{pick}
+use Rattle.basics.specs.Distinct.{All}
+use Rattle.balance.specs.Least.{least}
+use Rattle.balance.specs.Shape.{shaped}
+use Rattle.balance.specs.Greatest.{tallest, greatest}
+use Rattle.balance.specs.GreatestLaws.{greatest-mono}
+use Rattle.method.specs.Node.{Node, retag}
+use Rattle.method.specs.Prog.{From, Want, Prog, done, want, after}
+use Rattle.method.specs.Answer as answer
+use Rattle.method.specs.Answer.{Structure}
+use Rattle.method.specs.Map.{Outcome}
+use Rattle.method.specs.Rounds.{rounds}
+use Rattle.method.specs.Call.{capacity, program, test}
+use Rattle.rounds.specs.Round.{Hand, readHalf, limit}
+use Rattle.leaf_nodes.specs.Leaf.{leafFormat}
+use Rattle.calls.specs.Call.{putRounds}
+use Rattle.round_laws.specs.Whole.{IsTree}
+use Rattle.calls.specs.Fetch as fetch
+use Rattle.calls.specs.Fetch.{Going, heldKeys, tooMany, revealing, written, Round, on, shut, atClose, idleRound, wantRound, fetchRound, fetchRounds}
+use Rattle.closing.specs.Proper.{ProperLeaf, leaves-lawful}
+use Rattle.closing.specs.Yields.{Yields, asks}
+use Rattle.closing.specs.Given.{Given, AskedFrom}
+use Rattle.closing.specs.Sound.{nodesIn, total, Sound, After, goes, closes}
+use Rattle.closing.specs.Fetching.{Fetching}
+use Rattle.closing.specs.Ends.{highest, FitStore, entriesBefore, keyOf}
+use Rattle.closing.specs.Changes.{valueIn, Answers, Yielded}
+use Rattle.closing.specs.Lost.{FetchEnds, fetch-rounds, never-left-wanting}
+use Rattle.phases.specs.Splits.{goesOn, fetches-none, fetches-next, fetches-split}
+use Rattle.phases.specs.Idle.{Between, keysHeld}
+use Rattle.phases.specs.IdleLaws.{put-none, put-goes, put-shuts, goes-on, stops-here, between-ready}
+use Rattle.phases.specs.declared.wanting.Job.{Job}
+use Rattle.phases.specs.declared.wanting.Fetched.{Fetched}
+use Rattle.phases.specs.Wanting.{heldOf, fromsIn, heldIn, structureIn, programOf, storeAt, fetched, Begins, Walked, Walks, Fetches}
+use Rattle.steps.specs.declared.Came.{Came}
+use Rattle.steps.specs.declared.Held.{Held}
+use Rattle.steps.specs.declared.Want as code
+use Rattle.slots.specs.declared.Node as node
+use Rattle.steps.specs.Method.{toLink, toNode, toFrom, toOp, toWant, nodesOf, wantedIn}
+use Rattle.steps.specs.Heights.{Low, Lows}
+use Rattle.steps.specs.HeightLaws.{lows-append}
+use Rattle.steps.specs.HeldLaws.{first-length, first-more, held-more}
+use Rattle.steps.specs.Outcome.{LowHeld}
+use Rattle.steps.specs.WantLaws.{wanted-low, map-tested-low, stack-tested-low}
+use Rattle.waiting.specs.WaitingLaws.{waiting-length}
+use Rattle.call_rounds.specs.declared.Took.{Took}
+use Rattle.call_rounds.specs.OneRound.{going, endedWith, Ready, Rests, heldToo, takenAs, Wanted}
+
+-- ---- programs after some nodes
+module _ {A : Type 0} where
+  after-none : (q : Prog ℕ A) → after q [] ≡ q
+  unfolding after
+  after-none (done a) = refl
+  after-none (want w c) = refl
+
+  -- One node more.
+  pub after-more : (p : Prog ℕ A) (ns : List (Node ℕ)) {w : Want ℕ} {c : Node ℕ → Prog ℕ A} (m : Node ℕ) → after p ns ≡ want w c → after p (ns ++ (m ∷ [])) ≡ c m
+  unfolding after
+  after-more (done a) [] m e = cc
+  after-more (done a) (n ∷ ns) m e = cc
+  after-more (want v k) [] {w} {c} m e = after-none (k m) ∙ same
+    where
+      same : k m ≡ c m
+      same = let d : k ≡ c = cc in ap (λ (f : Node ℕ → Prog ℕ A). f m) d
+  after-more (want v k) (n ∷ ns) m e = after-more (k n) ns m e
+
+  -- A program that wants a node.
+  pub record Wants (q : Prog ℕ A) (w : Want ℕ) : Type 0 where
+    pub then : Node ℕ → Prog ℕ A
+    pub is : q ≡ want w then
+
+  pub wants : (q : Prog ℕ A) (w : Want ℕ) → wantedIn q ≡ some w → Wants q w
+  wants (done a) w e = let z : _≡_ {A = ℕ} 0 1 = cc in absurd (omega arith)
+  wants (want v k) w e = let d : v ≡ w = cc in record { then = k; is = ap (λ (u : Want ℕ). want u k) d }
+
+-- ---- held nodes
+held-one-more : (fs : List From) (ns : List (Node ℕ)) (f : From) (n : Node ℕ) → length fs ≡ length ns
+    → heldOf (fs ++ (f ∷ [])) (ns ++ (n ∷ [])) ≡ heldOf fs ns ++ (record { from = f; node = n } ∷ [])
+unfolding heldOf
+held-one-more [] [] f n e = refl
+held-one-more [] (m ∷ ns) f n e = let z : ⊥ = omega arith in absurd z
+held-one-more (g ∷ fs) [] f n e = let z : ⊥ = omega arith in absurd z
+held-one-more (g ∷ fs) (m ∷ ns) f n e = ap (λ (hs : List fetch.Held). record { from = g; node = m } ∷ hs) (held-one-more fs ns f n (omega arith))
+
+pub held-length : (fs : List From) (ns : List (Node ℕ)) → length fs ≡ length ns → length (heldOf fs ns) ≡ length ns
+unfolding heldOf
+held-length [] [] e = refl
+held-length [] (m ∷ ns) e = let z : ⊥ = omega arith in absurd z
+held-length (g ∷ fs) [] e = let z : ⊥ = omega arith in absurd z
+held-length (g ∷ fs) (m ∷ ns) e = let r = held-length fs ns (omega arith) in omega arith
+
+-- ---- one round more
+module _ (s : Structure) (k : ℕ) (draw : ℕ → ℕ) (p : Prog ℕ (Outcome ℕ)) (g : Going) where
+  one-round : (i : ℕ) (q : Prog ℕ (Outcome ℕ)) (h : Going) → fetchRounds s k draw 1 i q h ≡ fetchRound s k (draw i) q h
+  unfolding goesOn
+  one-round i q h = fetches-next s k draw 0 i q h ∙ go (fetchRound s k (draw i) q h)
+    where
+      go : (x : Round (Outcome ℕ)) → goesOn s k draw x (λ h q. fetchRounds s k draw 0 (suc i) q h) ≡ x
+      go (shut m h) = refl
+      go (on h q) = fetches-none s k draw (suc i) q h
+
+  pub round-more : (i : ℕ) (h : Going) (w : Want ℕ) (c : Node ℕ → Prog ℕ (Outcome ℕ)) → fetchRounds s k draw i 0 p g ≡ on h (want w c)
+      → fetchRounds s k draw (i + 1) 0 p g ≡ wantRound s k (draw i) w c h
+  unfolding goesOn fetchRound
+  round-more i h w c e = fetches-split s k draw i 1 0 p g ∙ rw (e, zero-add i) (one-round i (want w c) h)
+
+  -- A store that was closed stays so for the rounds that are left.
+  pub closed-early : (i F : ℕ) (m : ℕ) (h : Going) → i ≤ F → fetchRounds s k draw i 0 p g ≡ shut m h → fetchRounds s k draw F 0 p g ≡ shut m h
+  unfolding goesOn
+  closed-early i F m h le e =
+      let all : F ≡ i + (F - i) = omega arith in
+      rw all (fetches-split s k draw i (F - i) 0 p g ∙ rw e)
+
+  pub rounds-left : (i F : ℕ) (h : Going) (q : Prog ℕ (Outcome ℕ)) → i ≤ F → fetchRounds s k draw i 0 p g ≡ on h q
+      → fetchRounds s k draw F 0 p g ≡ fetchRounds s k draw (F - i) i q h
+  unfolding goesOn
+  rounds-left i F h q le e =
+      let all : F ≡ i + (F - i) = omega arith in
+      rw all (fetches-split s k draw i (F - i) 0 p g ∙ rw (e, zero-add i, ← all))
+
+-- ---- what holds between the fetch rounds, on any content
+most-rounds : (s : Structure) (k : ℕ) → k ≤ 8 → rounds s k ≤ 33
+unfolding rounds least shaped tallest greatest
+most-rounds answer.map k small = let most : greatest k ≤ 11 = greatest-mono small in omega arith
+most-rounds answer.stack k small = omega arith
+
+most-high : (s : Structure) (k : ℕ) → k ≤ 8 → highest s k ≤ 100
+unfolding highest least shaped tallest greatest
+most-high answer.map k small = let most : greatest k ≤ 11 = greatest-mono small in omega arith
+most-high answer.stack k small = omega arith
+
+-- A store between two fetch rounds.
+pub record Midway (k i : ℕ) (g : Going) (q : Prog ℕ (Outcome ℕ)) : Type 0 where
+  pub is-tree : IsTree k (g .tree)
+  pub proper : All (ProperLeaf k) (g .waiting)
+  pub few : total g ≤ limit
+  pub seen : length (g .leaves) ≡ i
+  pub leads : (w : Want ℕ) (c : Node ℕ → Prog ℕ (Outcome ℕ)) → q ≡ want w c → w .link .tag < 2 ^ k
+
+module _ (j : Job) (draw : ℕ → ℕ) (is-leaf : (d : ℕ) → draw d < 2 ^ j .size) {n : ℕ} {words scratch tree : List ℕ} (b : Begins j draw n words scratch tree) where
+  pub at-most : j .rounds ≤ 33
+  at-most = rw (b .rounds-are) (most-rounds (structureIn j) (j .size) (b .small))
+
+  pub root-low : j .root .height ≤ 100
+  root-low = let h = most-high (structureIn j) (j .size) (b .small) in omega (arith, b .fit .low)
+
+  Ends : ℕ → Round (Outcome ℕ) → Type 0
+  Ends i x = FetchEnds {s = structureIn j} (j .size) i (j .rounds - i) (toOp (j .op)) (storeAt j n words tree) x
+
+  pub same-program : programOf j ≡ program 0 (toOp (j .op)) (draw (rounds (structureIn j) (j .size))) (capacity (j .size)) (j .entries) (toLink (j .root))
+  same-program = rw (b .tag-is, b .limit-is, b .rounds-are)
+
+  ends : (i : ℕ) → i ≤ j .rounds → Ends i (fetched j draw i n words tree)
+  unfolding Ends
+  ends i h =
+      rw same-program
+      (fetch-rounds (j .size) (b .some-size) (omega (arith, b .small)) (toOp (j .op)) (b .op-fits) draw is-leaf (storeAt j n words tree) (b .fit) i (j .rounds - i)
+      (omega (arith, b .rounds-are)))
+
+  pub midway : (i : ℕ) (g : Going) (q : Prog ℕ (Outcome ℕ)) → i ≤ j .rounds → fetched j draw i n words tree ≡ on g q → Midway (j .size) i g q
+  unfolding Ends
+  midway i g q h e = go (subst (Ends i) e (ends i h))
+    where
+      leads-to : {given : List (Node ℕ)} {Post : Outcome ℕ → List (Node ℕ) → Type 0} {t : Want ℕ → Node ℕ → Bool} (p : Prog ℕ (Outcome ℕ))
+          → Yields (AskedFrom (j .size) (toLink (j .root))) (Given (j .size) t) Post p given
+          → (w : Want ℕ) (c : Node ℕ → Prog ℕ (Outcome ℕ)) → p ≡ want w c → w .link .tag < 2 ^ j .size
+      leads-to (done o) y w c e = let z : _≡_ {A = ℕ} 0 1 = cc in absurd (omega arith)
+      leads-to (want v d) (asks right next) w c e = let same : v ≡ w = cc in rw (← same) (right .0)
+
+      go : Ends i (on g q) → Midway (j .size) i g q
+      go (goes sound few seen next) =
+          record { is-tree = sound .is-tree; proper = sound .waiting; few = few; seen = omega (arith, seen); leads = leads-to q (next .yields) }
+
+  -- No program is left with a want.
+  pub all-fetched : (g : Going) (q : Prog ℕ (Outcome ℕ)) → fetched j draw (j .rounds) n words tree ≡ on g q → wantedIn q ≡ none
+  all-fetched g (done o) e = refl
+  all-fetched g (want w c) e =
+      absurd
+      (never-left-wanting (j .size) (b .some-size) (omega (arith, b .small)) (toOp (j .op)) (b .op-fits) draw is-leaf (storeAt j n words tree) (b .fit) g w c
+      (rw (← same-program, ← b .rounds-are) e))
+
+-- ---- the rounds that want a node, one by one
+-- The trace after one more leaf.
+drop-more : (i : ℕ) (xs ys : List ℕ) → drop i xs ≡ drop i ys → drop (suc i) xs ≡ drop (suc i) ys
+drop-more i xs ys e =
+    let one : (l : List ℕ) → drop (suc i) l ≡ drop 1 (drop i l) = λ l. rw (drop-drop 1 i l, add-one i) in
+    one xs ∙ ap (drop 1) e ∙ sym (one ys)
+
+stored-later : (i : ℕ) (trace trace₀ : List ℕ) (v : ℕ) → drop i trace ≡ drop i trace₀ → drop (suc i) (set trace i v) ≡ drop (suc i) trace₀
+stored-later i trace trace₀ v e = drop-set-lt (suc i) trace i v (omega arith) ∙ drop-more i trace trace₀ e
+
+module _ (j : Job) (draw : ℕ → ℕ) (is-leaf : (d : ℕ) → draw d < 2 ^ j .size) {n : ℕ} {words₀ scratch₀ tree₀ : List ℕ} (b : Begins j draw n words₀ scratch₀ tree₀)
+    (trace₀ : List ℕ) {h : Held} {came : List Came} {m : ℕ} {words scratch tree keys trace : List ℕ}
+    (inv : Walked j draw n words₀ tree₀ trace₀ h came m words scratch tree keys trace) where
+  abbrev here : Going
+  here = going m words tree (heldIn h came) (take (h .count) trace)
+
+  now-midway : Midway (j .size) (h .count) here (after (programOf j) (nodesOf h))
+  now-midway = midway j draw is-leaf b (h .count) here (after (programOf j) (nodesOf h)) (inv .upto) (inv .so-far)
+
+  pub walked-few : h .count ≤ 33
+  walked-few = omega (arith, inv .upto, at-most j draw is-leaf b)
+
+  froms-length : length (fromsIn h came) ≡ h .count
+  froms-length = first-length (λ (c : Came). toFrom (c .from)) came (h .count) (omega (arith, inv .came-sized, walked-few))
+
+  pub walked-counted : length (nodesOf h) ≡ h .count
+  walked-counted = first-length toNode (h .nodes) (h .count) (omega (arith, inv .places, walked-few))
+
+  pub walked-paired : length (fromsIn h came) ≡ length (nodesOf h)
+  walked-paired = froms-length ∙ sym walked-counted
+
+  held-count : length (heldIn h came) ≡ h .count
+  held-count = held-length (fromsIn h came) (nodesOf h) (froms-length ∙ sym walked-counted) ∙ walked-counted
+
+  pub walked-between : Between (j .size) m words scratch tree (take (h .count) keys)
+  walked-between =
+      let t = now-midway in
+      let a : length (take (h .count) keys) ≡ h .count = length-take (h .count) keys ∙ omega (arith, inv .keys-sized, walked-few) in
+      record {
+        small = b .small;
+        is-tree = t .is-tree;
+        rests = inv .rests;
+        proper = t .proper;
+        few = omega (arith, t .few, held-count, a, waiting-length (inv .rests .holds));
+      }
+
+  pub walked-low : LowHeld (j .root) h
+  walked-low = record { few = walked-few; low = inv .low; root-low = root-low j draw is-leaf b }
+
+  module _ (want : code.Want) (asked : wantedIn (after (programOf j) (nodesOf h)) ≡ some (toWant want)) where
+    there : Wants (after (programOf j) (nodesOf h)) (toWant want)
+    there = wants (after (programOf j) (nodesOf h)) (toWant want) asked
+
+    -- The round can begin.
+    pub want-ready : Ready (j .size) (want .link .tag) m words scratch tree (take (h .count) keys)
+    want-ready = between-ready walked-between (want .link .tag) (now-midway .leads (toWant want) (there .then) (there .is))
+
+    module _ {words′ scratch′ tree′ : List ℕ} {r : Took} (more : h .count < j .rounds)
+        (round : Wanted (j .structure) (j .size) m want words tree (take (h .count) keys) words′ scratch′ tree′ r) where
+      abbrev fetchedNode : Node ℕ
+      fetchedNode = retag (draw (h .count)) (toNode (r .node))
+
+      abbrev trace′ : List ℕ
+      trace′ = set trace (h .count) (want .link .tag)
+
+      abbrev ended : List fetch.Held → Going
+      ended hs = going (r .waiting) words′ tree′ hs (take (h .count + 1) trace′)
+
+      one-leaf-more : h .count < length trace₀ → take (h .count) trace ++ (want .link .tag ∷ []) ≡ take (h .count + 1) trace′
+      one-leaf-more k = rw (add-one (h .count)) (sym (take-suc-set trace (h .count) (want .link .tag) (omega (arith, inv .trace-sized))))
+
+      next-round : (taken : Bool) → r .taken ≡ taken → h .count < length trace₀
+          → fetched j draw (h .count + 1) n words₀ tree₀
+          ≡ endedWith (r .mark) (ended (heldIn h came ++ heldToo taken (takenAs want (draw (h .count)) (toNode (r .node))))) (there .then fetchedNode)
+      next-round taken t k =
+          round-more (structureIn j) (j .size) draw (programOf j) (going n words₀ tree₀ [] []) (h .count) here (toWant want) (there .then)
+          (inv .so-far ∙ ap (on here) (there .is))
+          ∙ rw (← b .structure-is, ← one-leaf-more k, ← t)
+          (round .round (heldIn h came) (take (h .count) trace) (draw (h .count)) (there .then) (inv .keys-are))
+
+      trace-later : drop (h .count + 1) trace′ ≡ drop (h .count + 1) trace₀
+      trace-later = rw (add-one (h .count)) (stored-later (h .count) trace trace₀ (want .link .tag) (inv .untouched))
+
+      trace-length : length trace′ ≡ length trace₀
+      trace-length = length-set trace (h .count) (want .link .tag) ∙ inv .trace-sized
+
+      -- The store was closed in this round, with these nodes held.
+      closed-here : (h′ : Held) (came′ : List Came) (taken : Bool) → r .taken ≡ taken → (r .mark ≡ 0 → ⊥) → h .count < length trace₀
+          → heldIn h′ came′ ≡ heldIn h came ++ heldToo taken (takenAs want (draw (h .count)) (toNode (r .node)))
+          → h′ .count ≤ 33 → length (nodesOf h′) ≡ h′ .count → length (fromsIn h′ came′) ≡ length (nodesOf h′) → Lows 100 (nodesOf h′)
+          → keysHeld (heldIn h′ came′) ≡ take (h .count) keys ++ heldToo taken (r .node .key)
+          → Fetches j draw n words₀ tree₀ trace₀ words′ scratch′ tree′ trace′ (record { held = h′; came = came′; waiting = r .waiting; mark = r .mark; leaves = h .count + 1 })
+      closed-here h′ came′ taken t marked k same few counted paired low keys-same =
+          record {
+            outcome =
+                closed-early (structureIn j) (j .size) draw (programOf j) (going n words₀ tree₀ [] []) (h .count + 1) (j .rounds) (r .mark) (ended (heldIn h′ came′)) (omega arith)
+                (next-round taken t k ∙ rw (← same) (stops-here (r .mark) (ended (heldIn h′ came′)) (there .then fetchedNode) marked))
+                ∙ sym (stops-here (r .mark) (ended (heldIn h′ came′)) (after (programOf j) (nodesOf h′)) marked);
+            finished = λ e. absurd (marked e);
+            few = few;
+            counted = counted;
+            paired = paired;
+            low = low;
+            rests = rw (keys-same, ← t) (round .rests);
+            no-more = omega arith;
+            all-shown = λ e. absurd (marked e);
+            trace-sized = trace-length;
+            untouched = trace-later;
+          }
+
+      -- Damage: nothing was taken out.
+      pub walked-damaged : r .taken ≡ false → h .count < length trace₀
+          → Fetches j draw n words₀ tree₀ trace₀ words′ scratch′ tree′ trace′ (record { held = h; came = came; waiting = r .waiting; mark = r .mark; leaves = h .count + 1 })
+      walked-damaged t k =
+          closed-here h came false t (λ e. let q : true ≡ false = sym (round .goes-on e) ∙ t in let z : _≡_ {A = ℕ} 0 1 = cc in absurd (omega arith)) k (sym (append-nil (heldIn h came))) walked-few walked-counted walked-paired (inv .low)
+          (inv .keys-are ∙ sym (append-nil (take (h .count) keys)))
+
+      module _ (x : node.Node) (is : toNode x ≡ fetchedNode) (taken : r .taken ≡ true) (k : h .count < length trace₀) where
+        abbrev pub heldMore : Held
+        heldMore = record { nodes = set (h .nodes) (h .count) x; count = h .count + 1 }
+
+        abbrev pub cameMore : List Came
+        cameMore = set came (h .count) (record { from = want .from })
+
+        abbrev keysMore : List ℕ
+        keysMore = set keys (h .count) (x .key)
+
+        nodes-more : nodesOf heldMore ≡ nodesOf h ++ (fetchedNode ∷ [])
+        nodes-more = held-more h x (omega (arith, inv .places, inv .upto, at-most j draw is-leaf b)) ∙ ap (λ (m : Node ℕ). nodesOf h ++ (m ∷ [])) is
+
+        froms-more : fromsIn heldMore cameMore ≡ fromsIn h came ++ (toFrom (want .from) ∷ [])
+        froms-more =
+            rw (add-one (h .count))
+            (first-more (λ (c : Came). toFrom (c .from)) came (h .count) (record { from = want .from }) (omega (arith, inv .came-sized, inv .upto, at-most j draw is-leaf b)))
+
+        held-more-is : heldIn heldMore cameMore ≡ heldIn h came ++ (takenAs want (draw (h .count)) (toNode (r .node)) ∷ [])
+        held-more-is =
+            ap₂ heldOf froms-more nodes-more
+            ∙ held-one-more (fromsIn h came) (nodesOf h) (toFrom (want .from)) fetchedNode (froms-length ∙ sym walked-counted)
+
+        more-counted : length (nodesOf heldMore) ≡ h .count + 1
+        more-counted =
+            let g = length-append (nodesOf h) (fetchedNode ∷ []) in
+            ap length nodes-more ∙ omega (arith, walked-counted)
+
+        more-paired : length (fromsIn heldMore cameMore) ≡ length (nodesOf heldMore)
+        more-paired =
+            let e = length-append (fromsIn h came) (toFrom (want .from) ∷ []) in
+            let g = length-append (nodesOf h) (fetchedNode ∷ []) in
+            ap length froms-more ∙ omega (arith, walked-paired) ∙ sym (ap length nodes-more)
+
+        keys-more : keysHeld (heldIn heldMore cameMore) ≡ take (h .count) keys ++ (r .node .key ∷ [])
+        keys-more =
+            ap keysHeld held-more-is
+            ∙ map-append (λ (g : fetch.Held). g .node .key) (heldIn h came) (takenAs want (draw (h .count)) (toNode (r .node)) ∷ [])
+            ∙ ap (λ (ks : List ℕ). ks ++ (r .node .key ∷ [])) (inv .keys-are)
+
+        -- The wanted link is low, and so is the node that passed its test.
+        node-low : Low 100 fetchedNode
+        unfolding test
+        node-low =
+            let low = wanted-low (toOp (j .op)) (j .tag) (j .limit) (j .entries) (toLink (j .root)) (nodesOf h) 100 (root-low j draw is-leaf b) (inv .low) asked in
+            let passed : test (structureIn j) (toWant want) (toNode (r .node)) ≡ true = rw (← b .structure-is) (round .tested taken) in
+            go (structureIn j) passed low
+          where
+            go : (s : Structure) → test s (toWant want) (toNode (r .node)) ≡ true → want .link .height ≤ 100 → Low 100 fetchedNode
+            go answer.map e l = map-tested-low (toWant want) (toNode (r .node)) 100 e l
+            go answer.stack e l = stack-tested-low (toWant want) (toNode (r .node)) 100 e (omega arith)
+
+        low-more : Lows 100 (nodesOf heldMore)
+        low-more = rw nodes-more (lows-append 100 (nodesOf h) fetchedNode (inv .low) node-low)
+
+        -- Overflow: the node was taken out.
+        pub walked-overflows : (r .mark ≡ 0 → ⊥)
+            → Fetches j draw n words₀ tree₀ trace₀ words′ scratch′ tree′ trace′ (record { held = heldMore; came = cameMore; waiting = r .waiting; mark = r .mark; leaves = h .count + 1 })
+        walked-overflows marked =
+            closed-here heldMore cameMore true taken marked k held-more-is (omega (arith, inv .upto, at-most j draw is-leaf b)) more-counted more-paired low-more keys-more
+
+        -- The call goes on.
+        pub walked-on : r .mark ≡ 0 → Walked j draw n words₀ tree₀ trace₀ heldMore cameMore (r .waiting) words′ scratch′ tree′ keysMore trace′
+        walked-on e =
+            let keys-first : take (h .count + 1) keysMore ≡ take (h .count) keys ++ (r .node .key ∷ []) =
+            rw (add-one (h .count)) (take-suc-set keys (h .count) (x .key) (omega (arith, inv .keys-sized, inv .upto, at-most j draw is-leaf b)))
+            ∙ ap (λ (key : ℕ). take (h .count) keys ++ (key ∷ [])) (ap (λ (m : Node ℕ). m .key) is) in
+            record {
+              upto = omega arith;
+              so-far =
+                  next-round true taken k ∙ rw (← held-more-is) (goes-on (r .mark) (ended (heldIn heldMore cameMore)) (there .then fetchedNode) e)
+                  ∙ ap (on (ended (heldIn heldMore cameMore))) (sym (ap (after (programOf j)) nodes-more ∙ after-more (programOf j) (nodesOf h) fetchedNode (there .is)));
+              rests = rw keys-first (rw taken at (round .rests));
+              keys-are = keys-more ∙ sym keys-first;
+              low = low-more;
+              places = length-set (h .nodes) (h .count) x ∙ inv .places;
+              came-sized = length-set came (h .count) (record { from = want .from }) ∙ inv .came-sized;
+              keys-sized = length-set keys (h .count) (x .key) ∙ inv .keys-sized;
+              trace-sized = trace-length;
+              untouched = trace-later;
+            }
+
+-- ---- before the first
+module _ (j : Job) (draw : ℕ → ℕ) {n : ℕ} {words scratch tree : List ℕ} (b : Begins j draw n words scratch tree) (trace : List ℕ) where
+  pub walked-begins : (h : Held) (came : List Came) (keys : List ℕ) → h .count ≡ 0 → length (h .nodes) ≡ 33 → length came ≡ 33 → length keys ≡ 33
+      → Walked j draw n words tree trace h came n words scratch tree keys trace
+  unfolding heldOf
+  walked-begins h came keys zero-held places came-sized keys-sized =
+      record {
+        upto = omega arith;
+        so-far =
+            rw zero-held
+            (fetches-none (structureIn j) (j .size) draw 0 (programOf j) (going n words tree [] [])
+            ∙ ap (on (going n words tree [] [])) (sym (after-none (programOf j))));
+        rests = rw zero-held (b .rests);
+        keys-are = rw zero-held;
+        low = rw zero-held tt;
+        places = places;
+        came-sized = came-sized;
+        keys-sized = keys-sized;
+        trace-sized = refl;
+        untouched = refl;
+      }
+
+-- ---- once none is wanted
+-- The rounds that are left want none, as put rounds do.
+idle-same : (k leaf : ℕ) (p : Prog ℕ (Outcome ℕ)) (g : Going) (h : Going) (q : Prog ℕ (Outcome ℕ)) → idleRound k leaf p g ≡ on h q → q ≡ p
+unfolding idleRound atClose
+idle-same k leaf p g h q e = go (readHalf leafFormat k (g .tree) leaf none (heldKeys g) (g .waiting)) refl
+  where
+    go : (o : Option (Hand (Node ℕ))) → readHalf leafFormat k (g .tree) leaf none (heldKeys g) (g .waiting) ≡ o → q ≡ p
+    go none r = let x : shut 8 (revealing leaf g) ≡ on h q = rw (r, idleRound) at e in let z : _≡_ {A = ℕ} 0 1 = cc in absurd (omega arith)
+    go (some d) r = close (tooMany (written k leaf (d .waiting) (g .held) g)) (rw (r, idleRound, atClose) at e)
+      where
+        close : (t : Bool) → pick t (shut 9 (written k leaf (d .waiting) (g .held) g)) (on (written k leaf (d .waiting) (g .held) g) p) ≡ on h q → q ≡ p
+        close true x = let z : _≡_ {A = ℕ} 0 1 = cc in absurd (omega arith)
+        close false x = cc
+
+pub done-rounds : (s : Structure) (k : ℕ) (draw : ℕ → ℕ) (n i : ℕ) (o : Outcome ℕ) (g : Going)
+    → fetchRounds s k draw n i (done o) g ≡ putRounds k draw n i o g
+unfolding fetchRound goesOn
+done-rounds s k draw zero i o g = fetches-none s k draw i (done o) g ∙ sym (put-none k draw i o g)
+done-rounds s k draw (suc n) i o g =
+    fetches-next s k draw n i (done o) g
+    ∙ go (λ h. done-rounds s k draw n (suc i) o h) (idleRound k (draw i) (done o) g) refl
+  where
+    go : ((h : Going) → fetchRounds s k draw n (suc i) (done o) h ≡ putRounds k draw n (suc i) o h)
+        → (x : Round (Outcome ℕ)) → idleRound k (draw i) (done o) g ≡ x
+        → goesOn s k draw x (λ h q. fetchRounds s k draw n (suc i) q h) ≡ putRounds k draw (suc n) i o g
+    go more (shut m h) e = sym (put-shuts k draw n i o g h m e)
+    go more (on h q) e =
+        let same : q ≡ done o = idle-same k (draw i) (done o) g h q e in
+        rw same (more h) ∙ sym (put-goes k draw n i o g h (rw same at e))

@@ -1,0 +1,2 @@
+pub mod Stash
+pub mod StashLaws

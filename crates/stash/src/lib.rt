@@ -1,0 +1,18 @@
+// For the length of a call the waiting nodes of a state are words in a lent array: loaded at its start, joined by other
+// nodes, saved at its end.
+use slots::Node;
+use slots::Slot;
+use slots::codec::slot_of;
+ghost use mathlib.Core.Path.{_≡_};
+ghost use Rattle.leaf_nodes.specs.Convert.{toNode};
+ghost use Rattle.waiting.specs.Waiting.{wordsFor, InWidths};
+
+pub mod join;
+pub mod places;
+
+// The words of a node, whose numbers are within their widths.
+fn words_of(n: Node) -> Slot
+    ensures { λ r. ⌜ InWidths (toNode n) × (r ≡ wordsFor (toNode n)) ⌝ }
+{
+    slot_of(n)
+}

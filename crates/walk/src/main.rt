@@ -1,0 +1,163 @@
+// The walk program: reads a structure byte, a size byte, then for each call a ticket and its tape numbers from standard
+// input, makes the calls on a store, and prints a line for each as soon as it has been made.
+use libc::STDIN_FILENO;
+use libc::STDOUT_FILENO;
+use state::State;
+use state::opening::open;
+use store::Reply;
+use tickets::TICKET_LENGTH;
+use walk_lines::Arrived;
+use walk_lines::HEAD_LENGTH;
+use walk_lines::LARGEST_TREE;
+use walk_lines::LONGEST_LINE;
+use walk_lines::LONGEST_RECORD;
+use walk_lines::MOST_DRAWS;
+use walk_lines::MOST_LEAVES;
+use walk_lines::input::arrived;
+use walk_lines::input::read_tape;
+use walk_lines::input::record_length;
+use walk_lines::input::rounds;
+use walk_lines::input::tree_lent;
+use walk_lines::line::line;
+use walk_lines::line::short_line;
+ghost use mathlib.Core.Path.{_≡_};
+ghost use Prim.Native.Nat.{_+_, _*_, _≤_};
+ghost use lib.ListN.{length};
+ghost use Rattle.io.specs.Counts.{Counts};
+ghost use Rattle.state.specs.Fit.{largestSize};
+ghost use Rattle.state.specs.Ticket.{ticketLength};
+ghost use Rattle.store.specs.Store.{called};
+ghost use Rattle.walk_lines.specs.Lines.{mostLeaves, longestLine};
+ghost use Rattle.walk_lines.specs.Input.{mostRounds, roundsOf, tapeNumber, recordLength, ticketIn, tapeIn};
+ghost use Rattle.walk_lines.specs.Walk.{callIn, Printed};
+
+// What a call of the input leaves: the state, and the length of its line.
+struct Walked {
+    state: State,
+    length: usize,
+}
+
+// Makes the call that stands in `input`, with a tape and a trace buffer of the right lengths, and puts its line into `out`.
+fn make_call(
+    state: State,
+    tree: &mut [u8],
+    input: &[u8],
+    tape: &mut [u16],
+    trace: &mut [u16],
+    out: &mut [u8],
+) -> Walked
+    requires { ⌜ (ticketLength + tapeNumber * length (now tape) ≤ length (now input)) × (length (now trace) ≤ mostLeaves) × (longestLine ≤ length (now out)) ⌝ }
+    ensures { λ r. ⌜ Counts (r .length) (now (out .exit)) ⌝ }
+    ensures { λ r. ⌜ Printed (called state (now (tree .entry)) (ticketIn (now (input .entry))) (tapeIn (length (now (tape .entry))) (now (input .entry))) (now (trace .entry))) (now (out .entry)) (r .state) (now (tree .exit)) (now (out .exit)) (r .length) ⌝ }
+{
+    read_tape(input, tape);
+    let made = call::call(state, tree, &input[..TICKET_LENGTH], tape, trace);
+    let reply = made.reply;
+    let length = line(reply, made.leaves, trace, out);
+    let left = made.state;
+    Walked {
+        state: left,
+        length,
+    }
+}
+
+// Makes the call that stands in `input` on a store whose calls have that many fetch rounds.
+fn walk_call(state: State, tree: &mut [u8], input: &[u8], fetches: usize, out: &mut [u8]) -> Walked
+    requires { ⌜ (fetches ≡ roundsOf (state .structure) (state .size)) × (fetches ≤ mostRounds) × (recordLength (state .structure) (state .size) ≤ length (now input)) × (longestLine ≤ length (now out)) ⌝ }
+    ensures { λ r. ⌜ Counts (r .length) (now (out .exit)) ⌝ }
+    ensures { λ r. ⌜ Printed (callIn state (now (tree .entry)) (now (input .entry))) (now (out .entry)) (r .state) (now (tree .exit)) (now (out .exit)) (r .length) ⌝ }
+{
+    let leaves = 2 * fetches;
+    let draws = leaves + 1;
+    let mut tape = [0u16; MOST_DRAWS];
+    let mut trace = [0u16; MOST_LEAVES];
+    make_call(
+        state,
+        tree,
+        input,
+        &mut tape[..draws],
+        &mut trace[..leaves],
+        out,
+    )
+}
+
+fn print_short() {
+    let mut out = [0u8; LONGEST_LINE];
+    let length = short_line(&mut out);
+    io::write_all(STDOUT_FILENO, &out[..length]);
+}
+
+fn print_refused(mark: u8) {
+    let none = [0u16; 1];
+    let mut out = [0u8; LONGEST_LINE];
+    let length = line(Reply::Refused(mark), 0, &none, &mut out);
+    io::write_all(STDOUT_FILENO, &out[..length]);
+}
+
+// The state after one more call of the input, and whether to read on.
+struct Read {
+    state: State,
+    more: bool,
+}
+
+// Reads a call of `wanted` bytes, in pieces of any length, makes it and prints its line.
+fn read_call(state: State, tree: &mut [u8], fetches: usize, wanted: usize) -> Read
+    requires { ⌜ (fetches ≡ roundsOf (state .structure) (state .size)) × (fetches ≤ mostRounds) × (wanted ≡ recordLength (state .structure) (state .size)) ⌝ }
+    ensures { λ r. ⌜ (r .state .structure ≡ state .structure) × (r .state .size ≡ state .size) ⌝ }
+{
+    let mut input = [0u8; LONGEST_RECORD];
+    let got = io::read_full(STDIN_FILENO, &mut input[..wanted]);
+    match arrived(got, wanted) {
+        Arrived::End => Read { state, more: false },
+        Arrived::Short => {
+            print_short();
+            Read { state, more: false }
+        }
+        Arrived::Whole => {
+            let mut out = [0u8; LONGEST_LINE];
+            let walked = walk_call(state, tree, &input[..wanted], fetches, &mut out);
+            let length = walked.length;
+            let more = io::write_all(STDOUT_FILENO, &out[..length]);
+            let left = walked.state;
+            Read { state: left, more }
+        }
+    }
+}
+
+// The calls up to the input's end. A proved loop has to end, and nothing says that an input does: the loop counts its
+// turns down from a number that no run uses up.
+fn read_calls(opened: State, tree: &mut [u8])
+    requires { ⌜ (1 ≤ opened .size) × (opened .size ≤ largestSize) ⌝ }
+{
+    let fetches = rounds(opened.structure, opened.size);
+    let wanted = record_length(opened.structure, opened.size);
+    let mut state = opened;
+    let mut turns = u64::MAX;
+    while turns > 0 {
+        let read = read_call(state, tree, fetches, wanted);
+        if !read.more {
+            return;
+        }
+        state = read.state;
+        turns -= 1;
+    }
+}
+
+fn main() {
+    let mut head = [0u8; HEAD_LENGTH];
+    let got = io::read_full(STDIN_FILENO, &mut head);
+    if got < HEAD_LENGTH {
+        print_short();
+        return;
+    }
+    let size = head[1];
+    let mut space = [0u8; LARGEST_TREE];
+    let length = tree_lent(size);
+    let tree: &mut [u8] = &mut space[..length];
+    let state = open(head[0], size, tree);
+    if state.mark != 0 {
+        print_refused(state.mark);
+        return;
+    }
+    read_calls(state, tree);
+}

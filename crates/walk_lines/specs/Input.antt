@@ -1,0 +1,55 @@
+-- What the walk program reads: "a structure byte, a size byte, then for each call a ticket and its 2F + 1 tape numbers".
+use Prim.Native.Nat.{ℕ, zero, suc, _+_, _*_}
+use mathlib.Core.List.{List, [], _∷_}
+use lib.Dec.{eqb, ltb}
+use lib.ListN.{take, drop}
+use Rattle.basics.specs.Choice.{pick}
+use Rattle.slots.specs.LittleEndian.{value}
+use Rattle.slots.specs.Tree.{treeLength}
+use Rattle.method.specs.Rounds.{rounds}
+use Rattle.state.specs.Fit.{inRange, largestSize}
+use Rattle.state.specs.Ticket.{ticketLength, structureOf}
+use Rattle.walk_lines.specs.declared.Arrived.{Arrived}
+use Rattle.walk_lines.specs.declared.Arrived.the-variants.{Whole, End, Short}
+
+-- F for a structure byte and a size byte.
+abbrev pub roundsOf : ℕ → ℕ → ℕ
+roundsOf structure size = rounds (structureOf structure) size
+
+-- F is greatest for a map of the largest size.
+abbrev pub mostRounds : ℕ
+mostRounds = 33
+
+-- A tape number has two bytes.
+abbrev pub tapeNumber : ℕ
+tapeNumber = 2
+
+-- The bytes of one call.
+abbrev pub recordLength : ℕ → ℕ → ℕ
+recordLength structure size = ticketLength + tapeNumber * (2 * roundsOf structure size + 1)
+
+abbrev pub longestRecord : ℕ
+longestRecord = ticketLength + tapeNumber * (2 * mostRounds + 1)
+
+abbrev pub ticketIn : List ℕ → List ℕ
+ticketIn bs = take ticketLength bs
+
+-- So many numbers, each of two bytes, little-endian.
+unfoldable pub numbersIn : ℕ → List ℕ → List ℕ
+numbersIn zero bs = []
+numbersIn (suc n) bs = value (take tapeNumber bs) ∷ numbersIn n (drop tapeNumber bs)
+
+-- The tape numbers of a call follow its ticket.
+abbrev pub tapeIn : ℕ → List ℕ → List ℕ
+tapeIn n bs = numbersIn n (drop ticketLength bs)
+
+-- How a part of the input with so many bytes came: whole, or the input ended before it or within it.
+unfoldable pub arrivedOf : ℕ → ℕ → Arrived
+arrivedOf got wanted = pick (ltb got wanted) (pick (eqb got 0) End Short) Whole
+
+-- The tree that an opening is lent: none for a size that it refuses.
+abbrev pub treeLent : ℕ → ℕ
+treeLent size = pick (inRange size largestSize) (treeLength size) 0
+
+abbrev pub largestTree : ℕ
+largestTree = treeLength largestSize

@@ -1,0 +1,71 @@
+// The parts of the walk program's input.
+use super::Arrived;
+use balance::greatest_height;
+use slots::tree::tree_length;
+use state::LARGEST_SIZE;
+use state::fit::in_range;
+use tickets::TICKET_LENGTH;
+ghost use mathlib.Core.Path.{_≡_};
+ghost use Prim.Native.Nat.{_+_, _*_, _≤_};
+ghost use lib.ListN.{length};
+ghost use Rattle.state.specs.Fit.{largestSize};
+ghost use Rattle.state.specs.Ticket.{ticketLength};
+ghost use Rattle.walk_lines.specs.Input.{mostRounds, roundsOf, recordLength, longestRecord, tapeNumber, tapeIn, arrivedOf, treeLent, largestTree};
+
+// How a part of the input came of which so many bytes were wanted.
+pub fn arrived(got: usize, wanted: usize) -> Arrived
+    ensures { λ r. ⌜ r ≡ arrivedOf got wanted ⌝ }
+{
+    if got < wanted {
+        if got == 0 {
+            return Arrived::End;
+        }
+        return Arrived::Short;
+    }
+    Arrived::Whole
+}
+
+// The length of the tree that an opening is lent.
+pub fn tree_lent(size: u8) -> usize
+    ensures { λ r. ⌜ (r ≡ treeLent size) × (r ≤ largestTree) ⌝ }
+{
+    if in_range(size, LARGEST_SIZE) {
+        return tree_length(size as usize);
+    }
+    0
+}
+
+// F: the fetch rounds of a call, and as many put rounds.
+pub fn rounds(structure: u8, size: u8) -> usize
+    requires { ⌜ (1 ≤ size) × (size ≤ largestSize) ⌝ }
+    ensures { λ r. ⌜ (r ≡ roundsOf structure size) × (r ≤ mostRounds) ⌝ }
+{
+    if structure == 1 {
+        return 3 * greatest_height(size as usize) as usize;
+    }
+    1
+}
+
+// The bytes of one call.
+pub fn record_length(structure: u8, size: u8) -> usize
+    requires { ⌜ (1 ≤ size) × (size ≤ largestSize) ⌝ }
+    ensures { λ r. ⌜ (r ≡ recordLength structure size) × (r ≤ longestRecord) ⌝ }
+{
+    TICKET_LENGTH + 2 * (2 * rounds(structure, size) + 1)
+}
+
+// The tape numbers of a call, which follow its ticket.
+pub fn read_tape(input: &[u8], tape: &mut [u16])
+    requires { ⌜ ticketLength + tapeNumber * length (now tape) ≤ length (now input) ⌝ }
+    ensures { λ _. ⌜ now (tape .exit) ≡ tapeIn (length (now (tape .entry))) (now (input .entry)) ⌝ }
+{
+    let mut at = TICKET_LENGTH;
+    let mut i = 0;
+    while i < tape.len() {
+        let low = input[at];
+        let high = input[at + 1];
+        tape[i] = low as u16 + 256 * (high as u16);
+        at += 2;
+        i += 1;
+    }
+}

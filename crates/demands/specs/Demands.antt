@@ -10,6 +10,11 @@ use lib.ListN.{length, getD}
 use Rattle.basics.specs.Perm.{Perm}
 use Rattle.basics.specs.Distinct.{Distinct}
 use Rattle.slots.specs.LittleEndianLaws.{Bytes}
+use Rattle.slots.specs.SlotLaws.{Ranged}
+use Rattle.slots.specs.Tree.{passes, slotLength}
+use Rattle.slots.specs.Slot.{encode, wellFormed, readSlot}
+use Rattle.slots.specs.declared.Node as slot
+use Rattle.slots.specs.declared.Reading.the-variants.{Full}
 use Rattle.method.specs.Answer.{Structure, Op}
 use Rattle.method.specs.Plain.{plainAnswers, nothing}
 use Rattle.method.specs.Node.{Node}
@@ -83,6 +88,11 @@ module _ (s : State) (tree ticket tape trace : List ℕ) where
         → NoneLost (structureOf (s .structure)) op
 
 -- ---- demands 2 and 3: lists of calls from a good opening
+-- A node written to its slot reads back as that node, and no other slot bytes read as it.
+pub record RoundTrip (k : ℕ) : Type 0 where
+  pub reads-back : (b : ℕ) (n : slot.Node) → Ranged n → wellFormed k n ≡ true → passes k (n .tag) b ≡ true → readSlot k b (encode n) ≡ Full n
+  pub none-other : (b : ℕ) (bytes : List ℕ) (n : slot.Node) → Bytes bytes → length bytes ≡ slotLength → readSlot k b bytes ≡ Full n → bytes ≡ encode n
+
 -- The store that a good opening of a tree leaves.
 abbrev pub openedStore : Structure → ℕ → List ℕ → Kept
 openedStore st k tree =
@@ -105,6 +115,7 @@ module _ (st : Structure) (k : ℕ) (tree : List ℕ) (bs : List Brought) where
 
   -- Until it closes every answer is the plain machine's, and no call meets 2, 3 or 8.
   pub record Demand2 : Type 0 where
+    pub slots : RoundTrip k
     pub answers : finally start bs .state .mark ≡ 0
         → replies (history start bs) ≡ map replyOf (plainAnswers (capacity k) (opsIn st (counted start bs)) (nothing st))
     -- State, tree and trace are those of the method: see `Follows`.

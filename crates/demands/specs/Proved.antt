@@ -9,6 +9,7 @@ use lib.ListN.{length, getD}
 use Rattle.basics.specs.Distinct.{All}
 use Rattle.slots.specs.Tree.{treeLength}
 use Rattle.slots.specs.LittleEndianLaws.{Bytes}
+use Rattle.slots.specs.ReadLaws.{written-reads-back, read-is-written}
 use Rattle.method.specs.Answer.{Structure}
 use Rattle.method.specs.Plain.{plainAnswers, nothing}
 use Rattle.method.specs.Rounds.{rounds}
@@ -44,6 +45,11 @@ module _ (st : Structure) (k : ℕ) (positive : 1 ≤ k) (small : k ≤ 8) (tree
       let asking = opened-runs st k positive small tree sized bs bytes .0 in
       let runs = opened-runs st k positive small tree sized bs bytes .1 in
       record {
+        slots =
+            record {
+              reads-back = written-reads-back k;
+              none-other = λ b bytes n h l e. read-is-written k b bytes h l n e .written;
+            };
         answers = λ m.
             runs .answers
             ∙ ap (map (replied 9)) (answers-plain k positive (omega arith) tapes ops (asking .fit) (sym (runs .mark) ∙ m))

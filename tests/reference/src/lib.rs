@@ -5,12 +5,17 @@
 //! - `fast`: the same store written for speed, over fixed arrays.
 //! - `origin`: the origin rule, a machine with no buckets and no tape.
 //! - `walk`, `listing`: what the programs print.
+//! - `inputs`, `random`: random inputs of the walk program, from seeds.
+//! - `checksum`: what the benchmark compares.
 
+pub mod checksum;
 pub mod fast;
+pub mod inputs;
 pub mod listing;
 pub mod origin;
 pub mod paper;
 pub mod plain;
+pub mod random;
 pub mod walk;
 
 use paper::Outcome;

@@ -241,7 +241,7 @@ fn damaged_run(random: &mut Random, structure: u8, size: u8, tally: &mut Tally) 
 }
 
 fn damaged_runs(seed: u64, structure: u8, times: usize, names: &[&str]) {
-    let mut random = Random::new(seed);
+    let mut random = seeded(seed);
     let mut tally = Tally::default();
     for size in 1..=GREATEST_SIZE {
         // Small stores are quick, and damage is met sooner in them.
@@ -345,7 +345,7 @@ fn crowded_run(random: &mut Random, structure: u8, size: u8, tally: &mut Tally) 
 
 #[test]
 fn crowded_stores() {
-    let mut random = Random::new(23);
+    let mut random = seeded(23);
     let mut tally = Tally::default();
     for structure in [MAP, STACK] {
         for size in 2..=GREATEST_SIZE {
@@ -360,7 +360,7 @@ fn crowded_stores() {
 /// Foreign kinds and wrong lengths among good calls.
 #[test]
 fn odd_calls() {
-    let mut random = Random::new(24);
+    let mut random = seeded(24);
     let mut tally = Tally::default();
     for structure in [MAP, STACK] {
         for size in 1..=GREATEST_SIZE {

@@ -91,7 +91,7 @@ fn run(random: &mut Random, structure: u8, size: u8, tape: Tape, calls: usize) -
 }
 
 fn runs(seed: u64, structure: u8, tape: Tape, times: usize) -> usize {
-    let mut random = Random::new(seed);
+    let mut random = seeded(seed);
     let mut closed = 0;
     for size in 1..=GREATEST_SIZE {
         for _ in 0..times {
@@ -142,7 +142,7 @@ fn few_leaf_stacks() {
 /// A full map still walks, and every put answers 10.
 #[test]
 fn full_maps() {
-    let mut random = Random::new(19);
+    let mut random = seeded(19);
     for size in 1..=6 {
         let mut pair = Pair::open(MAP, size);
         let length = 2 * fetch_rounds(MAP, size) + 1;

@@ -154,7 +154,7 @@ fn sixty_four_may_wait() {
 /// Any of the causes at once: the first in order is returned.
 #[test]
 fn order_of_causes() {
-    let mut random = Random::new(31);
+    let mut random = seeded(31);
     for _ in 0..4000 {
         let structure = 1 + random.below(2) as u8;
         let size = 1 + random.below(3) as u8;

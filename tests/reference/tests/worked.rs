@@ -3,6 +3,7 @@
 mod common;
 
 use common::*;
+use reference::inputs::call_bytes;
 use reference::origin::Machine;
 use reference::paper::*;
 use reference::plain::{self, passes, path, read_slot, Node, Reading};
@@ -248,12 +249,6 @@ fn openings() {
     );
 }
 
-/// A call as the walk program reads it.
-fn walk_call(ticket: Ticket, tape: &[u16]) -> Vec<u8> {
-    let tape = tape.iter().flat_map(|number| number.to_le_bytes());
-    ticket.bytes().into_iter().chain(tape).collect()
-}
-
 fn walk_output(input: &[u8]) -> String {
     let (mut plain, mut fast) = (vec![], vec![]);
     walk::run::<plain::State>(input, &mut plain).unwrap();
@@ -276,8 +271,8 @@ fn program_output(input: &[u8]) -> String {
 fn walk_program() {
     let input = [
         vec![2, 2],
-        walk_call(push(50), &[1, 2, 3]),
-        walk_call(pop(), &[0, 1, 1]),
+        call_bytes(push(50), &[1, 2, 3]),
+        call_bytes(pop(), &[0, 1, 1]),
     ]
     .concat();
     let lines = ["pushed 0 1 3\n", "popped 50 2 1\n"];
@@ -304,9 +299,9 @@ fn walk_program_refusals() {
     let mut input = vec![2, 8, 0];
     input.pop();
     for value in 1..=102 {
-        input.extend(walk_call(push(value), &[0; 3]));
+        input.extend(call_bytes(push(value), &[0; 3]));
     }
-    input.extend(walk_call(get(0), &[0; 3]));
+    input.extend(call_bytes(get(0), &[0; 3]));
     let output = walk_output(&input);
     let last: Vec<&str> = output.lines().skip(99).collect();
     assert_eq!(
@@ -315,8 +310,8 @@ fn walk_program_refusals() {
     );
     let input = [
         vec![2, 1],
-        walk_call(get(0), &[0; 3]),
-        walk_call(pop(), &[7, 8, 9]),
+        call_bytes(get(0), &[0; 3]),
+        call_bytes(pop(), &[7, 8, 9]),
     ]
     .concat();
     assert_eq!(walk_output(&input), "refused 5\nempty 0 1 1\n");

@@ -2,6 +2,7 @@
 //! on stores kept about half full.
 
 use reference::paper::*;
+use reference::random::Random;
 use reference::{fast, plain, Store};
 use std::time::{Duration, Instant};
 
@@ -29,11 +30,11 @@ fn pace<S: Store>(structure: u8, size: u8) -> f64 {
     let mut tree = vec![0; tree_bytes(size)];
     let mut store = S::open(structure, size, &mut tree);
     let mut trace = vec![0; 2 * rounds];
-    let mut random = 1u64;
+    let mut random = Random::new(1);
     let (mut batches, mut spent) = (0, Duration::ZERO);
     while spent < Duration::from_millis(200) {
         let numbers = BATCH * (2 * rounds + 1);
-        let tapes: Vec<u16> = (0..numbers).map(|_| next(&mut random) as u16).collect();
+        let tapes: Vec<u16> = (0..numbers).map(|_| random.next() as u16).collect();
         let tickets: Vec<_> = (0..BATCH)
             .map(|_| ticket(&mut random, structure, size).bytes())
             .collect();
@@ -48,20 +49,11 @@ fn pace<S: Store>(structure: u8, size: u8) -> f64 {
     spent.as_nanos() as f64 / (batches * BATCH) as f64
 }
 
-fn ticket(random: &mut u64, structure: u8, size: u8) -> Ticket {
-    let draw = next(random);
+fn ticket(random: &mut Random, structure: u8, size: u8) -> Ticket {
+    let draw = random.next();
     let kind = match structure {
         MAP => GET + (draw % 3) as u8,
         _ => PUSH + (draw % 2) as u8,
     };
     Ticket::new(kind, (draw >> 8) as u32 % (2 << size), draw)
-}
-
-/// Splitmix64.
-fn next(random: &mut u64) -> u64 {
-    *random = random.wrapping_add(0x9e37_79b9_7f4a_7c15);
-    let mut mixed = *random;
-    mixed = (mixed ^ mixed >> 30).wrapping_mul(0xbf58_476d_1ce4_e5b9);
-    mixed = (mixed ^ mixed >> 27).wrapping_mul(0x94d0_49bb_1331_11eb);
-    mixed ^ mixed >> 31
 }

@@ -3,38 +3,15 @@
 
 use reference::paper::*;
 use reference::plain::{self, Node, Reading};
+pub use reference::random::Random;
 use reference::{fast, listing, Store};
 use std::collections::BTreeMap;
 
-/// Splitmix64. The environment's SEED moves every run.
-pub struct Random(u64);
-
-impl Random {
-    pub fn new(seed: u64) -> Random {
-        let moved = std::env::var("SEED").map_or(0, |text| text.parse().expect("a number"));
-        println!("seed {seed}, SEED {moved}");
-        Random(seed ^ moved << 32)
-    }
-
-    pub fn next(&mut self) -> u64 {
-        self.0 = self.0.wrapping_add(0x9e37_79b9_7f4a_7c15);
-        let mut mixed = self.0;
-        mixed = (mixed ^ mixed >> 30).wrapping_mul(0xbf58_476d_1ce4_e5b9);
-        mixed = (mixed ^ mixed >> 27).wrapping_mul(0x94d0_49bb_1331_11eb);
-        mixed ^ mixed >> 31
-    }
-
-    pub fn below(&mut self, bound: u64) -> u64 {
-        self.next() % bound
-    }
-
-    pub fn index(&mut self, bound: usize) -> usize {
-        self.below(bound as u64) as usize
-    }
-
-    pub fn one_in(&mut self, bound: u64) -> bool {
-        self.below(bound) == 0
-    }
+/// A generator; the environment's SEED moves every run.
+pub fn seeded(seed: u64) -> Random {
+    let moved = std::env::var("SEED").map_or(0, |text| text.parse().expect("a number"));
+    println!("seed {seed}, SEED {moved}");
+    Random::new(seed ^ moved << 32)
 }
 
 /// Whence the tape's numbers come.

@@ -1,0 +1,56 @@
+//! An input for the benchmark, in the walk program's format:
+//! `bench_input STRUCTURE SIZE CALLS SEED INPUT PATHS` writes it to INPUT, and
+//! to PATHS the same with each call's leaves in place of its tape's first 2F
+//! numbers, so that the floor copies the same paths.
+//!
+//! Tapes are uniform. The map's calls are get, put and remove alike, of half
+//! as many keys again as there is room for, so that it is three quarters full
+//! in the long run; the stack's are push and pop alike, so that it is half full.
+
+use reference::fast;
+use reference::inputs::call_bytes;
+use reference::paper::*;
+use reference::random::Random;
+use std::{env, fs, io};
+
+fn main() -> io::Result<()> {
+    let words: Vec<String> = env::args().skip(1).collect();
+    let [structure, size, calls, seed, input, paths] = words.as_slice() else {
+        eprintln!("usage: bench_input STRUCTURE SIZE CALLS SEED INPUT PATHS");
+        std::process::exit(2);
+    };
+    let number = |word: &str| word.parse::<u64>().expect("a number");
+    let (structure, size) = (number(structure) as u8, number(size) as u8);
+    let mut random = Random::new(number(seed));
+    let (with_tapes, with_leaves) = generate(&mut random, structure, size, number(calls));
+    fs::write(input, with_tapes)?;
+    fs::write(paths, with_leaves)
+}
+
+fn generate(random: &mut Random, structure: u8, size: u8, calls: u64) -> (Vec<u8>, Vec<u8>) {
+    let rounds = fetch_rounds(structure, size);
+    let mut tree = vec![0; tree_bytes(size)];
+    let mut state = fast::open(structure, size, &mut tree);
+    assert_eq!(state.mark, 0, "structure 1 or 2, size 1 to 8");
+    let (mut with_tapes, mut with_leaves) = (vec![structure, size], vec![structure, size]);
+    // A tape, and a trace with room for one more number, so that both have 2F + 1.
+    let (mut tape, mut trace) = (vec![0; 2 * rounds + 1], vec![0; 2 * rounds + 1]);
+    for _ in 0..calls {
+        let ticket = ticket(random, structure, size);
+        tape.fill_with(|| random.next() as u16);
+        let outcome = fast::call(&mut state, &mut tree, &ticket.bytes(), &tape, &mut trace);
+        assert_eq!(outcome.leaves, 2 * rounds, "an overflow: take another seed");
+        with_tapes.extend(call_bytes(ticket, &tape));
+        with_leaves.extend(call_bytes(ticket, &trace));
+    }
+    (with_tapes, with_leaves)
+}
+
+fn ticket(random: &mut Random, structure: u8, size: u8) -> Ticket {
+    let kind = match structure {
+        MAP => random.pick(&[GET, PUT, REMOVE]),
+        _ => random.pick(&[PUSH, POP]),
+    };
+    let key = random.below(u64::from(capacity(size)) * 3 / 2 + 1) as u32;
+    Ticket::new(kind, key, random.next())
+}

@@ -1,0 +1,328 @@
+//! Random inputs of the walk program, each from a seed of its own. Seeds in a
+//! row go through every structure, size and plan.
+
+use crate::paper::*;
+use crate::random::Random;
+
+/// What an input is to try.
+#[derive(Clone, Copy, Debug, PartialEq, Eq)]
+pub enum Plan {
+    Uniform,
+    /// Tapes of few leaves, so that stores of size 7 and 8 overflow.
+    FewLeaves,
+    /// Few leaves for most rounds, and any tag for a new node: nodes wait that
+    /// find no room on those paths.
+    SkewedLeaves,
+    Zeros,
+    FillAndEmpty,
+    /// Few keys, key 0 and the greatest among them, and great values.
+    HotKeys,
+    ForeignKinds,
+    BrokenOff,
+    RefusedOpening,
+}
+
+pub const PLANS: [Plan; 9] = [
+    Plan::Uniform,
+    Plan::FewLeaves,
+    Plan::SkewedLeaves,
+    Plan::Zeros,
+    Plan::FillAndEmpty,
+    Plan::HotKeys,
+    Plan::ForeignKinds,
+    Plan::BrokenOff,
+    Plan::RefusedOpening,
+];
+
+/// Whence a call's tape comes.
+#[derive(Clone, Copy)]
+enum Tape {
+    Uniform,
+    Zeros,
+    FewLeaves,
+    SkewedLeaves,
+    /// Another of the first three for each call.
+    Changing,
+}
+
+/// The key that a small number stands for.
+#[derive(Clone, Copy)]
+enum Keys {
+    Small,
+    /// Over all 32 bits.
+    Scattered,
+    Edges,
+}
+
+const EDGE_KEYS: [u32; 9] = [
+    0,
+    1,
+    255,
+    256,
+    0xffff,
+    0x1_0000,
+    0x8000_0000,
+    u32::MAX - 1,
+    u32::MAX,
+];
+
+const EDGE_VALUES: [u64; 9] = [
+    0,
+    1,
+    9,
+    10,
+    0xffff_ffff,
+    1 << 63,
+    9_999_999_999_999_999_999,
+    10_000_000_000_000_000_000,
+    u64::MAX,
+];
+
+struct Input {
+    random: Random,
+    structure: u8,
+    size: u8,
+    tape: Tape,
+    leaves: Vec<u16>,
+    /// How many of eight numbers of a skewed tape, but for a new node's tag,
+    /// are of those leaves.
+    skew: u64,
+    keys: Keys,
+    /// How many of ten calls are to add an entry.
+    growth: u64,
+    bytes: Vec<u8>,
+}
+
+pub fn plan(seed: u64) -> Plan {
+    PLANS[(seed / 16) as usize % PLANS.len()]
+}
+
+/// A call as the walk program reads it.
+pub fn call_bytes(ticket: Ticket, tape: &[u16]) -> Vec<u8> {
+    let tape = tape.iter().flat_map(|number| number.to_le_bytes());
+    ticket.bytes().into_iter().chain(tape).collect()
+}
+
+/// The input of a seed.
+pub fn input(seed: u64) -> Vec<u8> {
+    let mut input = Input::new(seed);
+    match plan(seed) {
+        Plan::Uniform => input.some_calls(Tape::Uniform),
+        Plan::FewLeaves => input.growing_calls(Tape::FewLeaves),
+        Plan::SkewedLeaves => input.growing_calls(Tape::SkewedLeaves),
+        Plan::Zeros => input.growing_calls(Tape::Zeros),
+        Plan::FillAndEmpty => input.fill_and_empty(),
+        Plan::HotKeys => {
+            input.keys = Keys::Edges;
+            input.some_calls(Tape::Changing);
+        }
+        Plan::ForeignKinds => input.foreign_kinds(),
+        Plan::BrokenOff => input.broken_off(),
+        Plan::RefusedOpening => input.refused_opening(),
+    }
+    input.bytes
+}
+
+impl Input {
+    /// The opening.
+    fn new(seed: u64) -> Input {
+        let mut random = Random::new(seed);
+        let structure = [MAP, STACK][(seed % 2) as usize];
+        let size = 1 + (seed / 2 % 8) as u8;
+        let leaves = (0..=random.below(4))
+            .map(|_| random.next() as u16)
+            .collect();
+        Input {
+            structure,
+            size,
+            tape: Tape::Uniform,
+            leaves,
+            skew: random.pick(&[6, 7, 8, 8, 8]),
+            keys: random.pick(&[Keys::Small, Keys::Scattered]),
+            growth: 3 + random.below(6),
+            bytes: vec![structure, size],
+            random,
+        }
+    }
+
+    fn capacity(&self) -> u64 {
+        u64::from(capacity(self.size))
+    }
+
+    // ---- plans
+
+    /// Mostly few calls, sometimes many.
+    fn some_calls(&mut self, tape: Tape) {
+        self.tape = tape;
+        let most = match self.random.below(3) {
+            0 => 8,
+            1 => 60,
+            _ => 2 * self.capacity() + 20,
+        };
+        for _ in 0..=self.random.below(most) {
+            self.any_call();
+        }
+    }
+
+    /// Enough calls to overflow, where the tape does that, and some more.
+    fn growing_calls(&mut self, tape: Tape) {
+        self.tape = tape;
+        self.growth = 7 + self.random.below(4);
+        for _ in 0..self.capacity() * 5 / 4 + self.random.below(20) {
+            self.any_call();
+        }
+    }
+
+    /// Fills the store and tries to go on, then empties it and tries to go
+    /// on, with keys in order or not, and other calls between.
+    fn fill_and_empty(&mut self) {
+        let (add, take) = match self.structure {
+            MAP => (PUT, REMOVE),
+            _ => (PUSH, POP),
+        };
+        for _ in 0..=self.random.below(2) {
+            for kind in [add, take] {
+                for key in self.keys_in_some_order() {
+                    let value = self.value();
+                    self.call(kind, key, value);
+                    if self.random.one_in(8) {
+                        self.any_call();
+                    }
+                }
+            }
+        }
+    }
+
+    fn keys_in_some_order(&mut self) -> Vec<u32> {
+        let count = self.capacity() + self.random.below(4);
+        let mut keys: Vec<u32> = (0..count).map(|small| self.key_of(small)).collect();
+        match self.random.below(4) {
+            0 => keys.sort(),
+            1 => keys.reverse(),
+            _ => self.random.shuffle(&mut keys),
+        }
+        keys
+    }
+
+    fn foreign_kinds(&mut self) {
+        self.tape = Tape::Changing;
+        for _ in 0..=self.random.below(40) {
+            if self.random.one_in(3) {
+                let structure = self.structure;
+                let any = self.random.next() as u8;
+                let kind = self.random.pick(&[0, 1, 2, 3, 4, 5, 6, 7, 255, any]);
+                if !kind_fits(structure, kind) {
+                    let (key, value) = (self.key(), self.value());
+                    self.call(kind, key, value);
+                    continue;
+                }
+            }
+            self.any_call();
+        }
+    }
+
+    /// Breaks off in the opening, in a ticket, after it, or in a tape.
+    fn broken_off(&mut self) {
+        self.tape = Tape::Changing;
+        if self.random.one_in(8) {
+            self.bytes.truncate(self.random.index(2));
+            return;
+        }
+        for _ in 0..self.random.below(12) {
+            self.any_call();
+        }
+        let start = self.bytes.len();
+        self.any_call();
+        let length = self.bytes.len() - start;
+        let in_tape = TICKET_BYTES + 1 + self.random.index(length - TICKET_BYTES - 1);
+        let in_ticket = 1 + self.random.index(TICKET_BYTES - 1);
+        let left = self
+            .random
+            .pick(&[1, in_ticket, TICKET_BYTES, in_tape, in_tape, length - 1]);
+        self.bytes.truncate(start + left);
+    }
+
+    /// An opening that is refused, and bytes that nobody is to read.
+    fn refused_opening(&mut self) {
+        let any = self.random.next() as u8;
+        let bad_size = self.random.pick(&[0, 9, 10, 16, 255, any | 16]);
+        let bad_structure = self.random.pick(&[0, 3, 4, 255, any | 4]);
+        let (structure, size) = match self.random.below(3) {
+            0 => (self.structure, bad_size),
+            1 => (bad_structure, self.size),
+            _ => (bad_structure, bad_size),
+        };
+        self.bytes = vec![structure, size];
+        for _ in 0..self.random.below(3) * self.random.below(300) {
+            self.bytes.push(self.random.next() as u8);
+        }
+    }
+
+    // ---- calls
+
+    /// A call of the structure's own.
+    fn any_call(&mut self) {
+        let adds = self.random.below(10) < self.growth;
+        let kind = match (self.structure, adds) {
+            (MAP, true) => PUT,
+            (MAP, false) => self.random.pick(&[GET, GET, REMOVE]),
+            (_, true) => PUSH,
+            (_, false) => POP,
+        };
+        let (key, value) = (self.key(), self.value());
+        self.call(kind, key, value);
+    }
+
+    /// Fields that the kind does not use are filled too.
+    fn call(&mut self, kind: u8, key: u32, value: u64) {
+        let tape = self.tape_numbers();
+        let bytes = call_bytes(Ticket::new(kind, key, value), &tape);
+        self.bytes.extend(bytes);
+    }
+
+    fn tape_numbers(&mut self) -> Vec<u16> {
+        let tape = match self.tape {
+            Tape::Changing => self
+                .random
+                .pick(&[Tape::Uniform, Tape::Zeros, Tape::FewLeaves]),
+            tape => tape,
+        };
+        let rounds = fetch_rounds(self.structure, self.size);
+        (0..=2 * rounds)
+            .map(|position| {
+                let few = match tape {
+                    Tape::FewLeaves => true,
+                    Tape::SkewedLeaves => position != rounds && self.random.below(8) < self.skew,
+                    Tape::Zeros => return 0,
+                    Tape::Uniform | Tape::Changing => false,
+                };
+                match few {
+                    true => self.random.pick(&self.leaves),
+                    false => self.random.next() as u16,
+                }
+            })
+            .collect()
+    }
+
+    /// Some more keys than there is room for.
+    fn key(&mut self) -> u32 {
+        let small = self.random.below(self.capacity() * 3 / 2 + 2);
+        self.key_of(small)
+    }
+
+    fn key_of(&self, small: u64) -> u32 {
+        match self.keys {
+            Keys::Small => small as u32,
+            Keys::Scattered => (small as u32).wrapping_mul(0x9e37_79b1),
+            Keys::Edges => EDGE_KEYS[small as usize % EDGE_KEYS.len()],
+        }
+    }
+
+    fn value(&mut self) -> u64 {
+        match self.random.below(4) {
+            0 => self.random.pick(&EDGE_VALUES),
+            1 => self.random.below(1000),
+            _ => self.random.next(),
+        }
+    }
+}

@@ -14,6 +14,10 @@ pub mod Look
 pub mod LookLaws
 pub mod LookedLaws
 pub mod ChooseLaws
+pub mod Fill
+pub mod FillLaws
+pub mod MeetLaws
+pub mod StoreLaws
 pub mod Settle
 pub mod SettleLaws
 pub mod KeepLaws

@@ -1,23 +1,15 @@
 -- What the write half of a round needs and promises, on words.
 use mathlib.Core.Path.{_≡_}
 use mathlib.Core.Bool.{Bool, true}
-use mathlib.Core.List.{List, map}
+use mathlib.Core.List.{List}
 use Prim.Native.Nat.{ℕ, _^_, _≤_, _<_}
 use lib.ListN.{length, take}
 use Rattle.slots.specs.Tree.{treeLength}
-use Rattle.slots.specs.Slot.{bucketBytes}
 use Rattle.slots.specs.declared.Slot.{Slot}
-use Rattle.rounds.specs.Round.{choose, writeHalf}
+use Rattle.rounds.specs.Round.{writeHalf}
 use Rattle.rounds.specs.Nodes.{wordsFormat}
 use Rattle.buckets.specs.Words.{places, wordCount, slotsOf, Leaves}
 use Rattle.buckets.specs.Look.{removed}
-
--- A bucket took its choice of the first m slots, and the others are the first r.
-pub record BucketFilled (k b m : ℕ) (before after part : List ℕ) (r : ℕ) : Type 0 where
-  pub sized : length after ≡ wordCount
-  pub fewer : r ≤ m
-  pub left : take r (slotsOf after) ≡ choose wordsFormat k b 4 (take m (slotsOf before)) .left
-  pub written : part ≡ bucketBytes (map (wordsFormat .bytes) (choose wordsFormat k b 4 (take m (slotsOf before)) .ins))
 
 -- The path of a leaf was filled by some slots, at most m, and those that are left are the first r.
 pub record PathFilled (k leaf : ℕ) (ws : List Slot) (m : ℕ) (tree after tree′ : List ℕ) (r : ℕ) : Type 0 where

@@ -1,116 +1,250 @@
--- The write half on words, turn by turn: one slot asked by a bucket, one bucket written, and what is left.
+-- The write half on words, turn by turn: one slot goes to its home or is left, and at the end the path is the method's.
 use mathlib.Core.Path.{_≡_, refl, sym, _∙_, ap, subst}
-use mathlib.Core.Bool.{Bool, true, false, _&&_}
-use mathlib.Core.List.{List, [], _∷_, _++_, map}
-use Prim.Native.Nat.{ℕ, _+_, _^_, _≤_, _<_}
+use mathlib.Core.Bool.{Bool, true, false}
+use mathlib.Core.List.{List, [], _∷_, _++_, map, append-nil}
+use Prim.Native.Nat.{ℕ, zero, suc, _+_, _*_, _^_, _≤_, _<_}
+use native.Mathlib.Numerals.{add-one}
 use native.Mathlib.Omega.{arith}
-use lib.Dec.{eqb, ltb}
-use lib.ListN.{length, take, drop, getD, set, length-take}
-use lib.Seq.{getD-take, drop-drop}
-use borrow.Author.Tests.{ltb-true, lt-ltb}
+use lib.Dec.{ltb}
+use lib.ListN.{length, take, drop, getD, set, replicate, length-append, length-take, length-drop, length-set, length-map, drop-of-length-le, List·getD-map}
+use lib.Pow.{pow-pos}
+use lib.Seq.{sets, drop-cons, getD-take, getD-drop, drop-drop, take-suc, take-suc-set, take-set-lt, take-take}
+use borrow.Author.Tests.{ltb-true, lt-ltb, le-ltb}
+use Rattle.basics.specs.Choice.{pick}
 use Rattle.basics.specs.DistinctLaws.{all-getD}
-use Rattle.slots.specs.Tree.{passes, path, pathBucket, bucketStart, bucketLength}
-use Rattle.slots.specs.Slot.{slotBytes, bucketBytes}
+use Rattle.slots.specs.Tree.{path, pathBucket, leafBucket, bucketStart, bucketLength, treeLength}
+use Rattle.slots.specs.TreeLaws.{halvings-length}
+use Rattle.slots.specs.Slot.{slotBytes, fieldsIn}
 use Rattle.slots.specs.declared.Slot.{Slot}
-use Rattle.rounds.specs.Round.{Chosen, Written, withBucket, choose, evict, writeHalf}
+use Rattle.rounds.specs.Round.{Written, withBucket, writeHalf}
 use Rattle.rounds.specs.Nodes.{wordsFormat}
 use Rattle.buckets.specs.Words.{places, wordCount, slotsOf, zeroSlot, Leaves}
-use Rattle.buckets.specs.WordsLaws.{slots-count}
-use Rattle.buckets.specs.Level.{AtLevel}
-use Rattle.buckets.specs.PathLaws.{passes-at-level}
-use Rattle.buckets.specs.ChooseLaws.{Choosing, here-is, choosing-taken, choosing-left, choosing-end, left-part}
+use Rattle.buckets.specs.WordsLaws.{slots-count, words-tag}
+use Rattle.buckets.specs.Stash.{without}
 use Rattle.buckets.specs.PartLaws.{Part, part-whole, part-without, part-holds}
 use Rattle.buckets.specs.Look.{removed}
-use Rattle.buckets.specs.Settle.{BucketFilled, PathFilled, Settled}
+use Rattle.buckets.specs.Fill.{meeting, crowded, roomFrom, cleared, Filling, fill, home, added, written, empties}
+use Rattle.buckets.specs.FillLaws.{fill-contents-length, fill-none, fill-one-home, fill-one-left, evict-fill}
+use Rattle.buckets.specs.MeetLaws.{home-on-path}
+use Rattle.buckets.specs.StoreLaws.{written-more, written-length, cleared-written}
+use Rattle.buckets.specs.Settle.{PathFilled, Settled}
 
-both-true : (s t : Bool) → (s && t) ≡ true → (s ≡ true) × (t ≡ true)
-both-true true t e = (refl, e)
-both-true false t e = let z : _≡_ {A = ℕ} 0 1 = cc in absurd (omega arith)
+-- ---- room
+crowded-none : crowded [] ≡ 0
+unfolding crowded
+crowded-none = refl
 
--- One slot is asked: the code's test is the choice's.
-module _ (k b level m i kept count : ℕ) (l words chosen : List Slot) (x : Slot) (r : Bool)
-    (c : Choosing wordsFormat k b l m i kept count words chosen) (h : i < m) (n : m ≤ length l)
-    (lv : level ≤ k) (bucket : AtLevel k level b) (v : Leaves k (take m l))
-    (got : x ≡ getD words i zeroSlot) (says : r ≡ (ltb count 4 && eqb b (pathBucket k (wordsFormat .tag x) level))) where
-  tag-leaf : wordsFormat .tag x < 2 ^ k
-  tag-leaf =
-      let e : x ≡ getD (take m l) i zeroSlot = got ∙ here-is wordsFormat k b l m i kept count words chosen zeroSlot c h n ∙ sym (getD-take m l i zeroSlot h) in
-      subst (λ (y : Slot). wordsFormat .tag y < 2 ^ k) (sym e)
-      (all-getD {P = λ (y : Slot). wordsFormat .tag y < 2 ^ k} (take m l) v i zeroSlot (let t = length-take m l in omega arith))
+-- From a level up: it has room, or it has not.
+pub crowded-here : (us : List ℕ) (i : ℕ) → i < length us → getD us i 0 < 4 → crowded (drop i us) ≡ 0
+unfolding crowded
+crowded-here us i h r = rw (drop-cons us i 0 h, lt-ltb (getD us i 0) 4 r)
 
-  test-is : passes k (wordsFormat .tag x) b ≡ eqb b (pathBucket k (wordsFormat .tag x) level)
-  test-is = passes-at-level k (wordsFormat .tag x) level b tag-leaf lv bucket
+pub crowded-past : (us : List ℕ) (i : ℕ) → i < length us → 4 ≤ getD us i 0 → i + crowded (drop i us) ≡ (i + 1) + crowded (drop (i + 1) us)
+unfolding crowded
+crowded-past us i h r = rw (drop-cons us i 0 h, le-ltb (getD us i 0) 4 r, add-one i) (omega arith)
 
-  pub room-left : r ≡ true → count < 4
-  room-left e = ltb-true count 4 (both-true (ltb count 4) (eqb b (pathBucket k (wordsFormat .tag x) level)) (sym says ∙ e) .0)
+pub crowded-end : (us : List ℕ) (i : ℕ) → length us ≤ i → crowded (drop i us) ≡ 0
+crowded-end us i h = rw (drop-of-length-le us {i = i} h) crowded-none
 
-  pub slot-taken : r ≡ true → Choosing wordsFormat k b l m (i + 1) kept (count + 1) words (set chosen count x)
-  slot-taken e =
-      let p : passes k (wordsFormat .tag x) b ≡ true = test-is ∙ both-true (ltb count 4) (eqb b (pathBucket k (wordsFormat .tag x) level)) (sym says ∙ e) .1 in
-      rw got (choosing-taken wordsFormat k b l m i kept count words chosen zeroSlot c h n (room-left e) (rw got at p))
+crowded-room : (us : List ℕ) → crowded us < length us → getD us (crowded us) 0 < 4
+unfolding crowded
+crowded-room [] h = let z : ⊥ = omega arith in absurd z
+crowded-room (u ∷ us) h = go (crowded-room us) (ltb u 4) refl h
+  where
+    go : (crowded us < length us → getD us (crowded us) 0 < 4) → (t : Bool) → ltb u 4 ≡ t
+        → pick t 0 (suc (crowded us)) < suc (length us) → getD (u ∷ us) (pick t 0 (suc (crowded us))) 0 < 4
+    go more true q h = ltb-true u 4 q
+    go more false q h = more (omega arith)
 
-  pub slot-left : r ≡ false → Choosing wordsFormat k b l m (i + 1) (kept + 1) count (set words kept x) chosen
-  slot-left e =
-      let p : count < 4 → passes k (wordsFormat .tag x) b ≡ false = λ f. test-is ∙ sym (rw (lt-ltb count 4 f) at says) ∙ e in
-      rw got (choosing-left wordsFormat k b l m i kept count words chosen zeroSlot c h n (λ f. rw got at (p f)))
+room-there : (from : ℕ) (us : List ℕ) → roomFrom from us < length us → getD us (roomFrom from us) 0 < 4
+room-there from us h =
+    let l = length-drop from us in
+    rw (← getD-drop from us (crowded (drop from us)) 0) (crowded-room (drop from us) (omega arith))
 
--- All slots were asked, and the bucket is written.
-pub words-map : (xs : List Slot) → map (wordsFormat .bytes) xs ≡ map slotBytes xs
-unfolding wordsFormat
-words-map xs = refl
+-- ---- the loop over the slots
+map-set : {A B : Type 0} (f : A → B) (l : List A) (i : ℕ) (a : A) → map f (set l i a) ≡ set (map f l) i (f a)
+map-set f [] i a = refl
+map-set f (x ∷ l) zero a = refl
+map-set {B = B} f (x ∷ l) (suc i) a = ap (λ (m : List B). f x ∷ m) (map-set f l i a)
 
-pub bucket-filled : (k b m i kept count : ℕ) (before after part : List ℕ) (chosen : List Slot) → i ≡ m → length after ≡ wordCount
-    → Choosing wordsFormat k b (slotsOf before) m i kept count (slotsOf after) chosen
-    → part ≡ bucketBytes (map slotBytes (take count chosen))
-    → BucketFilled k b m before after part kept
-bucket-filled k b m i kept count before after part chosen e s c w =
-    let q = choosing-end wordsFormat k b (slotsOf before) m i kept count (slotsOf after) chosen e c in
+-- What some slots fill of the path, which held nothing before.
+abbrev pub placed : ℕ → ℕ → List Slot → Filling Slot
+placed k t xs = fill wordsFormat k (path k t) (empties (path k t)) xs
+
+-- Some slots were placed: how many each bucket holds is counted, what they hold is written, and those that are left are the first.
+pub record Placing (k t : ℕ) (tree : List ℕ) (xs : List Slot) (now used waiting : List ℕ) (kept : ℕ) : Type 0 where
+  pub sized : length waiting ≡ wordCount
+  pub used-sized : length used ≡ 17
+  pub counts : take (k + 1) used ≡ map length (placed k t xs .contents)
+  pub filled : now ≡ written wordsFormat tree (path k t) (placed k t xs .contents)
+  pub left : take kept (slotsOf waiting) ≡ placed k t xs .left
+
+empty-counts : (bs : List ℕ) → map length (empties {E = Slot} bs) ≡ replicate (length bs) 0
+empty-counts [] = refl
+empty-counts (b ∷ bs) = ap (λ (l : List ℕ). 0 ∷ l) (empty-counts bs)
+
+take-zeros : (n m : ℕ) → n ≤ m → take {A = ℕ} n (replicate m 0) ≡ replicate n 0
+take-zeros zero m h = refl
+take-zeros (suc n) zero h = let z : ⊥ = omega arith in absurd z
+take-zeros (suc n) (suc m) h = ap (λ (l : List ℕ). 0 ∷ l) (take-zeros n m (omega arith))
+
+pub placing-start : (k t : ℕ) (tree now waiting : List ℕ) → k ≤ 16 → length waiting ≡ wordCount → now ≡ cleared tree (path k t)
+    → Placing k t tree [] now (replicate 17 0) waiting 0
+placing-start k t tree now waiting s n e =
+    let z = fill-none wordsFormat k (path k t) (empties (path k t)) in
+    let l : length (path k t) ≡ k + 1 = halvings-length k (leafBucket k t) ∙ omega arith in
     record {
-      sized = s;
-      fewer = omega (arith, c .counted);
-      left = sym (ap (λ (h : Chosen Slot). h .left) q);
-      written = w ∙ ap bucketBytes (sym (words-map (take count chosen)) ∙ sym (ap (λ (h : Chosen Slot). map (wordsFormat .bytes) (h .ins)) q));
+      sized = n;
+      used-sized = refl;
+      counts = rw z (take-zeros (k + 1) 17 (omega arith) ∙ sym (empty-counts (path k t) ∙ ap (λ (i : ℕ). replicate i 0) l));
+      filled = rw z (e ∙ cleared-written (path k t) tree);
+      left = rw z;
     }
 
--- ---- bucket by bucket
-evict-turn : (k b : ℕ) (bs : List ℕ) (ws : List Slot) (tree : List ℕ)
-    → evict wordsFormat k (b ∷ bs) ws tree
-    ≡ evict wordsFormat k bs (choose wordsFormat k b 4 ws .left) (withBucket tree b (bucketBytes (map (wordsFormat .bytes) (choose wordsFormat k b 4 ws .ins))))
-unfolding evict
-evict-turn k b bs ws tree = refl
+-- One more slot, and the level that was found for it.
+module _ (k t : ℕ) (tree : List ℕ) (xs : List Slot) (now used waiting : List ℕ) (kept level : ℕ) (x : Slot)
+    (size : k ≤ 16) (leaf : t < 2 ^ k) (tag : wordsFormat .tag x < 2 ^ k) (is : length tree ≡ treeLength k)
+    (p : Placing k t tree xs now used waiting kept) (found : level ≡ roomFrom (meeting t (wordsFormat .tag x)) (take (k + 1) used)) where
+  abbrev cs : List (List Slot)
+  cs = placed k t xs .contents
 
-evict-end : (k : ℕ) (ws : List Slot) (tree : List ℕ) → evict wordsFormat k [] ws tree ≡ record { waiting = ws; tree = tree }
-unfolding evict
-evict-end k ws tree = refl
+  path-length : length (path k t) ≡ k + 1
+  path-length = halvings-length k (leafBucket k t) ∙ omega arith
 
--- Where the loop over a path's buckets stands: some are filled, the rest are left to fill.
-pub record Evicting (k : ℕ) (all rest : List ℕ) (ws : List Slot) (tree : List ℕ) (words now : List ℕ) (count : ℕ) : Type 0 where
-  pub sized : length words ≡ wordCount
-  pub tree-sized : length now ≡ length tree
-  pub left : evict wordsFormat k all ws tree ≡ evict wordsFormat k rest (take count (slotsOf words)) now
-  pub leaves : Leaves k (take count (slotsOf words))
+  empties-length : length (empties {E = Slot} (path k t)) ≡ length (path k t)
+  empties-length = length-map (path k t) (λ (b : ℕ). [])
 
-pub evicting-start : (k : ℕ) (all : List ℕ) (m : ℕ) (words tree : List ℕ) → length words ≡ wordCount → Leaves k (take m (slotsOf words))
-    → Evicting k all all (take m (slotsOf words)) tree words tree m
-evicting-start k all m words tree s v = record { sized = s; tree-sized = refl; left = refl; leaves = v }
+  contents-length : length cs ≡ length (path k t)
+  contents-length = fill-contents-length wordsFormat k (path k t) (empties (path k t)) xs ∙ empties-length
 
-pub evicting-turn : (k b : ℕ) (all rest : List ℕ) (ws : List Slot) (tree words now after part tree′ : List ℕ) (count r : ℕ)
-    → Evicting k all (b ∷ rest) ws tree words now count → BucketFilled k b count words after part r → length tree′ ≡ length now
-    → tree′ ≡ withBucket now b part
-    → Evicting k all rest ws tree after tree′ r
-evicting-turn k b all rest ws tree words now after part tree′ count r e f n q =
-    let l : choose wordsFormat k b 4 (take count (slotsOf words)) .left ≡ take r (slotsOf after) = sym (f .left) in
-    record {
-      sized = f .sized;
-      tree-sized = n ∙ e .tree-sized;
-      left = e .left ∙ evict-turn k b rest (take count (slotsOf words)) now ∙ rw (l, ← f .written, ← q);
-      leaves = subst (Leaves k) l (part-holds {P = λ (y : Slot). wordsFormat .tag y < 2 ^ k} (left-part wordsFormat k b 4 (take count (slotsOf words))) (e .leaves));
-    }
+  is-home : home wordsFormat k (path k t) cs (wordsFormat .tag x) ≡ level
+  is-home =
+      home-on-path wordsFormat k (wordsFormat .tag x) t cs size leaf tag contents-length
+      ∙ ap (roomFrom (meeting t (wordsFormat .tag x))) (sym (p .counts))
+      ∙ sym found
 
-pub evicting-end : (k leaf m : ℕ) (ws : List Slot) (tree words now : List ℕ) (count : ℕ) → count ≤ m
-    → Evicting k (path k leaf) [] ws tree words now count → PathFilled k leaf ws m tree words now count
-evicting-end k leaf m ws tree words now count h e =
-    record { sized = e .sized; fewer = h; half = e .left ∙ evict-end k (take count (slotsOf words)) now }
+  used-there : level ≤ k → getD used level 0 ≡ length (getD cs level [])
+  used-there h =
+      sym (getD-take (k + 1) used level 0 (omega arith))
+      ∙ ap (λ (l : List ℕ). getD l level 0) (p .counts)
+      ∙ List·getD-map length cs level []
+
+  pub has-room : level ≤ k → getD used level 0 < 4
+  has-room h =
+      let l : length (take (k + 1) used) ≡ k + 1 = simp length-take (omega (arith, p .used-sized)) in
+      let r = room-there (meeting t (wordsFormat .tag x)) (take (k + 1) used) (rw (← found) (omega arith)) in
+      rw (← getD-take (k + 1) used level 0 (omega arith)) (rw (← found) at r)
+
+  pub placing-stored : (tree′ : List ℕ) → level ≤ k → tree′ ≡ sets now (bucketStart (pathBucket k t level) + 32 * getD used level 0) (slotBytes x)
+      → Placing k t tree (xs ++ x ∷ []) tree′ (set used level (getD used level 0 + 1)) waiting kept
+  placing-stored tree′ h q =
+      let pl = path-length in
+      let f = fill-one-home wordsFormat k (path k t) (empties (path k t)) empties-length xs x (rw is-home (omega arith)) in
+      let g : placed k t (xs ++ x ∷ []) ≡ record { contents = added wordsFormat cs level x; left = placed k t xs .left } = f ∙ rw is-home in
+      let u = used-there h in
+      let r = has-room h in
+      let w : 2 ^ (k + 1) ≡ 2 * 2 ^ k = rw (add-one k) (omega arith) in
+      let o = pow-pos k in
+      let one : getD used level 0 + 1 ≡ length (getD cs level [] ++ x ∷ []) = simp length-append (omega arith) in
+      record {
+        sized = p .sized;
+        used-sized = length-set used level (getD used level 0 + 1) ∙ p .used-sized;
+        counts = rw g (take-set-lt (k + 1) used level (getD used level 0 + 1) (omega arith) ∙ rw (p .counts, one) (sym (map-set length cs level (getD cs level [] ++ x ∷ []))));
+        filled = rw g (q ∙ rw (p .filled, u) (written-more k (leafBucket k t) cs tree level x (omega arith) (omega arith) h (let n = contents-length in omega arith) (omega arith)));
+        left = rw g (p .left);
+      }
+
+  pub placing-left : (waiting′ : List ℕ) → k < level → kept < places → length waiting′ ≡ wordCount → slotsOf waiting′ ≡ set (slotsOf waiting) kept x
+      → Placing k t tree (xs ++ x ∷ []) now used waiting′ (kept + 1)
+  placing-left waiting′ h b n q =
+      let pl = path-length in
+      let g = fill-one-left wordsFormat k (path k t) (empties (path k t)) empties-length xs x (rw is-home (omega arith)) in
+      let l = slots-count waiting (p .sized) in
+      record {
+        sized = n;
+        used-sized = p .used-sized;
+        counts = rw g (p .counts);
+        filled = rw g (p .filled);
+        left = rw g (rw (q, add-one kept, take-suc-set (slotsOf waiting) kept x (omega arith), p .left));
+      }
+
+-- ---- all but one of the first
+module _ {A : Type 0} where
+  pub without-none : (out : ℕ) → without {E = A} out [] ≡ []
+  without-none zero = refl
+  without-none (suc out) = refl
+
+  -- Number i joins those without number out, or it is that one.
+  without-next : (l : List A) (out i : ℕ) (d : A) → i < length l → (i ≡ out → ⊥) → without out (take (suc i) l) ≡ without out (take i l) ++ getD l i d ∷ []
+  without-next [] out i d h n = let z : ⊥ = omega arith in absurd z
+  without-next (x ∷ l) zero zero d h n = absurd (n refl)
+  without-next (x ∷ l) (suc out) zero d h n = ap (λ (m : List A). x ∷ m) (without-none out)
+  without-next (x ∷ l) zero (suc i) d h n = take-suc l i d (omega arith)
+  without-next (x ∷ l) (suc out) (suc i) d h n = ap (λ (m : List A). x ∷ m) (without-next l out i d (omega arith) (λ e. n (ap suc e)))
+
+  pub without-more : (l : List A) (out i : ℕ) (d : A) → i < length l → (i ≡ out → ⊥) → without out (take (i + 1) l) ≡ without out (take i l) ++ getD l i d ∷ []
+  without-more l out i d h n = rw (add-one i) (without-next l out i d h n)
+
+  without-itself : (l : List A) (out : ℕ) → without out (take (suc out) l) ≡ without out (take out l)
+  without-itself [] zero = refl
+  without-itself [] (suc out) = refl
+  without-itself (x ∷ l) zero = refl
+  without-itself (x ∷ l) (suc out) = ap (λ (m : List A). x ∷ m) (without-itself l out)
+
+  pub without-same : (l : List A) (out i : ℕ) → i ≡ out → without out (take (i + 1) l) ≡ without out (take i l)
+  without-same l out i e = rw (e, add-one out) (without-itself l out)
+
+  -- Without a number past the end there is all.
+  pub without-past : (m : ℕ) (l : List A) → without m (take m l) ≡ take m l
+  without-past m l =
+      let z : drop (suc m) (take m l) ≡ [] = drop-of-length-le (take m l) {i = suc m} (let n = length-take m l in omega arith) in
+      rw (z, append-nil (take m (take m l))) (take-take m m l (omega arith))
+
+-- ---- a turn: slot number i is asked
+pub tag-leaf : (k m i : ℕ) (l : List Slot) (x : Slot) → Leaves k (take m l) → i < m → m ≤ length l → x ≡ getD l i zeroSlot → wordsFormat .tag x < 2 ^ k
+tag-leaf k m i l x v h n got =
+    subst (λ (y : Slot). wordsFormat .tag y < 2 ^ k) (sym (got ∙ sym (getD-take m l i zeroSlot h)))
+    (all-getD {P = λ (y : Slot). wordsFormat .tag y < 2 ^ k} (take m l) v i zeroSlot (let t = length-take m l in omega arith))
+
+-- The level that was found, by what the code has of the slot's tag.
+pub found-level : (k t : ℕ) (used : List ℕ) (x : Slot) (tag g level : ℕ) → tag ≡ fieldsIn (slotBytes x) .tag → g ≡ meeting t tag → level ≡ roomFrom g (take (k + 1) used)
+    → level ≡ roomFrom (meeting t (wordsFormat .tag x)) (take (k + 1) used)
+found-level k t used x tag g level e f q = q ∙ ap (λ (i : ℕ). roomFrom i (take (k + 1) used)) (f ∙ ap (meeting t) (e ∙ sym (words-tag x)))
+
+module _ (k t m out i : ℕ) (l : List Slot) (tree now used waiting : List ℕ) (kept level : ℕ) (x : Slot)
+    (size : k ≤ 16) (leaf : t < 2 ^ k) (is : length tree ≡ treeLength k) (v : Leaves k (take m l)) (h : i < m) (n : m ≤ length l) (got : x ≡ getD l i zeroSlot)
+    (p : Placing k t tree (without out (take i l)) now used waiting kept) (found : level ≡ roomFrom (meeting t (wordsFormat .tag x)) (take (k + 1) used)) where
+  next : (i ≡ out → ⊥) → without out (take i l) ++ x ∷ [] ≡ without out (take (i + 1) l)
+  next d = sym (without-more l out i zeroSlot (omega arith) d ∙ ap (λ (y : Slot). without out (take i l) ++ y ∷ []) (sym got))
+
+  pub turn-room : level ≤ k → getD used level 0 < 4
+  turn-room g = has-room k t tree (without out (take i l)) now used waiting kept level x size leaf (tag-leaf k m i l x v h n got) is p found g
+
+  pub turn-stored : (tree′ : List ℕ) → (i ≡ out → ⊥) → level ≤ k → tree′ ≡ sets now (bucketStart (pathBucket k t level) + 32 * getD used level 0) (slotBytes x)
+      → Placing k t tree (without out (take (i + 1) l)) tree′ (set used level (getD used level 0 + 1)) waiting kept
+  turn-stored tree′ d g q =
+      subst (λ (ws : List Slot). Placing k t tree ws tree′ (set used level (getD used level 0 + 1)) waiting kept) (next d)
+      (placing-stored k t tree (without out (take i l)) now used waiting kept level x size leaf (tag-leaf k m i l x v h n got) is p found tree′ g q)
+
+  pub turn-left : (waiting′ : List ℕ) → (i ≡ out → ⊥) → k < level → kept < places → length waiting′ ≡ wordCount → slotsOf waiting′ ≡ set (slotsOf waiting) kept x
+      → Placing k t tree (without out (take (i + 1) l)) now used waiting′ (kept + 1)
+  turn-left waiting′ d g b s q =
+      subst (λ (ws : List Slot). Placing k t tree ws now used waiting′ (kept + 1)) (next d)
+      (placing-left k t tree (without out (take i l)) now used waiting kept level x size leaf (tag-leaf k m i l x v h n got) is p found waiting′ g b s q)
+
+-- The tree keeps its length.
+pub placing-length : (k t : ℕ) (tree : List ℕ) (xs : List Slot) (now used waiting : List ℕ) (kept : ℕ) → length tree ≡ treeLength k → t < 2 ^ k
+    → Placing k t tree xs now used waiting kept → length now ≡ treeLength k
+placing-length k t tree xs now used waiting kept is leaf p =
+    let w : 2 ^ (k + 1) ≡ 2 * 2 ^ k = rw (add-one k) (omega arith) in
+    let o = pow-pos k in
+    ap length (p .filled) ∙ written-length k (leafBucket k t) (placed k t xs .contents) tree (omega arith) ∙ is
+
+-- ---- the path is filled
+pub path-filled : (k t : ℕ) (tree : List ℕ) (xs : List Slot) (now used waiting : List ℕ) (m kept : ℕ) → kept ≤ m
+    → Placing k t tree xs now used waiting kept → PathFilled k t xs m tree waiting now kept
+path-filled k t tree xs now used waiting m kept h p =
+    record { sized = p .sized; fewer = h; half = evict-fill wordsFormat k (path k t) xs tree ∙ rw (p .left, p .filled) }
 
 -- A part of the tree that was lent and written is a bucket's.
 pub bucket-lent : (tree part : List ℕ) (b a n : ℕ) → a ≡ bucketStart b → n ≡ bucketLength → take a tree ++ (part ++ drop n (drop a tree)) ≡ withBucket tree b part
@@ -125,23 +259,20 @@ removed-part false at ws = part-whole ws
 pub removed-leaves : (k : ℕ) (want : Bool) (at : ℕ) (ws : List Slot) → Leaves k ws → Leaves k (removed want at ws)
 removed-leaves k want at ws v = part-holds {P = λ (y : Slot). wordsFormat .tag y < 2 ^ k} (removed-part want at ws) v
 
--- The write half: one taken out, the path filled, and what is left copied.
-pub settled : (k leaf m n : ℕ) (want : Bool) (at : ℕ) (joint taken tree joint′ waiting′ tree′ : List ℕ) (r : ℕ)
-    → m ≤ places → n ≤ m → take n (slotsOf taken) ≡ removed want at (take m (slotsOf joint))
-    → PathFilled k leaf (take n (slotsOf taken)) n tree joint′ tree′ r
-    → length waiting′ ≡ wordCount → take r (slotsOf waiting′) ≡ take r (slotsOf joint′)
-    → Settled k leaf m want at joint tree joint′ waiting′ tree′ r
-settled k leaf m n want at joint taken tree joint′ waiting′ tree′ r room h e p s q =
+-- The write half: the path was filled by all but the one that is taken out.
+pub settled : (k leaf m : ℕ) (want : Bool) (at out : ℕ) (joint tree waiting′ tree′ : List ℕ) (r : ℕ)
+    → m ≤ places → length joint ≡ wordCount → without out (take m (slotsOf joint)) ≡ removed want at (take m (slotsOf joint))
+    → PathFilled k leaf (without out (take m (slotsOf joint))) m tree waiting′ tree′ r
+    → Settled k leaf m want at joint tree joint waiting′ tree′ r
+settled k leaf m want at out joint tree waiting′ tree′ r room s e p =
     let w : writeHalf wordsFormat k leaf (removed want at (take m (slotsOf joint))) tree ≡ record { waiting = take r (slotsOf waiting′); tree = tree′ } =
-    ap (λ (ws : List Slot). writeHalf wordsFormat k leaf ws tree) (sym e)
-    ∙ p .half
-    ∙ ap (λ (ws : List Slot). record { waiting = ws; tree = tree′ }) (sym q) in
-    let c = slots-count waiting′ s in
+    ap (λ (ws : List Slot). writeHalf wordsFormat k leaf ws tree) (sym e) ∙ p .half in
+    let c = slots-count waiting′ (p .sized) in
     let l = length-take r (slotsOf waiting′) in
     record {
-      scratch-sized = p .sized;
-      waiting-sized = s;
-      fewer = omega (arith, p .fewer);
+      scratch-sized = s;
+      waiting-sized = p .sized;
+      fewer = p .fewer;
       half = w;
       counted = sym (ap (λ (v : Written Slot). length (v .waiting)) w ∙ omega (arith, p .fewer));
     }

@@ -11,6 +11,9 @@ pub const WORDS: usize = SLOT_WORDS * PLACES;
 // The slots of a bucket.
 pub const BUCKET_SLOTS: usize = 4;
 
+// The levels of the largest tree, from the leaves up to the root.
+pub const LEVELS: usize = 17;
+
 // At a round's close at most so many nodes wait and are held.
 pub const LIMIT: usize = 64;
 

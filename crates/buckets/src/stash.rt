@@ -6,12 +6,12 @@ use slots::codec::key_of;
 ghost use mathlib.Core.Path.{_≡_};
 ghost use mathlib.Core.Bool.{true};
 ghost use mathlib.Core.List.{_++_};
-ghost use Prim.Native.Nat.{_+_, _-_, _<_, _≤_};
+ghost use Prim.Native.Nat.{_+_, _<_, _≤_};
 ghost use lib.ListN.{length, getD, set, take, drop};
 ghost use Rattle.rounds.specs.Round.{keysOf, insert};
 ghost use Rattle.rounds.specs.Nodes.{wordsFormat};
 ghost use Rattle.buckets.specs.Words.{places, wordCount, slotsOf, zeroSlot};
-ghost use Rattle.buckets.specs.Stash.{ascending, rank, upperBound, position, without};
+ghost use Rattle.buckets.specs.Stash.{ascending, rank, upperBound, position};
 ghost use Rattle.buckets.specs.Joined.{SlotJoined};
 
 // The slot in a place.
@@ -123,19 +123,6 @@ pub fn find(s: &[u64; WORDS], m: usize, key: u32) -> usize
         i += 1;
     }
     m
-}
-
-// The slot in a place taken out of the first m.
-pub fn remove(s: &mut [u64; WORDS], m: usize, at: usize)
-    requires { ⌜ (length (now s) ≡ wordCount) × (m ≤ places) × (at < m) ⌝ }
-    ensures { λ _. ⌜ (length (now (s .exit)) ≡ wordCount) × (take (m - 1) (slotsOf (now (s .exit))) ≡ without at (take m (slotsOf (now (s .entry))))) ⌝ }
-{
-    let mut i = at + 1;
-    while i < m {
-        let x = get(s, i);
-        put(s, i - 1, x);
-        i += 1;
-    }
 }
 
 // The first n slots copied.

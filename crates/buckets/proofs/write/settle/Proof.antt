@@ -1,43 +1,35 @@
--- `buckets::write::settle` meets its contract: it is the write half, after a wanted slot is taken out.
-use mathlib.Core.Path.{sym, subst}
+-- `buckets::write::settle` meets its contract: it is the write half of all but a wanted slot.
+use mathlib.Core.Path.{_≡_, sym, _∙_, ap}
+use mathlib.Core.Logic.{⊎-elim}
+use mathlib.Core.Bool.{Bool}
 use lib.ListN.{take}
-use Rattle.buckets.specs.Words.{slotsOf, Leaves}
-use Rattle.buckets.specs.SettleLaws.{removed-leaves, settled}
-use native.Mathlib.Omega.{arith}
+use Rattle.buckets.specs.Words.{slotsOf}
+use Rattle.buckets.specs.Stash.{without}
+use Rattle.buckets.specs.Look.{removed}
+use Rattle.buckets.specs.SettleLaws.{without-past, settled}
 use borrow.Author.Needs.{needs}
 use Rattle.buckets.proofs.write.settle.Statement.{statement}
 use Rattle.buckets.proofs.write.settle.Tie as tie
 
-take-out-requires : tie.Need-take-out-requires
-take-out-requires c κs = search needs
-
-write-path-requires : tie.Need-write-path-requires
-write-path-requires c κs =
-    let b = c .before .before .before .before .before in
-    let a = b .args in
-    let o = c .before .before .take-out in (
-      o .ensures .0,
-      omega (arith, o .ensures .1, b .pre .room),
-      b .pre .size,
-      b .pre .is-leaf,
-      subst (Leaves (a .size)) (sym (o .ensures .2)) (removed-leaves (a .size) (a .wanted) (a .at) (take (a .m) (slotsOf (a .s .now))) (b .pre .leaves)),
-      b .pre .tree-sized,
-    )
-
-copy-requires : tie.Need-copy-requires
-copy-requires c κs = search needs
+fill-path-requires : tie.Need-fill-path-requires
+fill-path-requires c κs = search needs
 
 same-length : tie.Need-same-length
 same-length c = search needs
 
 returns : tie.Need-returns
 returns c =
-    let b = c .before .before .before .before .before .before .before .before .before .before .before in
+    let b = c .before .before .before .before .before .before .before .before in
     let a = b .args in
-    let o = c .before .before .before .before .before .before .before .before .take-out in
-    let p = c .before .before .before .before .before .write-path in
-    settled (a .size) (a .leaf) (a .m) (o .result) (a .wanted) (a .at) (a .s .now) (o .last .0) (a .tree .now) (p .last .0) (c .copy .last .1 .1 .0) (p .last .1 .1 .0) (p .result) (b .pre .room) (o .ensures .1) (o .ensures .2) (p .ensures) (c .copy .ensures .0) (c .copy .ensures .1)
+    let i = c .before .before .before .before .before .before .if1 in
+    let f = c .before .before .fill-path in
+    let ws = take (a .m) (slotsOf (a .s .now)) in
+    let e : without (i .out) ws ≡ removed (a .wanted) (a .at) ws =
+    ⊎-elim
+    (λ w. rw (w .1) (ap (λ (t : Bool). removed t (a .at) ws) (sym (w .0 .taken))))
+    (λ w. rw (w .1) (without-past (a .m) (slotsOf (a .s .now)) ∙ ap (λ (t : Bool). removed t (a .at) ws) (sym (w .0 .left))))
+    (i .came) in
+    settled (a .size) (a .leaf) (a .m) (a .wanted) (a .at) (i .out) (a .s .now) (a .tree .now) (f .last .1 .1 .1 .0) (f .last .1 .1 .1 .1 .0) (f .result) (b .pre .room) (b .pre .joint-sized) e (f .ensures)
 
 pub settle-spec : {M : Type 1} → statement M
-settle-spec =
-    tie.close (tie.spec take-out-requires write-path-requires copy-requires same-length returns)
+settle-spec = tie.close (tie.spec fill-path-requires same-length returns)

@@ -5,3 +5,4 @@ pub mod PermLaws
 pub mod Shuffle
 pub mod Distinct
 pub mod DistinctLaws
+pub mod Ascending

@@ -16,7 +16,8 @@ use Rattle.rounds.specs.Format.{Read}
 use Rattle.rounds.specs.Round.{keysOf, slotAt, readBucket, readBuckets}
 use Rattle.rounds.specs.Nodes.{wordsFormat}
 use Rattle.buckets.specs.Words.{wordCount, slotsOf, Leaves}
-use Rattle.buckets.specs.Stash.{ascending, joinReadings}
+use Rattle.basics.specs.Ascending.{ascending}
+use Rattle.buckets.specs.Stash.{joinReadings}
 use Rattle.buckets.specs.StashLaws.{Ascending, ascending-holds}
 use Rattle.buckets.specs.JoinLaws.{readings-then, readings-stop, readings-ascending}
 use Rattle.buckets.specs.PathLaws.{path-level, path-end}

@@ -18,7 +18,8 @@ use Rattle.slots.specs.Tree.{among, path}
 use Rattle.rounds.specs.Format.{Format, Read, full, empty, bad}
 use Rattle.rounds.specs.Round.{Hand, Wish, keysOf, noneTwice, allGood, joined, readBuckets, granted, grantedFrom, readHalf, insert, choose, evict, writeHalf, withBucket}
 use Rattle.slots.specs.Slot.{bucketBytes}
-use Rattle.buckets.specs.Stash.{ascending, without, position, joinReadings}
+use Rattle.basics.specs.Ascending.{ascending}
+use Rattle.buckets.specs.Stash.{without, position, joinReadings}
 use Rattle.buckets.specs.StashLaws.{ascending-holds, ascending-test}
 use Rattle.buckets.specs.PartLaws.{Part, part-whole, part-without, part-part, part-holds, part-ascending, part-distinct}
 use Rattle.buckets.specs.JoinLaws.{distinct-of, distinct-tested, none-twice-perm, readings-ascending, once, among-either}

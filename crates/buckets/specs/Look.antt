@@ -13,7 +13,8 @@ use Rattle.rounds.specs.Round.{Hand, keysOf, noneTwice, readHalf}
 use Rattle.rounds.specs.Round as round
 use Rattle.rounds.specs.Nodes.{wordsFormat}
 use Rattle.buckets.specs.Words.{places, wordCount, slotsOf, zeroSlot, Leaves}
-use Rattle.buckets.specs.Stash.{ascending, without}
+use Rattle.basics.specs.Ascending.{ascending}
+use Rattle.buckets.specs.Stash.{without}
 use Rattle.buckets.specs.declared.read.Looked.{Looked}
 use Rattle.buckets.specs.declared.read.Wish.{Wish}
 use Rattle.buckets.specs.declared.read.Wish.the-variants.{Nothing, Node}

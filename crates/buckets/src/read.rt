@@ -27,7 +27,7 @@ ghost use Rattle.slots.specs.Slot.{slotBytes};
 ghost use Rattle.rounds.specs.Round.{keysOf, readBucket, readBuckets};
 ghost use Rattle.rounds.specs.Nodes.{wordsFormat};
 ghost use Rattle.buckets.specs.Words.{places, wordCount, slotsOf};
-ghost use Rattle.buckets.specs.Stash.{ascending};
+ghost use Rattle.basics.specs.Ascending.{ascending};
 ghost use Rattle.buckets.specs.Joined.{ReadingsJoined};
 ghost use Rattle.buckets.specs.Look.{Fit, LookedFor};
 

@@ -11,7 +11,8 @@ ghost use lib.ListN.{length, getD, set, take, drop};
 ghost use Rattle.rounds.specs.Round.{keysOf, insert};
 ghost use Rattle.rounds.specs.Nodes.{wordsFormat};
 ghost use Rattle.buckets.specs.Words.{places, wordCount, slotsOf, zeroSlot};
-ghost use Rattle.buckets.specs.Stash.{ascending, rank, upperBound, position};
+ghost use Rattle.basics.specs.Ascending.{ascending};
+ghost use Rattle.buckets.specs.Stash.{rank, upperBound, position};
 ghost use Rattle.buckets.specs.Joined.{SlotJoined};
 
 // The slot in a place.

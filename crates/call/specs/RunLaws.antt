@@ -22,7 +22,8 @@ use Rattle.method.specs.Map.{Outcome}
 use Rattle.method.specs.Rounds.{rounds}
 use Rattle.method.specs.Call.{capacity, program}
 use Rattle.rounds.specs.Round.{join}
-use Rattle.round_laws.specs.Sorted.{ascending-distinct, ascending}
+use Rattle.basics.specs.Ascending.{ascending}
+use Rattle.round_laws.specs.Sorted.{ascending-distinct}
 use Rattle.round_laws.specs.ReadHalf.{distinct-none-twice}
 use Rattle.leaf_nodes.specs.Leaf.{leafFormat}
 use Rattle.leaf_nodes.specs.Convert.{toNode}

@@ -11,7 +11,7 @@ use borrow.Author.Tests.{lt-ltb, le-ltb}
 use Rattle.slots.specs.Slot.{fieldsIn, slotBytes, nodeOf}
 use Rattle.slots.specs.declared.Slot.{Slot}
 use Rattle.method.specs.Node.{Node}
-use Rattle.round_laws.specs.Sorted.{ascending, ascendingFrom}
+use Rattle.basics.specs.Ascending.{ascending, ascendingFrom}
 use Rattle.buckets.specs.Words.{slotsOf, zeroSlot}
 use Rattle.buckets.specs.WordsLaws.{slots-count}
 use Rattle.waiting.specs.Waiting.{nodeIn, Holds}

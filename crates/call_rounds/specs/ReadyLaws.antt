@@ -12,10 +12,9 @@ use Rattle.slots.specs.declared.Slot.{Slot}
 use Rattle.method.specs.Node.{Node}
 use Rattle.rounds.specs.Round.{keysOf, noneTwice}
 use Rattle.rounds.specs.Nodes.{wordsFormat}
-use Rattle.round_laws.specs.Sorted.{ascending, ascendingFrom}
+use Rattle.basics.specs.Ascending.{ascending}
 use Rattle.leaf_nodes.specs.Leaf.{leafFormat}
 use Rattle.buckets.specs.Words.{slotsOf, Leaves}
-use Rattle.buckets.specs.Stash as stash
 use Rattle.buckets.specs.Look.{Fit}
 use Rattle.waiting.specs.Waiting.{wordsFor, InWidths, waitingIn}
 use Rattle.waiting.specs.WaitingLaws.{leaf-carried}
@@ -33,21 +32,6 @@ leaves-of-words k ns r tags x m =
     let q = Memᴰ·of-map wordsFor ns m in
     subst (λ (y : Slot). wordsFormat .tag y < 2 ^ k) (q .2)
     (rw (leaf-carried .tag (q .0) (r (q .0) (q .1))) (tags (q .0) (q .1)))
-
--- ---- the two tests of ascending order are one
-from-order : (k : ℕ) (ks : List ℕ) → ascendingFrom k ks ≡ stash.ascending (k ∷ ks)
-unfolding ascendingFrom stash.ascending
-from-order k [] = refl
-from-order k (l ∷ ks) = go (from-order l ks) (ltb k l)
-  where
-    go : ascendingFrom l ks ≡ stash.ascending (l ∷ ks) → (t : Bool) → pick t (ascendingFrom l ks) false ≡ (t && stash.ascending (l ∷ ks))
-    go more true = more
-    go more false = refl
-
-same-order : (ks : List ℕ) → ascending ks ≡ stash.ascending ks
-unfolding ascending stash.ascending
-same-order [] = refl
-same-order (k ∷ ks) = from-order k ks
 
 module _ {k leaf n : ℕ} {words scratch tree held : List ℕ} (ready : Ready k leaf n words scratch tree held) where
   -- The words' keys are those of the waiting nodes.
@@ -68,6 +52,6 @@ module _ {k leaf n : ℕ} {words scratch tree held : List ℕ} (ready : Ready k 
         waiting-sized = ready .holds .sized;
         scratch-sized = ready .scratch-sized;
         room = omega (arith, ready .small, ready .few);
-        order = ap stash.ascending ready-keys ∙ sym (same-order (keysWaiting n words)) ∙ ready .order;
+        order = ap ascending ready-keys ∙ ready .order;
         distinct = ap (λ (ks : List ℕ). noneTwice (ks ++ held)) ready-keys ∙ ready .apart;
       }

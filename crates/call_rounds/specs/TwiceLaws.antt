@@ -12,7 +12,8 @@ use Rattle.rounds.specs.Format.{Format}
 use Rattle.rounds.specs.Round.{Wish, keysOf, noneTwice, join, readHalf}
 use Rattle.round_laws.specs.Lists.{join-perm}
 use Rattle.round_laws.specs.ReadHalf.{none-twice-distinct}
-use Rattle.round_laws.specs.Sorted.{ascending, Ascending, ascending-join}
+use Rattle.basics.specs.Ascending.{ascending}
+use Rattle.round_laws.specs.Sorted.{Ascending, ascending-join}
 use Rattle.leaf_nodes.specs.Leaf.{leafFormat}
 use Rattle.buckets.specs.KeepLaws.{read-twice}
 use Rattle.calls.specs.Fetch.{Going, shut, revealing, heldKeys, idleRound}

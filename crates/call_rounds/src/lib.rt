@@ -15,7 +15,7 @@ ghost use Prim.Native.Nat.{_+_, _^_, _<_};
 ghost use Rattle.basics.specs.Choice.{pick};
 ghost use Rattle.rounds.specs.Round.{overflows};
 ghost use Rattle.method.specs.Call.{test};
-ghost use Rattle.round_laws.specs.Sorted.{ascending};
+ghost use Rattle.basics.specs.Ascending.{ascending};
 ghost use Rattle.state.specs.Ticket.{structureOf};
 ghost use Rattle.steps.specs.Method.{toWant};
 ghost use Rattle.leaf_nodes.specs.Convert.{toNode};

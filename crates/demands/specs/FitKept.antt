@@ -18,7 +18,6 @@ use Rattle.method.specs.Call.{capacity, Memory}
 use Rattle.theorems.specs.MapRepresents.{holds-shaped}
 use Rattle.theorems.specs.Represented.{Held, held-fits}
 use Rattle.rounds.specs.Round.{limit, keysOf}
-use Rattle.fit_stores.specs.Order.{ascends}
 use Rattle.leaf_nodes.specs.Convert.{fromLink}
 use Rattle.leaf_nodes.specs.Leaf.{leafFormat}
 use Rattle.calls.specs.Call.{Store}
@@ -28,7 +27,7 @@ use Rattle.simulation.specs.Relation.{Simulates}
 use Rattle.simulation.specs.CallSim.{simulates-fits}
 use Rattle.simulation.specs.Root.{root-empty, root-top}
 use Rattle.state.specs.declared.Place.{Place}
-use Rattle.state.specs.Fit.{inRange, largestStructure, largestSize, allOf, placeGood, zeroPlace, noPlace, ascending, rootGood, places, placesFit, fits}
+use Rattle.state.specs.Fit.{inRange, largestStructure, largestSize, allOf, placeGood, zeroPlace, noPlace, rootGood, places, placesFit, fits}
 use Rattle.demands.specs.History.{numberOf}
 use Rattle.demands.specs.OpenStates.{stateOf, holding, used-places, unused-places}
 
@@ -87,7 +86,6 @@ module _ (st : Structure) (k : ℕ) (positive : 1 ≤ k) (small : k ≤ 8) (s : 
         good-places k (s .waiting) (sim .kept .proper),
         zero-places (places - length (s .waiting)),
         map-map (λ (p : Place). p .node .key) holding (s .waiting),
-        ascends (keysOf leafFormat (s .waiting)),
         sim .ascends,
       )
 

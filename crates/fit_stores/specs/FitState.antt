@@ -20,11 +20,10 @@ use Rattle.method.specs.Answer.{map, stack}
 use Rattle.rounds.specs.Round.{limit}
 use Rattle.state.specs.declared.Place.{Place}
 use Rattle.state.specs.declared.State.{State}
-use Rattle.state.specs.Fit.{largestStructure, largestSize, inRange, zeroLink, allOf, placeGood, ascending, keysIn, rootGood, placesFrom, used, placesFit, fits}
+use Rattle.state.specs.Fit.{largestStructure, largestSize, inRange, zeroLink, allOf, placeGood, keysIn, rootGood, placesFrom, used, placesFit, fits}
 use Rattle.state.specs.FitLaws.{in-range-true}
 use Rattle.state.specs.Ticket.{structureOf}
-use Rattle.round_laws.specs.Sorted as sorted
-use Rattle.fit_stores.specs.Order.{ascends}
+use Rattle.basics.specs.Ascending.{ascending}
 use Rattle.closing.specs.Ends.{highest}
 
 -- ---- the places
@@ -75,7 +74,7 @@ pub record FitState (s : State) : Type 0 where
   pub entries : s .entries < 2 ^ s .size
   pub few : s .count ≤ limit
   pub well-formed : All (λ (p : Place). wellFormed (s .size) (p .node) ≡ true) (used s)
-  pub order : sorted.ascending (keysIn (used s)) ≡ true
+  pub order : ascending (keysIn (used s)) ≡ true
   pub root-tag : s .root .tag < 2 ^ s .size
   pub low : s .root .height ≤ highest (structureOf (s .structure)) (s .size)
   pub absent-zero : s .root .height ≡ 0 → (s .root .key ≡ 0) × (s .root .tag ≡ 0)
@@ -100,7 +99,7 @@ fit-state s e =
       entries = few;
       few = leb-true (s .count) limit (d .0);
       well-formed = λ p m. and-eq-true-iff (p .full) (wellFormed (s .size) (p .node)) .0 (good p m) .1;
-      order = sym (ascends (keysIn (used s))) ∙ and-eq-true-iff (ascending (keysIn (used s))) _ .0 (h .1) .0;
+      order = and-eq-true-iff (ascending (keysIn (used s))) _ .0 (h .1) .0;
       root-tag = ltb-true (s .root .tag) (2 ^ s .size) (g .0);
       low = root .0;
       absent-zero = root .1;

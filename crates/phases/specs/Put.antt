@@ -11,7 +11,7 @@ use Rattle.method.specs.Map.{Outcome}
 use Rattle.method.specs.Call.{drawsFrom}
 use Rattle.rounds.specs.Round.{noneTwice}
 use Rattle.round_laws.specs.Whole.{IsTree}
-use Rattle.round_laws.specs.Sorted.{ascending}
+use Rattle.basics.specs.Ascending.{ascending}
 use Rattle.buckets.specs.Words.{wordCount}
 use Rattle.calls.specs.Call.{putRounds}
 use Rattle.closing.specs.Proper.{ProperLeaf}

@@ -11,7 +11,8 @@ use Rattle.method.specs.Map.{Outcome}
 use Rattle.method.specs.Call.{drawsFrom}
 use Rattle.rounds.specs.Round.{noneTwice, keysOf}
 use Rattle.round_laws.specs.ReadHalf.{distinct-none-twice}
-use Rattle.round_laws.specs.Sorted.{ascending, ascending-distinct}
+use Rattle.basics.specs.Ascending.{ascending}
+use Rattle.round_laws.specs.Sorted.{ascending-distinct}
 use Rattle.leaf_nodes.specs.Leaf.{leafFormat}
 use Rattle.calls.specs.Fetch.{Going, shut}
 use Rattle.calls.specs.Call.{putRounds}

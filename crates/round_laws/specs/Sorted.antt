@@ -1,7 +1,7 @@
 -- The waiting elements stay in ascending order of keys: joined, with one taken out, chosen from and evicted. What is left of a list is a
 -- sublist of it. Ascending keys are distinct.
 use mathlib.Core.Path.{_≡_, refl, _∙_, ap}
-use mathlib.Core.Bool.{Bool, true, false}
+use mathlib.Core.Bool.{Bool, true, false, and-eq-true-iff}
 use mathlib.Core.Logic.{⊎-elim}
 use mathlib.Core.List.{List, [], _∷_, _++_, List·Memᴰ, List·Memᴰ·head, List·Memᴰ·tail, List·Memᴰ·cases-cons, Memᴰ·append-right, Memᴰ·of-map, Sublistᴰ, Sublistᴰ·slnil, Sublistᴰ·cons, Sublistᴰ·cons-cons, Sublistᴰ·refl, Sublistᴰ·nil-sublist, Sublistᴰ·trans}
 use mathlib.Core.Option.{Option, none, some}
@@ -10,7 +10,7 @@ use native.Mathlib.Omega.{arith}
 use borrow.Author.Tests.{ltb-true, ltb-false, lt-ltb}
 use lib.Dec.{ltb, eqb}
 use Rattle.basics.specs.Choice.{pick}
-use Rattle.basics.specs.ChoiceLaws.{pick-both}
+use Rattle.basics.specs.Ascending.{ascendingFrom, ascending}
 use Rattle.basics.specs.Perm.{trans}
 use Rattle.basics.specs.PermLaws.{perm-sym, perm-front, perm-append-left, perm-map}
 use Rattle.basics.specs.Distinct.{Distinct, All}
@@ -21,15 +21,6 @@ use Rattle.rounds.specs.Round.{Hand, Wish, keysOf, insert, join, takeFirst, gra
 use Rattle.round_laws.specs.Lists.{insert-perm, choose-keeps}
 use Rattle.round_laws.specs.Evict.{afterBucket, evict-none, evict-step}
 use Rattle.round_laws.specs.ReadHalf.{distinct-but-last, tagged-same, found, read-half-says}
-
--- Each number is greater than the one before it, the first than m.
-unfoldable pub ascendingFrom : ℕ → List ℕ → Bool
-ascendingFrom m [] = true
-ascendingFrom m (n ∷ ns) = pick (ltb m n) (ascendingFrom n ns) false
-
-unfoldable pub ascending : List ℕ → Bool
-ascending [] = true
-ascending (n ∷ ns) = ascendingFrom n ns
 
 sublist-member : {A : Type 0} {a : A} {xs ys : List A} → Sublistᴰ xs ys → List·Memᴰ a xs → List·Memᴰ a ys
 sublist-member Sublistᴰ·slnil m = m
@@ -51,7 +42,7 @@ module _ {E : Type 0} (F : Format E) where
   unfolding ascendingFrom Sorted
   sorted-from e [] h = (all-nil (λ a. F .key e < F .key a), tt)
   sorted-from e (a ∷ es) h =
-      let r = pick-both (ltb (F .key e) (F .key a)) (ascendingFrom (F .key a) (keysOf F es)) h in
+      let r = and-eq-true-iff (ltb (F .key e) (F .key a)) (ascendingFrom (F .key a) (keysOf F es)) .0 h in
       let less = ltb-true (F .key e) (F .key a) (r .0) in
       let more = sorted-from a es (r .1) in
       (all-cons {P = λ d. F .key e < F .key d} less (λ d m. omega (arith, more .0 d m)), more)

@@ -29,7 +29,7 @@ use Rattle.calls.specs.Fetch.{Going, Round, fetchRounds}
 use Rattle.calls.specs.Call.{Store, bucketCall}
 use Rattle.round_laws.specs.NoDamage.{there-proper}
 use Rattle.round_laws.specs.Kept.{fresh-empty, fresh-kept}
-use Rattle.round_laws.specs.Sorted.{ascending}
+use Rattle.basics.specs.Ascending.{ascending}
 use Rattle.simulation.specs.Proper.{ProperLeaf, leaves-lawful, Fits, proper-fits}
 use Rattle.simulation.specs.Entries.{OpFits}
 use Rattle.simulation.specs.ProperCall.{call-held, call-proper}

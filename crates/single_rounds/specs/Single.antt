@@ -13,7 +13,7 @@ use Rattle.rounds.specs.Round as round
 use Rattle.rounds.specs.Round.{Hand, keysOf, insert, readHalf, writeHalf, overflows}
 use Rattle.rounds.specs.Nodes.{wordsFormat}
 use Rattle.buckets.specs.Words.{wordCount, slotsOf, Leaves}
-use Rattle.buckets.specs.Stash.{ascending}
+use Rattle.basics.specs.Ascending.{ascending}
 use Rattle.buckets.specs.Look.{wishOf}
 use Rattle.buckets.specs.declared.read.Wish.{Wish}
 use Rattle.single_rounds.specs.declared.Closed.{Closed}

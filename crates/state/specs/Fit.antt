@@ -5,6 +5,7 @@ use mathlib.Core.List.{List, [], _∷_, map}
 use lib.Dec.{eqb, leb, ltb}
 use lib.ListN.{getD}
 use Rattle.basics.specs.Choice.{pick}
+use Rattle.basics.specs.Ascending.{ascending}
 use Rattle.balance.specs.Shape.{shaped}
 use Rattle.slots.specs.Slot.{wellFormed}
 use Rattle.slots.specs.declared.Link.{Link}
@@ -40,15 +41,6 @@ allOf f (a ∷ xs) = f a && allOf f xs
 -- "one empty or bad (its bucket not asked about)"
 abbrev pub placeGood : ℕ → Place → Bool
 placeGood k p = p .full && wellFormed k (p .node)
-
--- "keys not ascending": each is below the next
-unfoldable pub ascendingFrom : ℕ → List ℕ → Bool
-ascendingFrom a [] = true
-ascendingFrom a (b ∷ ks) = ltb a b && ascendingFrom b ks
-
-unfoldable pub ascending : List ℕ → Bool
-ascending [] = true
-ascending (a ∷ ks) = ascendingFrom a ks
 
 -- "for the map a root height that no balanced tree with that many entries has; for the stack a root other than height 1 with
 -- key = entries; with no entries a root link that is not all zero"

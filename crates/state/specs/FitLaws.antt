@@ -9,7 +9,8 @@ use lib.Dec.{ltb, leb, eqb}
 use lib.ListN.{getD}
 use borrow.Author.Tests.{lt-ltb, le-ltb, le-leb, lt-leb, ltb-true, leb-true}
 use Rattle.state.specs.declared.Place.{Place}
-use Rattle.state.specs.Fit.{allOf, ascending, ascendingFrom, inRange, placesFrom, noPlace, keysIn}
+use Rattle.basics.specs.Ascending.{ascending, ascendingFrom}
+use Rattle.state.specs.Fit.{allOf, inRange, placesFrom, noPlace, keysIn}
 
 -- ---- one place after another
 -- What is left of n places from number i on, after the first.

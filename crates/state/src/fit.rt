@@ -14,7 +14,8 @@ ghost use mathlib.Core.Bool.{_&&_};
 ghost use mathlib.Core.List.{map};
 ghost use Prim.Native.Nat.{_≤_, _-_, _^_};
 ghost use lib.Dec.{ltb};
-ghost use Rattle.state.specs.Fit.{zeroLink, zeroNode, zeroPlace, placeGood, allOf, keysIn, placesFrom, ascending, rootGood, inRange, fits};
+ghost use Rattle.basics.specs.Ascending.{ascending};
+ghost use Rattle.state.specs.Fit.{zeroLink, zeroNode, zeroPlace, placeGood, allOf, keysIn, placesFrom, rootGood, inRange, fits};
 
 pub fn in_range(n: u8, most: u8) -> bool
     ensures { λ r. ⌜ r ≡ inRange n most ⌝ }

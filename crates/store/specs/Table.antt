@@ -30,7 +30,8 @@ use Rattle.slots.specs.declared.Reading.the-variants.{Full}
 use Rattle.state.specs.declared.State.{State}
 use Rattle.store.specs.declared.Reply.{Reply}
 use Rattle.store.specs.declared.Reply.the-variants.{Answered, Refused}
-use Rattle.state.specs.Fit.{allOf, ascendingFrom, ascending, rootGood, fits, placesFrom, noLink}
+use Rattle.basics.specs.Ascending.{ascendingFrom, ascending}
+use Rattle.state.specs.Fit.{allOf, rootGood, fits, placesFrom, noLink}
 use Rattle.state.specs.Ticket.{opIn}
 use Rattle.state.specs.Opening.{opened}
 use Rattle.store.specs.Store.{Ended, called, callWith, replied, replyOf}

@@ -20,7 +20,8 @@ use Rattle.leaf_nodes.specs.Leaf.{readLeaf}
 use Rattle.calls.specs.Fetch.{movedLink, movedNode, closing, atClose, idleRound, tookRound, wantRound, fetchRound, fetchRounds}
 use Rattle.calls.specs.Call.{putRounds, afterPuts, afterFetches, bucketCall}
 use Rattle.store.specs.declared.Reply.the-variants.{Answered, Refused}
-use Rattle.state.specs.Fit.{allOf, ascendingFrom, ascending, rootGood, fits, placesFrom}
+use Rattle.basics.specs.Ascending.{ascendingFrom, ascending}
+use Rattle.state.specs.Fit.{allOf, rootGood, fits, placesFrom}
 use Rattle.state.specs.Ticket.{opIn}
 use Rattle.state.specs.Opening.{opened}
 use Rattle.store.specs.Store.{called, callWith, replied, replyOf}

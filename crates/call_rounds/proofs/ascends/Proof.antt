@@ -4,7 +4,7 @@ use Prim.Native.Nat.{_+_, _-_, _≤_}
 use native.Mathlib.Omega.{arith}
 use lib.ListN.{drop}
 use borrow.Author.Needs.{needs}
-use Rattle.round_laws.specs.Sorted.{ascending}
+use Rattle.basics.specs.Ascending.{ascending}
 use Rattle.call_rounds.specs.OneRound.{keysWaiting}
 use Rattle.call_rounds.specs.AscendLaws.{ascends-here, descends-here, ascends-last, keys-count, waiting-key}
 use Rattle.call_rounds.proofs.ascends.Statement.{statement}

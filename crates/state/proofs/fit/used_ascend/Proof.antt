@@ -3,7 +3,8 @@ use mathlib.Core.Path.{_≡_, refl, sym, _∙_, ap}
 use borrow.Author.Tests.{not-true, not-false}
 use Prim.Native.Nat.{_-_, _≤_}
 use native.Mathlib.Nat.{sub-zero}
-use Rattle.state.specs.Fit.{ascending, keysIn, placesFrom}
+use Rattle.basics.specs.Ascending.{ascending}
+use Rattle.state.specs.Fit.{keysIn, placesFrom}
 use Rattle.state.specs.FitLaws.{ascendingAt, ascending-start, keys-ascend, keys-fall, keys-end}
 use borrow.Author.Needs.{needs}
 use native.Mathlib.Omega.{arith}

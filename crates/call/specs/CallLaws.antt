@@ -14,7 +14,7 @@ use Rattle.method.specs.Answer as method
 use Rattle.method.specs.Answer.{Structure, get, put, remove, push, pop}
 use Rattle.method.specs.Rounds.{rounds}
 use Rattle.calls.specs.Call.{Store, drawOf, bucketCall}
-use Rattle.closing.specs.Changes.{OpFits}
+use Rattle.leaf_laws.specs.Entries.{OpFits}
 use Rattle.state.specs.declared.State.{State}
 use Rattle.state.specs.Fit.{fits}
 use Rattle.state.specs.Ticket.{ticketLength, opIn, structureOf as numbered}

@@ -20,8 +20,8 @@ use Rattle.leaf_nodes.specs.Leaf.{leafFormat}
 use Rattle.buckets.specs.Words.{wordCount}
 use Rattle.calls.specs.Fetch.{Left, Going, closing}
 use Rattle.calls.specs.Call.{afterPuts, putRounds, stepped}
-use Rattle.closing.specs.Proper.{ProperLeaf}
-use Rattle.closing.specs.Changes.{OpFits}
+use Rattle.leaf_laws.specs.Proper.{ProperLeaf}
+use Rattle.leaf_laws.specs.Entries.{OpFits}
 use Rattle.state.specs.declared.State.{State}
 use Rattle.state.specs.Fit.{fits}
 use Rattle.state.specs.Ticket as ticket

@@ -4,6 +4,7 @@ use mathlib.Core.Path.{_≡_, refl, sym, _∙_, ap}
 use mathlib.Core.Bool.{Bool, true, false}
 use mathlib.Core.List.{List, _∷_, _++_, map, map-append, append-assoc}
 use Prim.Native.Nat.{ℕ, _≤_}
+use Rattle.leaf_laws.specs.Entries.{pairOf}
 use Rattle.basics.specs.Perm.{Perm, trans}
 use Rattle.basics.specs.PermLaws.{perm-sym, perm-of-eq, perm-append-left, perm-front, perm-map}
 use Rattle.basics.specs.Perm as perm
@@ -12,10 +13,6 @@ use Rattle.basics.specs.DistinctLaws.{all-cons, all-append, all-right, all-perm
 use Rattle.method.specs.Node.{Link, Node, withChild}
 use Rattle.method.specs.Plain.{Pair}
 use Rattle.closing.specs.Fitting.{NodeFits, node-more}
-
--- A node's entry: its key and its value.
-abbrev pub pairOf : {T : Type 0} → Node T → Pair
-pairOf n = record { key = n .key; value = n .value }
 
 abbrev pub pairsOf : {T : Type 0} → List (Node T) → List Pair
 pairsOf ns = map pairOf ns

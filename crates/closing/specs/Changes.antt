@@ -8,14 +8,6 @@ use Rattle.method.specs.Plain.{Pair}
 use Rattle.closing.specs.Fitting.{LinkFits}
 use Rattle.closing.specs.AtHand.{AtHand}
 
--- What a ticket asks is within the widths of its fields.
-abbrev pub OpFits : {s : Structure} → Op s → Type 0
-OpFits (get key) = key < 2 ^ 32
-OpFits (put key value) = (key < 2 ^ 32) × (value < 2 ^ 64)
-OpFits (remove key) = key < 2 ^ 32
-OpFits (push value) = value < 2 ^ 64
-OpFits pop = Unit {0}
-
 -- The key that a ticket is about, for the entries and the root link of the store, and the value that it brings.
 unfoldable pub keyIn : {s : Structure} → Op s → (entries : ℕ) → Link ℕ → ℕ
 keyIn (get key) entries l = key

@@ -16,7 +16,7 @@ use Rattle.rounds.specs.Round.{limit}
 use Rattle.calls.specs.Fetch.{Left}
 use Rattle.calls.specs.Call.{Store}
 use Rattle.round_laws.specs.Whole.{IsTree}
-use Rattle.closing.specs.Proper.{ProperLeaf, FitLink}
+use Rattle.leaf_laws.specs.Proper.{ProperLeaf, FitLink}
 use Rattle.closing.specs.Changes.{keyIn, valueIn, takenOut, added, Answers}
 use Rattle.closing.specs.Sound.{entriesWith, placesFor}
 

@@ -28,10 +28,11 @@ use Rattle.calls.specs.Fetch.{Held, Going, heldKeys, wishFor, revealing, writte
 use Rattle.round_laws.specs.Whole.{listed}
 use Rattle.round_laws.specs.ReadHalf.{read-grants}
 use Rattle.round_laws.specs.NothingLost.{taken-proper}
-use Rattle.closing.specs.Proper.{ProperLeaf, leaves-lawful}
+use Rattle.leaf_laws.specs.Proper.{ProperLeaf, leaves-lawful}
 use Rattle.closing.specs.Fitting.{retag-proper}
 use Rattle.closing.specs.Yields.{Yields, asks}
-use Rattle.closing.specs.AtHand.{pairOf, pairsOf}
+use Rattle.leaf_laws.specs.Entries.{pairOf}
+use Rattle.closing.specs.AtHand.{pairsOf}
 use Rattle.closing.specs.Given.{Given, Leads, leads-more, AskedFrom}
 use Rattle.closing.specs.Sound.{nodesIn, total, Sound, After, goes, closes, close-after, damage-after, idle-after, written-sound, written-total, one-more}
 

@@ -14,7 +14,7 @@ use Rattle.slots.specs.ReadLaws.{well-formed-order, absent-with-key, absent-wit
 use Rattle.method.specs.Node.{Link, Node, absent, child, withChild, withValue, retag, heightOf, linkTo}
 use Rattle.method.specs.Map.{rotate}
 use Rattle.leaf_nodes.specs.Convert.{fromNode, fromLink}
-use Rattle.closing.specs.Proper.{ProperLeaf, Fits, FitLink, fits-proper, proper-fits}
+use Rattle.leaf_laws.specs.Proper.{ProperLeaf, Fits, FitLink, fits-proper, proper-fits}
 
 -- A link that a node of a tree of size k may have, of a height up to b.
 pub record LinkFits (k b : ℕ) (l : Link ℕ) : Type 0 where

@@ -9,7 +9,7 @@ use Rattle.method.specs.Node.{Link, Node, child}
 use Rattle.method.specs.Prog.{From, root, side, Want, Prog}
 use Rattle.method.specs.Map.{mapTest}
 use Rattle.runs.specs.EnoughRounds.{tested-height}
-use Rattle.closing.specs.Proper.{ProperLeaf}
+use Rattle.leaf_laws.specs.Proper.{ProperLeaf}
 use Rattle.closing.specs.Fitting.{LinkFits, NodeFits, proper-node}
 use Rattle.closing.specs.Yields.{Yields}
 

@@ -19,9 +19,10 @@ use Rattle.calls.specs.Call.{afterPuts}
 use Rattle.round_laws.specs.Whole.{contents}
 use Rattle.round_laws.specs.Lists.{join-perm}
 use Rattle.round_laws.specs.Room.{join-length}
-use Rattle.closing.specs.Proper.{ProperLeaf}
+use Rattle.leaf_laws.specs.Proper.{ProperLeaf}
 use Rattle.closing.specs.Fitting.{LinkFits, fit-of-link}
-use Rattle.closing.specs.AtHand.{pairOf, pairs-left}
+use Rattle.leaf_laws.specs.Entries.{pairOf}
+use Rattle.closing.specs.AtHand.{pairs-left}
 use Rattle.closing.specs.Sound.{nodesIn, entriesWith, total, Sound, After, goes, closes, placesFor}
 use Rattle.closing.specs.Moved.{moved-entries, moved-root, moved-proper}
 use Rattle.closing.specs.Putting.{Resting}

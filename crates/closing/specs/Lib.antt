@@ -1,4 +1,3 @@
-pub mod Proper
 pub mod Fitting
 pub mod Yields
 pub mod Given

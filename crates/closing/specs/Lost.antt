@@ -29,10 +29,11 @@ use Rattle.rounds.specs.Round.{join, limit}
 use Rattle.leaf_nodes.specs.Leaf.{leafFormat}
 use Rattle.calls.specs.Fetch.{Going, closing, Round, on, shut, fetchRounds}
 use Rattle.calls.specs.Call.{Store, putRounds, afterPuts, stepped, afterFetches, bucketCall}
-use Rattle.closing.specs.Proper.{ProperLeaf}
+use Rattle.leaf_laws.specs.Proper.{ProperLeaf}
 use Rattle.closing.specs.Fitting.{LinkFits, link-of-fit}
 use Rattle.closing.specs.Yields.{yields-done, yields-map, yields-both}
-use Rattle.closing.specs.Changes.{OpFits, valueIn, Answers, takenOut, added, mostHigh, Yielded}
+use Rattle.leaf_laws.specs.Entries.{OpFits}
+use Rattle.closing.specs.Changes.{valueIn, Answers, takenOut, added, mostHigh, Yielded}
 use Rattle.closing.specs.ProgramYields.{program-yields}
 use Rattle.closing.specs.Present.{program-seeks}
 use Rattle.closing.specs.Sound.{entriesWith, total, Sound, After, goes, closes}

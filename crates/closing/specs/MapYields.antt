@@ -22,10 +22,11 @@ use Rattle.method.specs.Plain.{Pair}
 use Rattle.method.specs.Call.{program}
 use Rattle.closing.specs.Fitting.{LinkFits, NodeFits, link-more, absent-fits, child-fits, link-to-fits, with-value-fits}
 use Rattle.closing.specs.Yields.{ends, asks, yields-pick, yields-then}
-use Rattle.closing.specs.AtHand.{pairOf, AtHand, at-hand-perm, at-hand-given, at-hand-aside, at-hand-anew, at-hand-add}
+use Rattle.leaf_laws.specs.Entries.{OpFits, pairOf}
+use Rattle.closing.specs.AtHand.{AtHand, at-hand-perm, at-hand-given, at-hand-aside, at-hand-anew, at-hand-add}
 use Rattle.closing.specs.Given.{YieldsBy, given-fits}
 use Rattle.closing.specs.Rotations.{Raised, nodesOn, climbing, climb-yields, unwind-raised}
-use Rattle.closing.specs.Changes.{OpFits, keyIn, valueIn, takenOut, added, Answers, get-found, get-absent, put-replaced, put-new, put-full, remove-removed, remove-absent, mostHigh, Yielded}
+use Rattle.closing.specs.Changes.{keyIn, valueIn, takenOut, added, Answers, get-found, get-absent, put-replaced, put-new, put-full, remove-removed, remove-absent, mostHigh, Yielded}
 
 -- ---- the walk down
 -- Where a walk from a link of height h ended: all nodes given are on its path, which is no longer than that height.

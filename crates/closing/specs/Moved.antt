@@ -14,9 +14,10 @@ use Rattle.method.specs.Node.{Link, Node, child}
 use Rattle.method.specs.Prog.{From, root, side}
 use Rattle.method.specs.Plain.{Pair}
 use Rattle.calls.specs.Fetch.{Held, Going, movedLink, movedNode, movedNodes}
-use Rattle.closing.specs.Proper.{ProperLeaf, leaves-lawful}
+use Rattle.leaf_laws.specs.Proper.{ProperLeaf, leaves-lawful}
 use Rattle.closing.specs.Fitting.{LinkFits, child-fits, proper-byte, fits-is-proper}
-use Rattle.closing.specs.AtHand.{pairOf, pairsOf}
+use Rattle.leaf_laws.specs.Entries.{pairOf}
+use Rattle.closing.specs.AtHand.{pairsOf}
 use Rattle.closing.specs.Sound.{nodesIn, Sound}
 use Rattle.closing.specs.Given.{Leads, at-root, at-side}
 

@@ -21,7 +21,8 @@ use Rattle.closing.specs.Fitting.{LinkFits, NodeFits, link-more, absent-
 use Rattle.closing.specs.Yields.{ends, asks, yields-pick}
 use Rattle.closing.specs.AtHand.{AtHand, at-hand-given, at-hand-aside, at-hand-add}
 use Rattle.closing.specs.Given.{Given, YieldsBy}
-use Rattle.closing.specs.Changes.{OpFits, keyIn, valueIn, takenOut, added, Answers, push-pushed, push-full, pop-popped, pop-empty, mostHigh, Yielded}
+use Rattle.leaf_laws.specs.Entries.{OpFits}
+use Rattle.closing.specs.Changes.{keyIn, valueIn, takenOut, added, Answers, push-pushed, push-full, pop-popped, pop-empty, mostHigh, Yielded}
 use Rattle.closing.specs.MapYields.{map-yields}
 
 -- ---- the stack

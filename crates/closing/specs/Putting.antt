@@ -21,9 +21,10 @@ use Rattle.calls.specs.Call.{putRounds, stepped}
 use Rattle.round_laws.specs.Whole.{contents}
 use Rattle.round_laws.specs.Lists.{join-perm}
 use Rattle.round_laws.specs.Room.{join-length}
-use Rattle.closing.specs.Proper.{ProperLeaf}
+use Rattle.leaf_laws.specs.Proper.{ProperLeaf}
 use Rattle.closing.specs.Fitting.{fits-is-proper}
-use Rattle.closing.specs.AtHand.{pairOf, pairsOf, pairs-three}
+use Rattle.leaf_laws.specs.Entries.{pairOf}
+use Rattle.closing.specs.AtHand.{pairsOf, pairs-three}
 use Rattle.closing.specs.Changes.{takenOut, added, mostHigh, Yielded}
 use Rattle.closing.specs.Sound.{nodesIn, entriesWith, total, Sound, After, goes, closes, idle-after}
 

@@ -25,8 +25,9 @@ use Rattle.round_laws.specs.Whole.{listed, IsTree, contents}
 use Rattle.round_laws.specs.ReadHalf.{found, read-half-says, read-grants, hand-perm}
 use Rattle.round_laws.specs.NothingLost.{round-is-tree, round-proper, nothing-lost}
 use Rattle.round_laws.specs.Room.{found-length, hand-length, write-length}
-use Rattle.closing.specs.Proper.{ProperLeaf, leaves-lawful}
-use Rattle.closing.specs.AtHand.{pairOf, pairsOf, pairs-left}
+use Rattle.leaf_laws.specs.Proper.{ProperLeaf, leaves-lawful}
+use Rattle.leaf_laws.specs.Entries.{pairOf}
+use Rattle.closing.specs.AtHand.{pairsOf, pairs-left}
 use Rattle.closing.specs.Given.{Leads}
 
 -- ---- a store between two rounds

@@ -37,7 +37,8 @@ use Rattle.state.specs.Ticket.{opIn, structureOf}
 use Rattle.store.specs.declared.Reply.the-variants.{Refused}
 use Rattle.store.specs.Store.{Ended, called, refusing, storeOf, replyOf}
 use Rattle.fit_stores.specs.Widths.{Widths}
-use Rattle.demands.specs.History.{Brought, Kept, history, finally, counted, replies, traceOf, opsIn, tapesOf, pairOf, pairsIn, numberOf}
+use Rattle.leaf_laws.specs.Entries.{pairOf}
+use Rattle.demands.specs.History.{Brought, Kept, history, finally, counted, replies, traceOf, opsIn, tapesOf, pairsIn, numberOf}
 
 -- ---- demand 1: any state, tree, ticket, tape and trace buffer
 module _ (s : State) (tree ticket tape trace : List ℕ) where

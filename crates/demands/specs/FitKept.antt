@@ -21,7 +21,7 @@ use Rattle.rounds.specs.Round.{limit, keysOf}
 use Rattle.leaf_nodes.specs.Convert.{fromLink}
 use Rattle.leaf_nodes.specs.Leaf.{leafFormat}
 use Rattle.calls.specs.Call.{Store}
-use Rattle.simulation.specs.Proper.{ProperLeaf}
+use Rattle.leaf_laws.specs.Proper.{ProperLeaf}
 use Rattle.simulation.specs.HeldProper.{held-root}
 use Rattle.simulation.specs.Relation.{Simulates}
 use Rattle.simulation.specs.CallSim.{simulates-fits}

@@ -5,6 +5,7 @@ use mathlib.Core.List.{List, [], _∷_, _++_, map}
 use mathlib.Core.Option.{none, some}
 use lib.Dec.{leb}
 use lib.ListN.{take}
+use Rattle.leaf_laws.specs.Entries.{pairOf}
 use Rattle.basics.specs.Choice.{pick}
 use Rattle.method.specs.Answer.{Structure, map as the-map, stack as the-stack, Op}
 use Rattle.method.specs.Plain.{Pair}
@@ -76,9 +77,6 @@ abbrev pub tapesOf : List Brought → List (List ℕ)
 tapesOf bs = map (λ (b : Brought). b .tape) bs
 
 -- The key and value pairs that waiting nodes and good slots hold.
-abbrev pub pairOf : Node ℕ → Pair
-pairOf n = record { key = n .key; value = n .value }
-
 abbrev pub pairsIn : State → List ℕ → List Pair
 pairsIn s tree =
     map pairOf (contents leafFormat (s .size) tree ++ map (λ (p : Place). toNode (p .node)) (used s))

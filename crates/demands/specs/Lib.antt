@@ -6,7 +6,6 @@ pub mod Refusals
 pub mod OpenStates
 pub mod FitKept
 pub mod Fresh
-pub mod Tickets
 pub mod HistorySteps
 pub mod NoneLost
 pub mod SoundReplies

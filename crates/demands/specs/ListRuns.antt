@@ -19,7 +19,7 @@ use Rattle.method.specs.Call.{capacity, Memory, Called, call}
 use Rattle.theorems.specs.Represented.{Held}
 use Rattle.calls.specs.Fetch.{Left}
 use Rattle.calls.specs.Call.{Store, drawOf, bucketCall}
-use Rattle.simulation.specs.Entries.{OpFits}
+use Rattle.leaf_laws.specs.Entries.{OpFits}
 use Rattle.simulation.specs.ProperCall.{call-held}
 use Rattle.simulation.specs.Relation.{Simulates, Matches, Overflowed}
 use Rattle.simulation.specs.Relation as relation

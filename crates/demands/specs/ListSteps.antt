@@ -13,7 +13,7 @@ use Rattle.method.specs.Call.{capacity, Memory}
 use Rattle.theorems.specs.Represented.{Held}
 use Rattle.calls.specs.Fetch.{Left}
 use Rattle.calls.specs.Call.{Store, drawOf, bucketCall}
-use Rattle.simulation.specs.Entries.{OpFits}
+use Rattle.leaf_laws.specs.Entries.{OpFits}
 use Rattle.simulation.specs.Relation.{Simulates}
 use Rattle.simulation.specs.Relation as relation
 use Rattle.state.specs.Ticket.{opIn, structureOf}
@@ -23,7 +23,7 @@ use Rattle.demands.specs.Checks.{Verdict, closed, unfit, other-tree, ill
 use Rattle.demands.specs.OpenStates.{stateOf, keptOf, store-back}
 use Rattle.demands.specs.FitKept.{state-fits}
 use Rattle.demands.specs.HistorySteps.{Refuses, next}
-use Rattle.demands.specs.Tickets.{op-fits}
+use Rattle.fit_stores.specs.Tickets.{op-fits}
 
 structure-back : (st : Structure) → structureOf (numberOf st) ≡ st
 structure-back map = refl
@@ -65,7 +65,7 @@ module _ (st : Structure) (k : ℕ) where
         go (other-tree h e) = absurd (h (sim .kept .is-tree .sized))
         go (ill-brought n low high e) = refused n low high e
         go (counts fit sized op h e) =
-            runs op h (op-fits (b .ticket) bytes st op h)
+            runs op h (op-fits st (b .ticket) bytes op h)
             (e
             ∙ ap (λ (x : Store). ending (stateOf st k s) (b .trace) (bucketCall k (rounds st k) op (drawOf k (b .tape)) x))
             (store-back st k s))

@@ -30,7 +30,8 @@ use Rattle.fit_stores.specs.Widths.{Widths}
 use Rattle.fit_stores.specs.FitState.{fit-state}
 use Rattle.fit_stores.specs.FitStores.{fit-store}
 use Rattle.fit_stores.specs.Tickets.{op-fits}
-use Rattle.demands.specs.History.{pairOf, pairsIn}
+use Rattle.leaf_laws.specs.Entries.{pairOf}
+use Rattle.demands.specs.History.{pairsIn}
 use Rattle.demands.specs.Marks.{Closing}
 use Rattle.demands.specs.Checks.{Verdict, closed, unfit, other-tree, ill-brought, counts, leftBy, verdict}
 use Rattle.demands.specs.Refusals.{same-number}

@@ -15,7 +15,7 @@ use Rattle.state.specs.declared.State.{State}
 use Rattle.state.specs.Fit.{fits, used}
 use Rattle.state.specs.Ticket.{structureOf}
 use Rattle.store.specs.Store.{storeOf}
-use Rattle.closing.specs.Proper.{ProperLeaf}
+use Rattle.leaf_laws.specs.Proper.{ProperLeaf}
 use Rattle.closing.specs.Ends.{FitStore}
 use Rattle.fit_stores.specs.Widths.{Widths}
 use Rattle.fit_stores.specs.FitState.{places-length, fit-state}

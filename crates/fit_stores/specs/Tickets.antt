@@ -12,7 +12,7 @@ use Rattle.basics.specs.Choice.{pick}
 use Rattle.slots.specs.LittleEndian.{value}
 use Rattle.slots.specs.LittleEndianLaws.{Bytes, value-below, bytes-take, bytes-drop}
 use Rattle.method.specs.Answer.{Structure, map, stack, Op, get, put, remove, push, pop}
-use Rattle.closing.specs.Changes.{OpFits}
+use Rattle.leaf_laws.specs.Entries.{OpFits}
 use Rattle.state.specs.Ticket.{kindIn, keyIn, valueIn, opIn}
 
 -- A number in at most w bytes.

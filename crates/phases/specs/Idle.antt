@@ -12,7 +12,7 @@ use Rattle.method.specs.Call.{drawsFrom}
 use Rattle.round_laws.specs.Whole.{IsTree}
 use Rattle.calls.specs.Fetch.{Held}
 use Rattle.calls.specs.Call.{putRounds}
-use Rattle.closing.specs.Proper.{ProperLeaf}
+use Rattle.leaf_laws.specs.Proper.{ProperLeaf}
 use Rattle.waiting.specs.Waiting.{waitingIn}
 use Rattle.call_rounds.specs.OneRound.{going, endedWith, Rests}
 use Rattle.phases.specs.declared.idle.Idle.{Idle}

@@ -25,7 +25,7 @@ use Rattle.round_laws.specs.NothingLost.{round-is-tree, round-proper}
 use Rattle.leaf_nodes.specs.Leaf.{leafFormat}
 use Rattle.calls.specs.Fetch.{Held, Going, heldKeys, tooMany, revealing, written, Round, on, shut, atClose, idleRound}
 use Rattle.calls.specs.Call.{drawOf, putRounds}
-use Rattle.closing.specs.Proper.{ProperLeaf, leaves-lawful}
+use Rattle.leaf_laws.specs.Proper.{ProperLeaf, leaves-lawful}
 use Rattle.closing.specs.Sound.{total}
 use Rattle.waiting.specs.Waiting.{waitingIn}
 use Rattle.waiting.specs.WaitingLaws.{waiting-length}

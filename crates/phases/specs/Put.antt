@@ -14,7 +14,7 @@ use Rattle.round_laws.specs.Whole.{IsTree}
 use Rattle.basics.specs.Ascending.{ascending}
 use Rattle.buckets.specs.Words.{wordCount}
 use Rattle.calls.specs.Call.{putRounds}
-use Rattle.closing.specs.Proper.{ProperLeaf}
+use Rattle.leaf_laws.specs.Proper.{ProperLeaf}
 use Rattle.waiting.specs.Waiting.{waitingIn, Holds}
 use Rattle.call_rounds.specs.OneRound.{going, endedWith, keysWaiting}
 use Rattle.phases.specs.declared.idle.Idle.{Idle}

@@ -14,7 +14,7 @@ use Rattle.calls.specs.Fetch as fetch
 use Rattle.calls.specs.Fetch.{Going, Round, on, fetchRounds}
 use Rattle.calls.specs.Call.{Store, drawOf}
 use Rattle.closing.specs.Ends.{FitStore}
-use Rattle.closing.specs.Changes.{OpFits}
+use Rattle.leaf_laws.specs.Entries.{OpFits}
 use Rattle.state.specs.Ticket as ticket
 use Rattle.slots.specs.declared.Node as node
 use Rattle.steps.specs.declared.Came.{Came}

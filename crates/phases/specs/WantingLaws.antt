@@ -30,7 +30,7 @@ use Rattle.calls.specs.Call.{putRounds}
 use Rattle.round_laws.specs.Whole.{IsTree}
 use Rattle.calls.specs.Fetch as fetch
 use Rattle.calls.specs.Fetch.{Going, heldKeys, tooMany, revealing, written, Round, on, shut, atClose, idleRound, wantRound, fetchRound, fetchRounds}
-use Rattle.closing.specs.Proper.{ProperLeaf, leaves-lawful}
+use Rattle.leaf_laws.specs.Proper.{ProperLeaf, leaves-lawful}
 use Rattle.closing.specs.Yields.{Yields, asks}
 use Rattle.closing.specs.Given.{Given, AskedFrom}
 use Rattle.closing.specs.Sound.{nodesIn, total, Sound, After, goes, closes}

@@ -30,8 +30,8 @@ use Rattle.calls.specs.Call.{Store, bucketCall}
 use Rattle.round_laws.specs.NoDamage.{there-proper}
 use Rattle.round_laws.specs.Kept.{fresh-empty, fresh-kept}
 use Rattle.basics.specs.Ascending.{ascending}
-use Rattle.simulation.specs.Proper.{ProperLeaf, leaves-lawful, Fits, proper-fits}
-use Rattle.simulation.specs.Entries.{OpFits}
+use Rattle.leaf_laws.specs.Proper.{ProperLeaf, leaves-lawful, Fits, proper-fits}
+use Rattle.leaf_laws.specs.Entries.{OpFits}
 use Rattle.simulation.specs.ProperCall.{call-held, call-proper}
 use Rattle.simulation.specs.Relation.{Simulates, emptyStore, memoryEntries, Matches, Overflowed}
 use Rattle.simulation.specs.RoundSim.{Went}

@@ -10,6 +10,7 @@ use lib.Dec.{eqb, ltb}
 use lib.ListN.{length, length-map}
 use lib.Pow.{pow-mono}
 use borrow.Author.Tests.{ltb-true}
+use Rattle.leaf_laws.specs.Entries.{OpFits, pairOf}
 use Rattle.basics.specs.Choice.{pick}
 use Rattle.basics.specs.Perm.{Perm, nil as perm-none, cons, trans}
 use Rattle.basics.specs.PermLaws.{perm-sym, perm-of-eq, perm-append, perm-front, perm-map}
@@ -33,9 +34,6 @@ abbrev pub entriesOf : (s : Structure) → Contents s → List Pair
 entriesOf map t = t
 entriesOf stack vs = numbered vs
 
-abbrev pub pairOf : {T : Type 0} → Node T → Pair
-pairOf n = record { key = n .key; value = n .value }
-
 -- ---- within their widths
 
 abbrev pub PairFits : Pair → Type 0
@@ -43,14 +41,6 @@ PairFits p = (p .key < 2 ^ 32) × (p .value < 2 ^ 64)
 
 abbrev pub EntriesFit : (s : Structure) → Contents s → Type 0
 EntriesFit s t = All PairFits (entriesOf s t)
-
--- What a ticket asks is within the widths of its fields.
-abbrev pub OpFits : {s : Structure} → Op s → Type 0
-OpFits (get key) = key < 2 ^ 32
-OpFits (put key value) = (key < 2 ^ 32) × (value < 2 ^ 64)
-OpFits (remove key) = key < 2 ^ 32
-OpFits (push value) = value < 2 ^ 64
-OpFits pop = Unit {0}
 
 all-tail : {P : Pair → Type 0} {p : Pair} {ps : List Pair} → All P (p ∷ ps) → All P ps
 all-tail h q m = h q (List·Memᴰ·tail m)

@@ -22,7 +22,7 @@ use Rattle.avl.specs.Search.{Entry, linkTree, nodesOf}
 use Rattle.avl.specs.Holds.{holds-height}
 use Rattle.theorems.specs.MapRepresents.{holds-low}
 use Rattle.theorems.specs.Represented.{Held}
-use Rattle.simulation.specs.Proper.{ProperLeaf, Fits, FitLink, fits-proper}
+use Rattle.leaf_laws.specs.Proper.{ProperLeaf, Fits, FitLink, fits-proper}
 
 -- The heights of all sizes whose tags have two bytes fit in a byte.
 greatest-small : (k : ℕ) → k ≤ 16 → greatest k < 256

@@ -1,4 +1,3 @@
-pub mod Proper
 pub mod Entries
 pub mod HeldProper
 pub mod ProperCall

@@ -20,7 +20,7 @@ use Rattle.theorems.specs.Theorems as theorems
 use Rattle.method.specs.Call as method
 use Rattle.calls.specs.Fetch.{Left}
 use Rattle.calls.specs.Call.{Store, bucketCall}
-use Rattle.simulation.specs.Entries.{OpFits}
+use Rattle.leaf_laws.specs.Entries.{OpFits}
 use Rattle.simulation.specs.ProperCall.{call-held}
 use Rattle.simulation.specs.Relation.{Simulates, emptyStore, leftBy, Matches, Overflowed}
 use Rattle.simulation.specs.CallSim.{simulate, simulate-start}

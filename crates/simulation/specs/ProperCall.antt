@@ -17,8 +17,9 @@ use Rattle.runs.specs.Fetches.{tags}
 use Rattle.runs.specs.Calls.{Stepped}
 use Rattle.runs.specs.Answers.{StepsTo, represents-call}
 use Rattle.theorems.specs.Represented.{Held, represents}
-use Rattle.simulation.specs.Proper.{ProperLeaf, Fits}
-use Rattle.simulation.specs.Entries.{pairOf, PairFits, EntriesFit, OpFits, plain-fits, held-entries}
+use Rattle.leaf_laws.specs.Proper.{ProperLeaf, Fits}
+use Rattle.leaf_laws.specs.Entries.{pairOf, OpFits}
+use Rattle.simulation.specs.Entries.{PairFits, EntriesFit, plain-fits, held-entries}
 use Rattle.simulation.specs.HeldProper.{held-proper}
 
 abbrev pub Leaf : ℕ → ℕ → Type 0

@@ -17,8 +17,8 @@ use Rattle.calls.specs.Fetch.{Held, Going, heldKeys, Left}
 use Rattle.calls.specs.Call.{Store}
 use Rattle.round_laws.specs.Whole.{contents, Kept}
 use Rattle.round_laws.specs.Sorted.{Ascending}
-use Rattle.simulation.specs.Proper.{ProperLeaf}
-use Rattle.simulation.specs.Entries.{pairOf}
+use Rattle.leaf_laws.specs.Proper.{ProperLeaf}
+use Rattle.leaf_laws.specs.Entries.{pairOf}
 
 -- ---- between calls
 

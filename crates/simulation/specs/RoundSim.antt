@@ -27,8 +27,8 @@ use Rattle.round_laws.specs.NothingLost.{nothing-lost}
 use Rattle.round_laws.specs.NoDamage.{no-damage-none, there-leaf, handOf, taken-is, no-damage-wanted}
 use Rattle.round_laws.specs.Kept.{kept-perm, kept-round}
 use Rattle.round_laws.specs.Sorted.{ascending-round}
-use Rattle.simulation.specs.Proper.{leaves-lawful}
-use Rattle.simulation.specs.Entries.{pairOf}
+use Rattle.leaf_laws.specs.Proper.{leaves-lawful}
+use Rattle.leaf_laws.specs.Entries.{pairOf}
 use Rattle.simulation.specs.Relation.{heldNodes, Stands, Few, Many}
 
 module _ {A : Type 0} where

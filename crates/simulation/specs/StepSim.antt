@@ -31,8 +31,8 @@ use Rattle.round_laws.specs.Room.{join-length}
 use Rattle.round_laws.specs.ReadHalf.{distinct-but-last}
 use Rattle.round_laws.specs.Kept.{kept-holding, kept-joined}
 use Rattle.round_laws.specs.Sorted.{ascending-join}
-use Rattle.simulation.specs.Proper.{ProperLeaf}
-use Rattle.simulation.specs.Entries.{pairOf}
+use Rattle.leaf_laws.specs.Proper.{ProperLeaf}
+use Rattle.leaf_laws.specs.Entries.{pairOf}
 use Rattle.simulation.specs.Relation.{Simulates, leftBy, storeEntries, memoryEntries, Matches, Overflowed, Stands, Few, Many}
 use Rattle.simulation.specs.RoundSim.{Went, went, overflowed}
 use Rattle.simulation.specs.FetchSim.{puts-went}

@@ -1,0 +1,1 @@
+// Theory only: proper nodes at leaf tags, entries, and the widths of tickets.

@@ -3,24 +3,22 @@ use mathlib.Core.Path.{_≡_, refl, sym, _∙_, ap}
 use mathlib.Core.Bool.{Bool, true, false}
 use mathlib.Core.List.{List, [], _∷_, _++_}
 use mathlib.Core.Option.{none, some}
-use Prim.Native.Nat.{ℕ, zero, suc, _+_, _*_, _≤_, _<_}
+use Prim.Native.Nat.{ℕ, _+_, _*_, _≤_}
 use native.Mathlib.Numerals.{add-one}
 use native.Mathlib.Omega.{arith}
-use lib.ListN.{length, take, drop, length-append}
+use lib.ListN.{length, take, length-append}
 use Rattle.basics.specs.Choice.{pick}
-use Rattle.slots.specs.Slot.{slotBytes}
-use Rattle.slots.specs.Tree.{slotLength, bucketStart, leafBucket, path, pathBucket}
+use Rattle.slots.specs.Tree.{leafBucket, path}
 use Rattle.slots.specs.TreeLaws.{halvings-length}
 use Rattle.slots.specs.declared.Slot.{Slot}
 use Rattle.rounds.specs.Format.{Read}
-use Rattle.rounds.specs.Round.{keysOf, slotAt, readBucket, readBuckets}
+use Rattle.rounds.specs.Round.{keysOf, readBucket, readBuckets}
 use Rattle.rounds.specs.Nodes.{wordsFormat}
 use Rattle.buckets.specs.Words.{wordCount, slotsOf, Leaves}
 use Rattle.basics.specs.Ascending.{ascending}
 use Rattle.buckets.specs.Stash.{joinReadings}
 use Rattle.buckets.specs.StashLaws.{Ascending, ascending-holds}
 use Rattle.buckets.specs.JoinLaws.{readings-then, readings-stop, readings-ascending}
-use Rattle.buckets.specs.PathLaws.{path-level, path-end}
 use Rattle.buckets.specs.Joined.{outcome, ReadingsJoined}
 use Rattle.buckets.specs.declared.read.Joined.{Joined}
 
@@ -93,55 +91,17 @@ joining-end k held all m before words count h j =
     joined-to k held all m before words (j .sized) count h (j .leaves) (j .left ∙ readings-none held (take count (slotsOf words)))
 
 -- ---- the readings of a bucket, and of the buckets of a path
-pub bucket-length : (k : ℕ) (tree : List ℕ) (b : ℕ) → length (readBucket wordsFormat k tree b) ≡ 4
+bucket-length : (k : ℕ) (tree : List ℕ) (b : ℕ) → length (readBucket wordsFormat k tree b) ≡ 4
 unfolding readBucket
 bucket-length k tree b = refl
 
-pub bucket-turn : (k : ℕ) (tree : List ℕ) (b j : ℕ) → j < 4
-    → drop j (readBucket wordsFormat k tree b) ≡ (wordsFormat .read k b (slotAt tree b j) ∷ []) ++ drop (j + 1) (readBucket wordsFormat k tree b)
-unfolding readBucket
-bucket-turn k tree b zero h = refl
-bucket-turn k tree b (suc zero) h = refl
-bucket-turn k tree b (suc (suc zero)) h = refl
-bucket-turn k tree b (suc (suc (suc zero))) h = refl
-bucket-turn k tree b (suc (suc (suc (suc j)))) h = let z : ⊥ = omega arith in absurd z
-
--- The same for a slot that was loaded from its place in the bucket.
-pub loaded-turn : (k : ℕ) (tree : List ℕ) (b j at : ℕ) (x : Slot) → j < 4 → at ≡ bucketStart b → slotBytes x ≡ take slotLength (drop (at + slotLength * j) tree)
-    → drop j (readBucket wordsFormat k tree b) ≡ (wordsFormat .read k b (slotBytes x) ∷ []) ++ drop (j + 1) (readBucket wordsFormat k tree b)
-loaded-turn k tree b j at x h e q =
-    let s : slotAt tree b j ≡ slotBytes x = ap (λ (n : ℕ). take slotLength (drop (n + slotLength * j) tree)) (sym e) ∙ sym q in
-    bucket-turn k tree b j h
-    ∙ ap (λ (bs : List ℕ). (wordsFormat .read k b bs ∷ []) ++ drop (j + 1) (readBucket wordsFormat k tree b)) s
-
-pub buckets-length : (k : ℕ) (tree : List ℕ) (bs : List ℕ) → length (readBuckets wordsFormat k tree bs) ≡ 4 * length bs
+buckets-length : (k : ℕ) (tree : List ℕ) (bs : List ℕ) → length (readBuckets wordsFormat k tree bs) ≡ 4 * length bs
 unfolding readBuckets
 buckets-length k tree [] = refl
 buckets-length k tree (b ∷ bs) =
     let h = buckets-length k tree bs in
     let n = bucket-length k tree b in
     length-append (readBucket wordsFormat k tree b) (readBuckets wordsFormat k tree bs) ∙ omega arith
-
-pub buckets-turn : (k : ℕ) (tree : List ℕ) (b : ℕ) (bs : List ℕ) → readBuckets wordsFormat k tree (b ∷ bs) ≡ readBucket wordsFormat k tree b ++ readBuckets wordsFormat k tree bs
-unfolding readBuckets
-buckets-turn k tree b bs = refl
-
-pub buckets-end : (k : ℕ) (tree : List ℕ) → readBuckets wordsFormat k tree [] ≡ []
-unfolding readBuckets
-buckets-end k tree = refl
-
-pub path-turn : (k : ℕ) (tree : List ℕ) (t i b : ℕ) → i ≤ k → b ≡ pathBucket k t i
-    → readBuckets wordsFormat k tree (drop i (path k t)) ≡ readBucket wordsFormat k tree b ++ readBuckets wordsFormat k tree (drop (i + 1) (path k t))
-path-turn k tree t i b h e =
-    ap (readBuckets wordsFormat k tree) (path-level k t i h)
-    ∙ buckets-turn k tree (pathBucket k t i) (drop (i + 1) (path k t))
-    ∙ ap (λ (n : ℕ). readBucket wordsFormat k tree n ++ readBuckets wordsFormat k tree (drop (i + 1) (path k t))) (sym e)
-
-pub path-done : (k : ℕ) (tree : List ℕ) (t i : ℕ) → i ≡ k + 1 → readBuckets wordsFormat k tree (drop i (path k t)) ≡ []
-path-done k tree t i e =
-    ap (λ (n : ℕ). readBuckets wordsFormat k tree (drop n (path k t))) e
-    ∙ ap (readBuckets wordsFormat k tree) (path-end k t)
-    ∙ buckets-end k tree
 
 pub path-readings : (k : ℕ) (tree : List ℕ) (t : ℕ) → length (readBuckets wordsFormat k tree (path k t)) ≡ 4 * (k + 1)
 path-readings k tree t =

@@ -10,6 +10,8 @@ pub mod Level
 pub mod PathLaws
 pub mod Joined
 pub mod JoinedLaws
+pub mod Gather
+pub mod GatherLaws
 pub mod Look
 pub mod LookLaws
 pub mod LookedLaws

@@ -15,9 +15,9 @@ use lib.Pow.{pow-mono, pow-pos}
 use borrow.Author.Tests.{ltb-true, ltb-false, le-leb, lt-leb, leb-true, leb-false, eq-eqb, ne-eqb}
 use Rattle.basics.specs.Choice.{pick}
 use Rattle.slots.specs.Tree.{passes, leafBucket, pathBucket, path}
-use Rattle.slots.specs.TreeLaws.{halvings-at, halvings-length}
+use Rattle.slots.specs.TreeLaws.{halvings-at, halvings-length, halved-shift}
 use Rattle.rounds.specs.Format.{Format}
-use Rattle.buckets.specs.PathLaws.{passes-at-level, path-at-level, halved-shift}
+use Rattle.buckets.specs.PathLaws.{passes-at-level, path-at-level}
 use Rattle.buckets.specs.Fill.{meeting, crowded, roomFrom, home}
 
 -- ---- digits

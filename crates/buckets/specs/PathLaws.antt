@@ -1,9 +1,7 @@
 -- The buckets of a path, level by level: their numbers are in the tree, and a tag's path passes one exactly if it has the same
 -- bucket at that level.
-use mathlib.Core.Path.{_≡_, sym, _∙_, ap, subst}
-use mathlib.Core.Bool.{or-false}
+use mathlib.Core.Path.{_≡_, _∙_, ap}
 use Prim.Native.Nat.{ℕ, zero, suc, _+_, _-_, _*_, _/_, _^_, _≤_, _<_}
-use native.Mathlib.Nat.{div-one, div-div-eq-div-mul, pow-suc, mul-comm}
 use native.Mathlib.Numerals.{add-one}
 use native.Mathlib.Omega.{arith}
 use mathlib.Core.List.{[], _∷_}
@@ -11,8 +9,8 @@ use lib.ListN.{drop, drop-of-length-le}
 use lib.Pow.{pow-mono}
 use lib.Seq.{drop-cons}
 use lib.Dec.{eqb}
-use Rattle.slots.specs.Tree.{among, passes, leafBucket, halvings, halved, pathBucket, path, bucketStart, bucketLength, treeLength}
-use Rattle.slots.specs.TreeLaws.{halved-le, halvings-length, halvings-at, among-less, among-last, among-above}
+use Rattle.slots.specs.Tree.{passes, leafBucket, halved, pathBucket, path, bucketStart, bucketLength, treeLength}
+use Rattle.slots.specs.TreeLaws.{halved-le, halvings-length, halvings-at, among-level}
 use Rattle.buckets.specs.Level.{AtLevel}
 
 -- What is left of a path from a level on.
@@ -44,28 +42,11 @@ module _ (k t i : ℕ) (leaf : t < 2 ^ k) (level : i ≤ k) where
   bucket-inside = let h = bucket-below in let p = bucket-positive in omega arith
 
 -- ---- the test at a known level
--- A number not below the second of the path is on it only as its first.
-among-first : (n x b : ℕ) → x / 2 < b → among b (halvings (suc n) x) ≡ eqb b x
-unfolding halvings among
-among-first n x b h = rw (among-less n (x / 2) b h) (or-false (eqb b x))
-
--- Of a number with n halvings down to 1, halving i times comes to what stands there, and nothing of another level does.
-among-level : (i j n x b : ℕ) → i + j ≡ n → 2 ^ n ≤ x → x < 2 * 2 ^ n → 2 ^ j ≤ b → b < 2 * 2 ^ j → among b (halvings n x) ≡ eqb b (halved i x)
-unfolding halved
-among-level zero j zero x b e p q r s = among-last x b
-among-level zero j (suc n) x b e p q r s =
-    let d : j ≡ suc n = omega arith in
-    let f : 2 ^ suc n ≤ b = subst (λ (m : ℕ). 2 ^ m ≤ b) d r in
-    among-first n x b (omega arith)
-among-level (suc i) j zero x b e p q r s = let z : ⊥ = omega arith in absurd z
-among-level (suc i) j (suc n) x b e p q r s =
-    let m : 2 ^ j ≤ 2 ^ n = pow-mono {i = j} {j = n} (omega arith) in
-    among-above n x b (omega arith) ∙ among-level i j n (x / 2) b (omega arith) (omega arith) (omega arith) r s
-
 -- A tag's path passes a bucket of a level exactly if its own bucket there is that one.
 pub passes-at-level : (k tag i b : ℕ) → tag < 2 ^ k → i ≤ k → AtLevel k i b → passes k tag b ≡ eqb b (pathBucket k tag i)
 passes-at-level k tag i b h l a =
-    among-level i (k - i) k (leafBucket k tag) b (omega arith) (omega arith) (omega arith) (a .0) (a .1)
+    let e : 2 ^ (i + (k - i)) ≡ 2 ^ k = ap (λ (n : ℕ). 2 ^ n) (omega arith) in
+    among-level i (k - i) k (leafBucket k tag) b l (omega arith) (omega arith) (a .0) (a .1)
 
 halved-level : (i j b : ℕ) → 2 ^ (i + j) ≤ b → b < 2 * 2 ^ (i + j) → (2 ^ j ≤ halved i b) × (halved i b < 2 * 2 ^ j)
 unfolding halved
@@ -80,9 +61,3 @@ path-at-level k t i h l =
     let e : i + (k - i) ≡ k = omega arith in
     let f : 2 ^ (i + (k - i)) ≡ 2 ^ k = ap (λ (n : ℕ). 2 ^ n) e in
     halved-level i (k - i) (leafBucket k t) (omega arith) (omega arith)
-
--- Halving i times is one shift.
-pub halved-shift : (i b : ℕ) → halved i b ≡ b / 2 ^ i
-unfolding halved
-halved-shift zero b = sym (div-one b)
-halved-shift (suc i) b = halved-shift i (b / 2) ∙ div-div-eq-div-mul b 2 (2 ^ i) ∙ rw (pow-suc 2 i, mul-comm (2 ^ i) 2)

@@ -18,7 +18,7 @@ use Rattle.slots.specs.Slot.{slotBytes, fieldsIn}
 use Rattle.slots.specs.declared.Slot.{Slot}
 use Rattle.rounds.specs.Round.{Written, withBucket, writeHalf}
 use Rattle.rounds.specs.Nodes.{wordsFormat}
-use Rattle.buckets.specs.Words.{places, wordCount, slotsOf, zeroSlot, Leaves}
+use Rattle.buckets.specs.Words.{places, wordCount, levels, slotsOf, zeroSlot, Leaves}
 use Rattle.buckets.specs.WordsLaws.{slots-count, words-tag}
 use Rattle.buckets.specs.Stash.{without}
 use Rattle.buckets.specs.PartLaws.{Part, part-whole, part-without, part-holds}
@@ -74,7 +74,7 @@ placed k t xs = fill wordsFormat k (path k t) (empties (path k t)) xs
 -- Some slots were placed: how many each bucket holds is counted, what they hold is written, and those that are left are the first.
 pub record Placing (k t : ℕ) (tree : List ℕ) (xs : List Slot) (now used waiting : List ℕ) (kept : ℕ) : Type 0 where
   pub sized : length waiting ≡ wordCount
-  pub used-sized : length used ≡ 17
+  pub used-sized : length used ≡ levels
   pub counts : take (k + 1) used ≡ map length (placed k t xs .contents)
   pub filled : now ≡ written wordsFormat tree (path k t) (placed k t xs .contents)
   pub left : take kept (slotsOf waiting) ≡ placed k t xs .left
@@ -89,14 +89,14 @@ take-zeros (suc n) zero h = let z : ⊥ = omega arith in absurd z
 take-zeros (suc n) (suc m) h = ap (λ (l : List ℕ). 0 ∷ l) (take-zeros n m (omega arith))
 
 pub placing-start : (k t : ℕ) (tree now waiting : List ℕ) → k ≤ 16 → length waiting ≡ wordCount → now ≡ cleared tree (path k t)
-    → Placing k t tree [] now (replicate 17 0) waiting 0
+    → Placing k t tree [] now (replicate levels 0) waiting 0
 placing-start k t tree now waiting s n e =
     let z = fill-none wordsFormat k (path k t) (empties (path k t)) in
     let l : length (path k t) ≡ k + 1 = halvings-length k (leafBucket k t) ∙ omega arith in
     record {
       sized = n;
       used-sized = refl;
-      counts = rw z (take-zeros (k + 1) 17 (omega arith) ∙ sym (empty-counts (path k t) ∙ ap (λ (i : ℕ). replicate i 0) l));
+      counts = rw z (take-zeros (k + 1) levels (omega arith) ∙ sym (empty-counts (path k t) ∙ ap (λ (i : ℕ). replicate i 0) l));
       filled = rw z (e ∙ cleared-written (path k t) tree);
       left = rw z;
     }

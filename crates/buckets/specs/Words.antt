@@ -12,6 +12,13 @@ places = 101
 abbrev pub wordCount : ℕ
 wordCount = 4 * places
 
+-- The levels of the largest tree, and the slots of its paths.
+abbrev pub levels : ℕ
+levels = 17
+
+abbrev pub pathSlots : ℕ
+pathSlots = 4 * levels
+
 -- The slots that words hold.
 unfoldable pub slotsOf : List ℕ → List Slot
 slotsOf [] = []

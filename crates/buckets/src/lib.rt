@@ -14,6 +14,9 @@ pub const BUCKET_SLOTS: usize = 4;
 // The levels of the largest tree, from the leaves up to the root.
 pub const LEVELS: usize = 17;
 
+// The slots of the longest path.
+pub const PATH_SLOTS: usize = BUCKET_SLOTS * LEVELS;
+
 // At a round's close at most so many nodes wait and are held.
 pub const LIMIT: usize = 64;
 

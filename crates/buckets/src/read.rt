@@ -1,34 +1,38 @@
 // The read half of a round: the path's nodes join those waiting, and the wanted one is found. Nothing of the tree or of the
 // waiting nodes is written, so damage leaves both as they were.
 use super::BUCKET_SLOTS;
+use super::PATH_SLOTS;
 use super::WORDS;
-use super::path::bucket_at;
+use super::path::start_at;
 use super::stash::copy;
 use super::stash::find;
 use super::stash::get;
 use super::stash::join_slot;
+use slots::BUCKET_LENGTH;
 use slots::Link;
 use slots::Node;
 use slots::Reading;
 use slots::SLOT_LENGTH;
 use slots::Slot;
+use slots::codec::is_zero;
 use slots::codec::node_of;
 use slots::codec::reading;
 use slots::codec::tag_of;
-use slots::tree::bucket_start;
 use slots::words::load;
 ghost use mathlib.Core.Path.{_≡_};
 ghost use mathlib.Core.Bool.{true, false};
-ghost use mathlib.Core.List.{[], _∷_};
+ghost use mathlib.Core.List.{[], _∷_, _++_};
 ghost use Prim.Native.Nat.{_+_, _*_, _^_, _<_, _≤_};
 ghost use lib.ListN.{length, take};
-ghost use Rattle.slots.specs.Tree.{among, path, bucketStart, bucketLength, treeLength};
-ghost use Rattle.slots.specs.Slot.{slotBytes};
-ghost use Rattle.rounds.specs.Round.{keysOf, readBucket, readBuckets};
+ghost use Rattle.basics.specs.Choice.{pick};
+ghost use Rattle.slots.specs.Tree.{among, path, bucketLength, treeLength};
+ghost use Rattle.slots.specs.Slot.{allZero, slotBytes};
+ghost use Rattle.rounds.specs.Round.{keysOf, readBuckets};
 ghost use Rattle.rounds.specs.Nodes.{wordsFormat};
-ghost use Rattle.buckets.specs.Words.{places, wordCount, slotsOf};
+ghost use Rattle.buckets.specs.Words.{places, wordCount, pathSlots, slotsOf};
 ghost use Rattle.basics.specs.Ascending.{ascending};
 ghost use Rattle.buckets.specs.Joined.{ReadingsJoined};
+ghost use Rattle.buckets.specs.Gather.{fourFrom, slotStarts, fullStarts};
 ghost use Rattle.buckets.specs.Look.{Fit, LookedFor};
 
 // How joining what was read went: ok or damage, and how many slots wait then.
@@ -120,37 +124,48 @@ fn join_reading(
     }
 }
 
-// The slots of a bucket join the first m.
-fn read_bucket(
-    s: &mut [u64; WORDS],
-    m: usize,
-    tree: &[u8],
-    size: usize,
-    bucket: usize,
-    held: &[u32],
-) -> Joined
-    requires { ⌜ (length (now s) ≡ wordCount) × (m + 4 ≤ places) × (ascending (keysOf wordsFormat (take m (slotsOf (now s)))) ≡ true) × (size ≤ 16) × (1 ≤ bucket) × (bucket < 2 ^ 17) × (bucketStart bucket + bucketLength ≤ length (now tree)) ⌝ }
-    ensures { λ r. ⌜ ReadingsJoined size (now (held .entry)) (readBucket wordsFormat size (now (tree .entry)) bucket) m (now (s .entry)) (now (s .exit)) r ⌝ }
+// A full slot counts one, an empty one none. It is a number to add, so that a path is gathered with no branch that the slots decide.
+fn full(x: Slot) -> usize
+    ensures { λ r. ⌜ r ≡ pick (allZero (slotBytes x)) 0 1 ⌝ }
 {
-    let at = bucket_start(bucket);
+    if is_zero(x) {
+        return 0;
+    }
+    1
+}
+
+// Where the full slots of the bucket that starts at a byte start, after the first m. Each slot's start is written to the next
+// place, and stays there if the slot is full.
+fn gather_bucket(tree: &[u8], start: usize, m: usize, from: &mut [u32; PATH_SLOTS]) -> usize
+    requires { ⌜ (start + bucketLength ≤ length (now tree)) × (start < 2 ^ 24) × (length (now from) ≡ pathSlots) × (m + 4 ≤ pathSlots) ⌝ }
+    ensures { λ r. ⌜ (length (now (from .exit)) ≡ pathSlots) × (r ≤ m + 4) × (take r (now (from .exit)) ≡ take m (now (from .entry)) ++ fullStarts (now (tree .entry)) (fourFrom start)) ⌝ }
+{
     let mut count = m;
     let mut j = 0;
     while j < BUCKET_SLOTS {
-        let x = load(tree, at + SLOT_LENGTH * j);
-        let r = join_reading(s, count, x, size, bucket, held);
-        if !r.ok {
-            return Joined {
-                ok: false,
-                count: m,
-            };
-        }
-        count = r.count;
+        let at = start + SLOT_LENGTH * j;
+        from[count] = at as u32;
+        count += full(load(tree, at));
         j += 1;
     }
-    Joined { ok: true, count }
+    count
 }
 
-// The path of a leaf, from the leaf's bucket up, joins the first n.
+// Where the full slots of a leaf's path start, from the leaf's bucket up.
+fn gather_path(tree: &[u8], size: usize, leaf: usize, from: &mut [u32; PATH_SLOTS]) -> usize
+    requires { ⌜ (size ≤ 16) × (leaf < 2 ^ size) × (length (now tree) ≡ treeLength size) × (length (now from) ≡ pathSlots) ⌝ }
+    ensures { λ r. ⌜ (length (now (from .exit)) ≡ pathSlots) × (r ≤ 4 * (size + 1)) × (take r (now (from .exit)) ≡ fullStarts (now (tree .entry)) (slotStarts (path size leaf))) ⌝ }
+{
+    let mut count = 0;
+    let mut level = 0;
+    while level <= size {
+        count = gather_bucket(tree, start_at(size, leaf, level), count, from);
+        level += 1;
+    }
+    count
+}
+
+// The path of a leaf, from the leaf's bucket up, joins the first n. Only its full slots are asked.
 fn read_path(
     s: &mut [u64; WORDS],
     n: usize,
@@ -162,11 +177,14 @@ fn read_path(
     requires { ⌜ (length (now s) ≡ wordCount) × (n + 4 * (size + 1) ≤ places) × (ascending (keysOf wordsFormat (take n (slotsOf (now s)))) ≡ true) × (size ≤ 16) × (leaf < 2 ^ size) × (length (now tree) ≡ treeLength size) ⌝ }
     ensures { λ r. ⌜ ReadingsJoined size (now (held .entry)) (readBuckets wordsFormat size (now (tree .entry)) (path size leaf)) n (now (s .entry)) (now (s .exit)) r ⌝ }
 {
+    let mut from = [0u32; PATH_SLOTS];
+    let m = gather_path(tree, size, leaf, &mut from);
     let mut count = n;
-    let mut level = 0;
-    while level <= size {
-        let bucket = bucket_at(size, leaf, level);
-        let r = read_bucket(s, count, tree, size, bucket, held);
+    let mut i = 0;
+    while i < m {
+        let at = from[i] as usize;
+        let x = load(tree, at);
+        let r = join_reading(s, count, x, size, at / BUCKET_LENGTH + 1, held);
         if !r.ok {
             return Joined {
                 ok: false,
@@ -174,7 +192,7 @@ fn read_path(
             };
         }
         count = r.count;
-        level += 1;
+        i += 1;
     }
     Joined { ok: true, count }
 }

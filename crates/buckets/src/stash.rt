@@ -12,7 +12,7 @@ ghost use Rattle.rounds.specs.Round.{keysOf, insert};
 ghost use Rattle.rounds.specs.Nodes.{wordsFormat};
 ghost use Rattle.buckets.specs.Words.{places, wordCount, slotsOf, zeroSlot};
 ghost use Rattle.basics.specs.Ascending.{ascending};
-ghost use Rattle.buckets.specs.Stash.{rank, upperBound, position};
+ghost use Rattle.buckets.specs.Stash.{upperBound, position};
 ghost use Rattle.buckets.specs.Joined.{SlotJoined};
 
 // The slot in a place.
@@ -41,21 +41,6 @@ pub fn put(w: &mut [u64; WORDS], i: usize, x: Slot)
     w[j + 3] = x.d;
 }
 
-// The place of a key among the first m, which ascend: how many of them have a smaller one.
-fn place(s: &[u64; WORDS], m: usize, key: u32) -> usize
-    requires { ⌜ (length (now s) ≡ wordCount) × (m ≤ places) × (ascending (keysOf wordsFormat (take m (slotsOf (now s)))) ≡ true) ⌝ }
-    ensures { λ r. ⌜ r ≡ rank wordsFormat key (take m (slotsOf (now (s .entry)))) ⌝ }
-{
-    let mut i = m;
-    while 0 < i {
-        if key_of(get(s, i - 1)) < key {
-            return i;
-        }
-        i -= 1;
-    }
-    0
-}
-
 // The slots from a place on, of the first m, each one place up.
 fn shift_up(s: &mut [u64; WORDS], m: usize, at: usize)
     requires { ⌜ (length (now s) ≡ wordCount) × (m < places) × (at ≤ m) ⌝ }
@@ -69,20 +54,27 @@ fn shift_up(s: &mut [u64; WORDS], m: usize, at: usize)
     }
 }
 
-// A slot joins the first m in key order, unless its key is there already.
+// A slot joins the first m in key order, unless its key is there already: those with a greater key move one place up, until the
+// slot's place is found. Where the key is there, some have moved, and the places are of no more use.
 pub fn join_slot(s: &mut [u64; WORDS], m: usize, x: Slot) -> bool
     requires { ⌜ (length (now s) ≡ wordCount) × (m < places) × (ascending (keysOf wordsFormat (take m (slotsOf (now s)))) ≡ true) ⌝ }
     ensures { λ r. ⌜ SlotJoined m x (now (s .entry)) (now (s .exit)) r ⌝ }
 {
     let key = key_of(x);
-    let at = place(s, m, key);
-    if at < m {
-        if key_of(get(s, at)) == key {
+    let mut i = m;
+    while 0 < i {
+        let y = get(s, i - 1);
+        if key_of(y) < key {
+            put(s, i, x);
+            return true;
+        }
+        if key_of(y) == key {
             return false;
         }
+        put(s, i, y);
+        i -= 1;
     }
-    shift_up(s, m, at);
-    put(s, at, x);
+    put(s, 0, x);
     true
 }
 

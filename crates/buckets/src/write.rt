@@ -22,14 +22,14 @@ ghost use lib.Seq.{sets};
 ghost use Rattle.slots.specs.Tree.{path, pathBucket, bucketStart, bucketLength, treeLength};
 ghost use Rattle.slots.specs.Slot.{slotBytes, bucketBytes};
 ghost use Rattle.rounds.specs.Round.{overflows};
-ghost use Rattle.buckets.specs.Words.{places, wordCount, slotsOf, Leaves};
+ghost use Rattle.buckets.specs.Words.{places, wordCount, levels, slotsOf, Leaves};
 ghost use Rattle.buckets.specs.Stash.{without};
 ghost use Rattle.buckets.specs.Fill.{roomFrom, cleared};
 ghost use Rattle.buckets.specs.Settle.{PathFilled, Joint, Settled};
 
 // The first level from a given one up whose bucket has room, of the numbers of slots that are used at each; size + 1 if none has.
 fn room_from(used: &[usize; LEVELS], size: usize, from: usize) -> usize
-    requires { ⌜ (length (now used) ≡ 17) × (size ≤ 16) × (from ≤ size) ⌝ }
+    requires { ⌜ (length (now used) ≡ levels) × (size ≤ 16) × (from ≤ size) ⌝ }
     ensures { λ r. ⌜ r ≡ roomFrom from (take (size + 1) (now (used .entry))) ⌝ }
 {
     let mut level = from;

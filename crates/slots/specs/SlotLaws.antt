@@ -1,26 +1,22 @@
 -- The slot format: the fields of four words, and the round trip. A well-formed node whose own tag's path passes the bucket,
 -- once written, reads back as that node; bytes that read as a node are that node's; and only zero bytes read as empty.
 use mathlib.Core.Path.{_≡_, refl, sym, _∙_, ap}
-use mathlib.Core.Bool.{Bool, true, false, not, _&&_, _||_, and-assoc}
-use Prim.Native.Nat.{ℕ, zero, suc, _+_, _*_, _/_, _%_, _^_, _≤_, _<_}
+use mathlib.Core.Bool.{Bool, true, false, _&&_, and-assoc}
+use Prim.Native.Nat.{ℕ, zero, suc, _+_, _*_, _/_, _%_, _^_, _<_}
 use native.Mathlib.Nat.{pow-suc}
 use native.Mathlib.Omega.{arith}
-use mathlib.Core.List.{List, [], _∷_, _++_, append-assoc, append-nil}
-use lib.Dec.{eqb, leb}
-use lib.ListN.{length, getD, replicate, length-append}
+use mathlib.Core.List.{List, [], _∷_, _++_, append-nil}
+use lib.Bits.{bitOr, bitAnd, or-zero-l, or-add-and, and-le-r}
+use lib.Dec.{eqb}
+use lib.ListN.{length, replicate, length-append}
 use borrow.Author.Tests.{eq-eqb, ne-eqb, eqb-true, eqb-false}
-use Rattle.basics.specs.Choice.{pick}
 use Rattle.slots.specs.LittleEndian.{value, bytes}
-use Rattle.slots.specs.LittleEndianLaws.{Bytes, length-bytes, bytes-are, bytes-join, bytes-append, value-bytes}
+use Rattle.slots.specs.LittleEndianLaws.{Bytes, length-bytes, bytes-are, bytes-append}
 use Rattle.slots.specs.Layout.{fields, pack, total}
-use Rattle.slots.specs.LayoutLaws.{Fit, fields-none, fields-part, fields-whole, fields-pack, pack-fields, length-pack, pack-bytes}
-use Rattle.slots.specs.Tree.{passes}
-use Rattle.slots.specs.Slot.{Fields, widths, numbers, named, fieldsIn, fieldsOf, nodeOf, encode, allZero, flagWrong, emptyNotZero, zeroNotZero, absentHasMore, tagTooLarge, missesBucket, bad, wellFormed, readSlot, slotBytes, slotOf}
-use Rattle.slots.specs.declared.Link.{Link}
+use Rattle.slots.specs.LayoutLaws.{Fit, fields-none, fields-part, fields-whole, fields-pack, pack-fields}
+use Rattle.slots.specs.Slot.{Fields, widths, numbers, named, fieldsIn, fieldsOf, nodeOf, encode, allZero, slotBytes, slotOf}
 use Rattle.slots.specs.declared.Node.{Node}
 use Rattle.slots.specs.declared.Slot.{Slot}
-use Rattle.slots.specs.declared.Reading.{Reading}
-use Rattle.slots.specs.declared.Reading.the-variants.{Full, Empty, Bad}
 
 -- ---- the fields of four words
 -- A word of the machine.
@@ -216,3 +212,23 @@ module _ (n : Node) (h : Ranged n) where
   pub slot-encoded : slotBytes (slotOf n) ≡ encode n
   unfolding encode
   slot-encoded = slot-packed (slotOf n) slot-words ∙ ap (λ (f : Fields). pack widths (numbers f)) slot-fields
+
+-- Words are zero together exactly if their digits put together are none.
+or-zero : (a b : ℕ) → eqb (bitOr a b) 0 ≡ (eqb a 0 && eqb b 0)
+or-zero a b = go (eqb a 0) refl (eqb b 0) refl
+  where
+    s : bitOr a b + bitAnd a b ≡ a + b
+    s = or-add-and a b
+
+    go : (t : Bool) → eqb a 0 ≡ t → (u : Bool) → eqb b 0 ≡ u → eqb (bitOr a b) 0 ≡ (t && u)
+    go true e u f = rw (eqb-true a 0 e, or-zero-l b) f
+    go false e u f = ne-eqb (bitOr a b) 0 (λ z. let h = s in let l = and-le-r a b in let n = eqb-false a 0 e in n (omega arith))
+
+pub zero-together : (x : Slot) → Words x → eqb (bitOr (bitOr (bitOr (x .a) (x .b)) (x .c)) (x .d)) 0 ≡ allZero (slotBytes x)
+zero-together x h =
+    or-zero (bitOr (bitOr (x .a) (x .b)) (x .c)) (x .d)
+    ∙ rw (or-zero (bitOr (x .a) (x .b)) (x .c), or-zero (x .a) (x .b), all-zero-slot x h) (and-shift (eqb (x .a) 0) (eqb (x .b) 0) (eqb (x .c) 0) (eqb (x .d) 0))
+  where
+    and-shift : (s t u v : Bool) → (((s && t) && u) && v) ≡ (s && (t && (u && v)))
+    and-shift true t u v = and-assoc t u v
+    and-shift false t u v = refl

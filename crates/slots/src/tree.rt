@@ -41,21 +41,23 @@ pub fn path_bucket(size: usize, leaf: usize, level: usize) -> usize
     b
 }
 
-// Whether a tag's path passes a bucket.
+// Whether a tag's path passes a bucket. The lengths of the two numbers say how often the leaf's would be halved, and one shift
+// does that.
 pub fn passes_bucket(size: usize, tag: usize, bucket: usize) -> bool
     requires { ⌜ (size ≤ 16) × (tag < 2 ^ 16) ⌝ }
     ensures { λ r. ⌜ r ≡ passes size tag bucket ⌝ }
 {
-    let mut b = leaf_bucket(size, tag);
-    let mut i = 0;
-    while i < size {
-        if b <= bucket {
-            return bucket == b;
-        }
-        b = parent(b);
-        i += 1;
+    let b = leaf_bucket(size, tag);
+    let low = u64::leading_zeros(b as u64);
+    let high = u64::leading_zeros(bucket as u64);
+    if high < low {
+        return false;
     }
-    bucket == b
+    let level = high - low;
+    if size < level as usize {
+        return false;
+    }
+    bucket == b >> level
 }
 
 // The byte where a bucket starts.

@@ -2,7 +2,7 @@
 use mathlib.Core.Path.{sym, _∙_, ap}
 use Prim.Native.Nat.{ℕ, _/_, _^_}
 use Rattle.slots.specs.Tree.{leafBucket}
-use Rattle.buckets.specs.PathLaws.{halved-shift}
+use Rattle.slots.specs.TreeLaws.{halved-shift}
 use borrow.Author.Needs.{needs}
 use Rattle.buckets.proofs.path.bucket_at.Statement.{statement}
 use Rattle.buckets.proofs.path.bucket_at.Tie as tie

@@ -1,105 +1,129 @@
--- `buckets::stash::join_slot` meets its contract: the key is in its place, or the slot is put there.
+-- `buckets::stash::join_slot` meets its contract. The invariant: of the first m slots, those from i on have a greater key and stand one place up.
 use mathlib.Core.Path.{_≡_, sym, _∙_, ap}
-use mathlib.Core.Logic.{⊎-elim}
-use mathlib.Core.Bool.{false}
-use Prim.Native.Nat.{ℕ, _+_}
-use lib.ListN.{take, getD, length-take}
-use Rattle.slots.specs.Tree.{among}
+use lib.ListN.{length, take, getD}
+use Prim.Native.Nat.{ℕ, _+_, _-_, _<_}
 use Rattle.rounds.specs.Round.{keysOf}
 use Rattle.rounds.specs.Nodes.{wordsFormat}
-use Rattle.buckets.specs.Words.{slotsOf, zeroSlot}
-use Rattle.buckets.specs.WordsLaws.{slots-count, words-key, key-got-first}
-use Rattle.buckets.specs.Stash.{rank}
-use Rattle.buckets.specs.StashLaws.{ascending-holds, among-place, absent-place, rank-first, insert-stored}
-use native.Mathlib.Omega.{arith}
+use Rattle.buckets.specs.Words.{wordCount, slotsOf, zeroSlot}
+use Rattle.buckets.specs.WordsLaws.{slots-count, words-key, key-got}
+use Rattle.buckets.specs.StashLaws.{ascending-holds, Rising, rising-start, rising-first, rising-placed, rising-twice, rising-turn}
 use borrow.Author.Needs.{needs}
+use native.Mathlib.Omega.{arith}
 use Rattle.buckets.proofs.stash.join_slot.Statement.{statement}
 use Rattle.buckets.proofs.stash.join_slot.Tie as tie
 
-key-of-requires : tie.Need-key-of-requires
+abbrev Inv-loop : tie.InvT-loop
+Inv-loop s₀ m x key i₀ s i = (length s ≡ wordCount) × Rising wordsFormat (slotsOf s₀) m x zeroSlot (slotsOf s) i
+
+abbrev μ-loop : tie.MeasureT-loop
+μ-loop s₀ m x key i₀ s i = i
+
+key-of-requires : tie.Need-key-of-requires Inv-loop μ-loop
 key-of-requires c κs = search needs
 
-place-requires : tie.Need-place-requires
-place-requires c κs = search needs
+loop-holds : tie.Need-loop-holds Inv-loop μ-loop
+loop-holds c =
+    let a = c .before .args in
+    let n = slots-count (a .s .now) (c .before .pre .0) in
+    (c .before .pre .0, rising-start wordsFormat (slotsOf (a .s .now)) (a .m) (a .x) zeroSlot (omega arith))
 
-get-requires : tie.Need-get-requires
-get-requires c κs = (c .before .before .before .before .before .pre .0, omega arith)
+sub-get : tie.Need-sub-get Inv-loop μ-loop
+sub-get c = search needs
 
-key-of-requires-2 : tie.Need-key-of-requires-2
+get-requires : tie.Need-get-requires Inv-loop μ-loop
+get-requires c κs = (c .before .before .loop .inv .0, omega (arith, c .before .before .loop .inv .1 .reached, c .before .before .before .before .pre .1))
+
+key-of-requires-2 : tie.Need-key-of-requires-2 Inv-loop μ-loop
 key-of-requires-2 c κs = search needs
 
-returns : tie.Need-returns
+put-requires : tie.Need-put-requires Inv-loop μ-loop
+put-requires c κs = (c .before .before .before .before .before .before .loop .inv .0, omega (arith, c .before .before .before .before .before .before .loop .inv .1 .reached, c .before .before .before .before .before .before .before .before .pre .1))
+
+returns : tie.Need-returns Inv-loop μ-loop
 returns c =
-    let a = c .before .before .before .before .before .before .before .before .args in
-    let l = slotsOf (a .s .now) in
-    let n = slots-count (a .s .now) (c .before .before .before .before .before .before .before .before .pre .0) in
-    let t = c .before .before .before .before .if1 .taken in
-    let x : c .before .before .before .before .before .before .before .key-of .result ≡ wordsFormat .key (a .x) = c .before .before .before .before .before .before .before .key-of .ensures ∙ sym (words-key (a .x)) in
-    let k = key-got-first (a .m) l (c .before .before .before .before .before .place .result) (c .before .before .get .result) (c .before .key-of2 .result) t (c .before .before .get .ensures) (c .before .key-of2 .ensures) in
-    let e = among-place wordsFormat (wordsFormat .key (a .x)) (take (a .m) l) (c .before .before .before .before .before .place .result) zeroSlot (simp length-take (omega arith)) (k ∙ c .if2 .taken ∙ x) in
-    record {
-      sized = c .before .before .before .before .before .before .before .before .pre .0;
-      is-new = rw e;
-      joined = λ f. let z : _≡_ {A = ℕ} 0 1 = cc in absurd (omega arith);
-    }
+    let b = c .before .before .before .before .before .before .before .before .before in
+    let a = b .args in
+    let l = c .before .before .before .before .before .before .before .loop in
+    let n = slots-count (a .s .now) (b .pre .0) in
+    let up = ascending-holds (keysOf wordsFormat (take (a .m) (slotsOf (a .s .now)))) (b .pre .2) in
+    let y = c .before .before .before .before .get in
+    let w = key-got (slotsOf (l .s)) (l .i - 1) (y .result) (c .before .before .before .key-of2 .result) (y .ensures) (c .before .before .before .key-of2 .ensures) in
+    let v : c .before .before .before .before .before .before .before .before .key-of .result ≡ wordsFormat .key (a .x) = c .before .before .before .before .before .before .before .before .key-of .ensures ∙ sym (words-key (a .x)) in
+    let r = rising-placed wordsFormat (slotsOf (a .s .now)) (a .m) (a .x) zeroSlot (slotsOf (l .s)) (l .i) (omega arith) up (l .inv .1) (c .before .before .before .before .before .before .loop-test .taken) (omega (arith, c .before .before .if1 .taken)) in
+    record { sized = c .put .ensures .1; is-new = rw (r .0); joined = λ _. ap (take (a .m + 1)) (c .put .ensures .0) ∙ r .1 }
 
--- Where the two ways to no return meet, no slot has the key.
-absent : (c : tie.Joined1) → among (wordsFormat .key (c .before .before .before .before .args .x)) (keysOf wordsFormat (take (c .before .before .before .before .args .m) (slotsOf (c .before .before .before .before .args .s .now)))) ≡ false
-absent c =
-    let a = c .before .before .before .before .args in
-    let l = slotsOf (a .s .now) in
-    let p = c .before .place in
-    let x : c .before .before .before .key-of .result ≡ wordsFormat .key (a .x) = c .before .before .before .key-of .ensures ∙ sym (words-key (a .x)) in
-    let r : p .result ≡ rank wordsFormat (wordsFormat .key (a .x)) (take (a .m) l) = p .ensures ∙ ap (λ (k : ℕ). rank wordsFormat k (take (a .m) l)) x in
-    absent-place wordsFormat (wordsFormat .key (a .x)) (take (a .m) l) zeroSlot (ascending-holds (keysOf wordsFormat (take (a .m) l)) (c .before .before .before .before .pre .2))
-    (λ h q. ⊎-elim
-    (λ w. w .4 .left
-    (sym (key-got-first (a .m) l (p .result) (w .2 .result) (w .3 .result) (w .0 .taken) (w .2 .ensures) (w .3 .ensures))
-    ∙ ap (λ (i : ℕ). wordsFormat .key (getD (take (a .m) l) i zeroSlot)) r
-    ∙ q
-    ∙ sym x))
-    (λ w. let n = length-take (a .m) l in omega (arith, w .left))
-    (c .if1 .came))
+key-of-requires-3 : tie.Need-key-of-requires-3 Inv-loop μ-loop
+key-of-requires-3 c κs = search needs
 
-shift-up-requires : tie.Need-shift-up-requires
-shift-up-requires c κs =
-    let a = c .before .before .before .before .before .args in
-    let p = c .before .before .place in
-    let f = rank-first wordsFormat (c .before .before .before .before .key-of .result) (slotsOf (a .s .now)) (a .m) in
-    (c .before .before .before .before .before .pre .0, omega arith, omega (arith, p .ensures))
-
-put-requires : tie.Need-put-requires
-put-requires c κs =
-    let a = c .before .before .before .before .before .before .before .args in
-    let p = c .before .before .before .before .place in
-    let f = rank-first wordsFormat (c .before .before .before .before .before .before .key-of .result) (slotsOf (a .s .now)) (a .m) in
-    (c .before .shift-up .ensures .0, omega (arith, p .ensures, c .before .before .before .before .before .before .before .pre .1))
-
-returns-2 : tie.Need-returns-2
+returns-2 : tie.Need-returns-2 Inv-loop μ-loop
 returns-2 c =
-    let a = c .before .before .before .before .before .before .before .before .args in
-    let l = slotsOf (a .s .now) in
-    let n = slots-count (a .s .now) (c .before .before .before .before .before .before .before .before .pre .0) in
-    let e = absent (c .before .before .before .before) in
-    let p = c .before .before .before .before .before .place in
-    let x : c .before .before .before .before .before .before .before .key-of .result ≡ wordsFormat .key (a .x) = c .before .before .before .before .before .before .before .key-of .ensures ∙ sym (words-key (a .x)) in
-    let r : p .result ≡ rank wordsFormat (wordsFormat .key (a .x)) (take (a .m) l) = p .ensures ∙ ap (λ (k : ℕ). rank wordsFormat k (take (a .m) l)) x in
-    let s = c .before .before .shift-up in
-    record {
-      sized = c .put .ensures .1;
-      is-new = rw e;
-      joined = λ _. ap (take (a .m + 1)) (c .put .ensures .0) ∙ insert-stored wordsFormat (a .x) l (slotsOf (s .last .0)) (a .m) (p .result) (omega arith) r e (s .ensures .1);
-    }
+    let b = c .before .before .before .before .before .before .before .before .before in
+    let a = b .args in
+    let l = c .before .before .before .before .before .before .before .loop in
+    let n = slots-count (a .s .now) (b .pre .0) in
+    let up = ascending-holds (keysOf wordsFormat (take (a .m) (slotsOf (a .s .now)))) (b .pre .2) in
+    let y = c .before .before .before .before .get in
+    let w = key-got (slotsOf (l .s)) (l .i - 1) (y .result) (c .before .key-of3 .result) (y .ensures) (c .before .key-of3 .ensures) in
+    let v : c .before .before .before .before .before .before .before .before .key-of .result ≡ wordsFormat .key (a .x) = c .before .before .before .before .before .before .before .before .key-of .ensures ∙ sym (words-key (a .x)) in
+    let r = rising-twice wordsFormat (slotsOf (a .s .now)) (a .m) (a .x) zeroSlot (slotsOf (l .s)) (l .i) (omega arith) up (l .inv .1) (c .before .before .before .before .before .before .loop-test .taken) (w ∙ c .if2 .taken ∙ v) in
+    record { sized = l .inv .0; is-new = rw r; joined = λ f. let z : _≡_ {A = ℕ} 0 1 = cc in absurd (omega arith) }
+
+put-requires-2 : tie.Need-put-requires-2 Inv-loop μ-loop
+put-requires-2 c κs = (c .before .before .before .before .before .before .before .before .loop .inv .0, omega (arith, c .before .before .before .before .before .before .before .before .loop .inv .1 .reached, c .before .before .before .before .before .before .before .before .before .before .pre .1))
+
+sub-i : tie.Need-sub-i Inv-loop μ-loop
+sub-i c = search needs
+
+loop-less : tie.Need-loop-less Inv-loop μ-loop
+loop-less c = search needs
+
+loop-again : tie.Need-loop-again Inv-loop μ-loop
+loop-again c =
+    let b = c .before .before .before .before .before .before .before .before .before .before .before in
+    let a = b .args in
+    let l = c .before .before .before .before .before .before .before .before .before .loop in
+    let n = slots-count (a .s .now) (b .pre .0) in
+    let up = ascending-holds (keysOf wordsFormat (take (a .m) (slotsOf (a .s .now)))) (b .pre .2) in
+    let y = c .before .before .before .before .before .before .get in
+    let w = key-got (slotsOf (l .s)) (l .i - 1) (y .result) (c .before .before .before .before .before .key-of2 .result) (y .ensures) (c .before .before .before .before .before .key-of2 .ensures) in
+    let v : c .before .before .before .before .before .before .before .before .before .before .key-of .result ≡ wordsFormat .key (a .x) = c .before .before .before .before .before .before .before .before .before .before .key-of .ensures ∙ sym (words-key (a .x)) in
+    let t = key-got (slotsOf (l .s)) (l .i - 1) (y .result) (c .before .before .before .key-of3 .result) (y .ensures) (c .before .before .before .key-of3 .ensures) in
+    let ne : wordsFormat .key (getD (slotsOf (l .s)) (l .i - 1) zeroSlot) ≡ wordsFormat .key (a .x) → ⊥ = λ e. c .before .before .if2 .left (sym t ∙ e ∙ sym v) in
+    let g : wordsFormat .key (a .x) < wordsFormat .key (getD (slotsOf (l .s)) (l .i - 1) zeroSlot) = omega (arith, c .before .before .before .before .if1 .left, ne) in
+    (c .put2 .ensures .1, rw (c .put2 .ensures .0, y .ensures) (rising-turn wordsFormat (slotsOf (a .s .now)) (a .m) (a .x) zeroSlot (slotsOf (l .s)) (l .i) (omega arith) up (l .inv .1) (c .before .before .before .before .before .before .before .before .loop-test .taken) g))
+
+put-requires-3 : tie.Need-put-requires-3 Inv-loop μ-loop
+put-requires-3 c κs = (c .before .before .loop .inv .0, omega arith)
+
+returns-3 : tie.Need-returns-3 Inv-loop μ-loop
+returns-3 c =
+    let b = c .before .before .before .before .before in
+    let a = b .args in
+    let l = c .before .before .before .loop in
+    let n = slots-count (a .s .now) (b .pre .0) in
+    let up = ascending-holds (keysOf wordsFormat (take (a .m) (slotsOf (a .s .now)))) (b .pre .2) in
+    let z : l .i ≡ 0 = omega (arith, c .before .before .loop-test .left) in
+    let r = rising-first wordsFormat (slotsOf (a .s .now)) (a .m) (a .x) zeroSlot (slotsOf (l .s)) (l .i) (omega arith) up (l .inv .1) z in
+    record { sized = c .put3 .ensures .1; is-new = rw (r .0); joined = λ _. ap (take (a .m + 1)) (c .put3 .ensures .0) ∙ rw z at (r .1) }
 
 pub join-slot-spec : {M : Type 1} → statement M
 join-slot-spec =
     tie.close
     (tie.spec
+    Inv-loop
+    μ-loop
     key-of-requires
-    place-requires
+    loop-holds
+    sub-get
     get-requires
     key-of-requires-2
-    returns
-    shift-up-requires
     put-requires
-    returns-2)
+    returns
+    key-of-requires-3
+    returns-2
+    put-requires-2
+    sub-i
+    loop-less
+    loop-again
+    put-requires-3
+    returns-3)

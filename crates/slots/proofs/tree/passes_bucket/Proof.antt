@@ -1,68 +1,51 @@
--- `slots::tree::passes_bucket` meets its contract. The invariant: the bucket is on what is left of the path exactly if it is on the whole.
-use mathlib.Core.Path.{_≡_, sym, _∙_}
-use Prim.Native.Nat.{_-_, _≤_}
-use native.Mathlib.Nat.{sub-zero}
-use Rattle.slots.specs.Tree.{halvings, among, passes}
-use Rattle.slots.specs.TreeLaws.{among-reached, among-turn, among-last}
+-- `slots::tree::passes_bucket` meets its contract: by its length the bucket is above the path, below it, or at one level of it.
+use mathlib.Core.Path.{sym}
+use Prim.Native.Nat.{ℕ, _^_, _≤_, _<_}
+use lib.Count.{leading-le}
+use lib.Pow.{pow-mono}
+use Rattle.slots.specs.Tree.{leafBucket}
+use Rattle.slots.specs.TreeLaws.{passes-longer, passes-shorter, passes-there}
 use borrow.Author.Needs.{needs}
 use native.Mathlib.Omega.{arith}
 use Rattle.slots.proofs.tree.passes_bucket.Statement.{statement}
 use Rattle.slots.proofs.tree.passes_bucket.Tie as tie
 
-abbrev Inv-loop : tie.InvT-loop
-Inv-loop size tag bucket b₀ i₀ b i =
-    (i ≤ size) × (among bucket (halvings (size - i) b) ≡ passes size tag bucket)
+small : (k tag : ℕ) → k ≤ 16 → tag < 2 ^ 16 → leafBucket k tag < 2 ^ 64
+small k tag h l = let p : 2 ^ k ≤ 2 ^ 16 = pow-mono {i = k} {j = 16} h in omega arith
 
-abbrev μ-loop : tie.MeasureT-loop
-μ-loop size tag bucket b₀ i₀ b i = size - i
-
-leaf-bucket-requires : tie.Need-leaf-bucket-requires Inv-loop μ-loop
+leaf-bucket-requires : tie.Need-leaf-bucket-requires
 leaf-bucket-requires c κs = search needs
 
-loop-holds : tie.Need-loop-holds Inv-loop μ-loop
-loop-holds c = (search needs, rw (sub-zero, c .leaf-bucket .ensures))
-
-returns : tie.Need-returns Inv-loop μ-loop
+returns : tie.Need-returns
 returns c =
-    let l = c .before .before .loop in
-    let a = c .before .before .before .before .args in
-    sym (among-reached (a .size - l .i) (l .b) (a .bucket) (c .if1 .taken)) ∙ l .inv .1
+    let b = c .before .before in
+    let a = b .args in
+    sym (passes-longer (a .size) (leafBucket (a .size) (a .tag)) (a .bucket) (omega arith) (small (a .size) (a .tag) (b .pre .0) (b .pre .1)) (b .fits .bucket .fits) (let e = c .before .leaf-bucket .ensures in rw e at (c .if1 .taken)))
 
-parent-requires : tie.Need-parent-requires Inv-loop μ-loop
-parent-requires c κs = search needs
+cast-if2 : tie.Need-cast-if2
+cast-if2 c = let l = leading-le 64 (c .before .before .args .bucket) in omega arith
 
-add-i : tie.Need-add-i Inv-loop μ-loop
-add-i c = search needs
-
-loop-less : tie.Need-loop-less Inv-loop μ-loop
-loop-less c = search needs
-
-loop-again : tie.Need-loop-again Inv-loop μ-loop
-loop-again c =
-    let l = c .before .before .before .loop in
-    let a = c .before .before .before .before .before .args in (
-      search needs,
-      rw (c .parent .ensures) (among-turn (a .size) (l .i) (l .b) (a .bucket) (c .before .before .loop-test .taken) (c .before .if1 .left) ∙ l .inv .1),
-    )
-
-returns-2 : tie.Need-returns-2 Inv-loop μ-loop
+returns-2 : tie.Need-returns-2
 returns-2 c =
-    let l = c .before .loop in
-    let a = c .before .before .before .args in
-    let e : a .size - l .i ≡ 0 = omega arith in
-    sym (among-last (l .b) (a .bucket)) ∙ rw e at (l .inv .1)
+    let b = c .before .before .before in
+    let a = b .args in
+    let e = c .before .before .leaf-bucket .ensures in
+    sym (passes-shorter (a .size) (leafBucket (a .size) (a .tag)) (a .bucket) (omega arith) (small (a .size) (a .tag) (b .pre .0) (b .pre .1)) (b .fits .bucket .fits) (rw e at (c .before .if1 .left)) (rw e at (c .if2 .taken)))
+
+cast-result : tie.Need-cast-result
+cast-result c = search needs
+
+shr-result : tie.Need-shr-result
+shr-result c = search needs
+
+returns-3 : tie.Need-returns-3
+returns-3 c =
+    let b = c .before .before .before in
+    let a = b .args in
+    let e = c .before .before .leaf-bucket .ensures in
+    rw e (sym (passes-there (a .size) (leafBucket (a .size) (a .tag)) (a .bucket) (omega arith) (small (a .size) (a .tag) (b .pre .0) (b .pre .1)) (b .fits .bucket .fits) (rw e at (c .before .if1 .left)) (rw e at (c .if2 .left))))
 
 pub passes-bucket-spec : {M : Type 1} → statement M
 passes-bucket-spec =
     tie.close
-    (tie.spec
-    Inv-loop
-    μ-loop
-    leaf-bucket-requires
-    loop-holds
-    returns
-    parent-requires
-    add-i
-    loop-less
-    loop-again
-    returns-2)
+    (tie.spec leaf-bucket-requires returns cast-if2 returns-2 cast-result shr-result returns-3)

@@ -1,0 +1,34 @@
+-- The full slots of a path, by the bytes where they start: only those are read and joined.
+use Prim.Native.Nat.{ℕ, _+_, _*_, _/_}
+use mathlib.Core.List.{List, [], _∷_, _++_}
+use lib.ListN.{take, drop}
+use Rattle.basics.specs.Choice.{pick}
+use Rattle.slots.specs.Tree.{slotLength, bucketStart, bucketLength}
+use Rattle.slots.specs.Slot.{allZero}
+use Rattle.slots.specs.declared.Slot.{Slot}
+use Rattle.rounds.specs.Format.{Read}
+use Rattle.rounds.specs.Nodes.{wordsFormat}
+
+-- The bytes of the slot that starts at a byte.
+abbrev pub slotFrom : List ℕ → ℕ → List ℕ
+slotFrom tree at = take slotLength (drop at tree)
+
+-- Where the four slots of the bucket that starts at a byte start, and those of some buckets.
+abbrev pub fourFrom : ℕ → List ℕ
+fourFrom at = (at + slotLength * 0) ∷ (at + slotLength * 1) ∷ (at + slotLength * 2) ∷ (at + slotLength * 3) ∷ []
+
+unfoldable pub slotStarts : List ℕ → List ℕ
+slotStarts [] = []
+slotStarts (b ∷ bs) = fourFrom (bucketStart b) ++ slotStarts bs
+
+-- Those that are not all zero bytes.
+unfoldable pub fullStarts : List ℕ → List ℕ → List ℕ
+fullStarts tree [] = []
+fullStarts tree (at ∷ ats) = pick (allZero (slotFrom tree at)) [] (at ∷ []) ++ fullStarts tree ats
+
+-- The bucket of the slot that starts at a byte, and the slot's reading.
+abbrev pub bucketOf : ℕ → ℕ
+bucketOf at = at / bucketLength + 1
+
+abbrev pub readFrom : ℕ → List ℕ → ℕ → Read Slot
+readFrom k tree at = wordsFormat .read k (bucketOf at) (slotFrom tree at)

@@ -1,0 +1,61 @@
+-- `bench_calls::run_opened` is safe and ends: a tape of 2F + 1 numbers and a trace buffer of 2F.
+use mathlib.Core.Path.{sym}
+use Prim.Native.Nat.{_+_, _*_}
+use Rattle.walk_lines.specs.WalkLaws.{fresh-length}
+use native.Mathlib.Omega.{arith}
+use borrow.Author.Needs.{needs}
+use Rattle.bench_calls.proofs.run_opened.Statement.{statement}
+use Rattle.bench_calls.proofs.run_opened.Tie as tie
+
+rounds-requires : tie.Need-rounds-requires
+rounds-requires c κs = search needs
+
+mul-leaves : tie.Need-mul-leaves
+mul-leaves c = search needs
+
+add-draws : tie.Need-add-draws
+add-draws c = search needs
+
+slice-aggregate-run : tie.Need-slice-aggregate-run
+slice-aggregate-run c = search needs
+
+array-borrow-prefix-tape : tie.Need-array-borrow-prefix-tape
+array-borrow-prefix-tape c = search needs
+
+slice-aggregate-run-2 : tie.Need-slice-aggregate-run-2
+slice-aggregate-run-2 c =
+    let f = c .before .before .before .rounds in
+    sym (fresh-length (2 * f .result + 1) 67 (omega (arith, f .ensures .1)))
+
+array-borrow-prefix-trace : tie.Need-array-borrow-prefix-trace
+array-borrow-prefix-trace c = search needs
+
+slice-aggregate-run-3 : tie.Need-slice-aggregate-run-3
+slice-aggregate-run-3 c =
+    let f = c .before .before .before .before .rounds in
+    sym (fresh-length (2 * f .result) 66 (omega (arith, f .ensures .1)))
+
+run-requires : tie.Need-run-requires
+run-requires c κs = search needs
+
+same-length : tie.Need-same-length
+same-length c = search needs
+
+returns : tie.Need-returns
+returns c = search needs
+
+pub run-opened-spec : {M : Type 1} → statement M
+run-opened-spec =
+    tie.close
+    (tie.spec
+    rounds-requires
+    mul-leaves
+    add-draws
+    slice-aggregate-run
+    array-borrow-prefix-tape
+    slice-aggregate-run-2
+    array-borrow-prefix-trace
+    slice-aggregate-run-3
+    run-requires
+    same-length
+    returns)

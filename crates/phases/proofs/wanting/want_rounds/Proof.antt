@@ -189,7 +189,7 @@ same-length-6 : tie.Need-same-length-6 Inv-loop μ-loop
 same-length-6 c =
     let k = c .before .before .before .before .before .before .before .before .before .before .before in
     let l = looped k in
-    length-set (l .loop .trace) (l .loop .held .count) (want k .link .tag) ∙ l .loop .inv .trace-sized
+    simp length-set (l .loop .inv .trace-sized)
 
 -- src/wanting.rt:120:13
 returns-2 : tie.Need-returns-2 Inv-loop μ-loop
@@ -257,7 +257,7 @@ same-length-9 : tie.Need-same-length-9 Inv-loop μ-loop
 same-length-9 c =
     let k = c .before .before .before .before .before .before .before .before .before .before .before .before .before .before .before .before in
     let l = looped k in
-    length-set (l .loop .trace) (l .loop .held .count) (want k .link .tag) ∙ l .loop .inv .trace-sized
+    simp length-set (l .loop .inv .trace-sized)
 
 -- src/wanting.rt:127:13
 returns-3 : tie.Need-returns-3 Inv-loop μ-loop

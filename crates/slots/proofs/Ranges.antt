@@ -15,10 +15,10 @@ pub slot-ranges : (x : Slot) → Fits w64 (x .a) × (Fits w64 (x .b) × (Fits w6
 slot-ranges x g = (g .0 .fits, g .1 .0 .fits, g .1 .1 .0 .fits, g .1 .1 .1 .0 .fits)
 
 abbrev pub LinkRanges : Link → Type 0
-LinkRanges l = Fits w8 (l .height) × (Fits w32 (l .key) × (Fits w16 (l .tag) × Unit {0}))
+LinkRanges l = Fits w32 (l .key) × (Fits w16 (l .tag) × (Fits w8 (l .height) × Unit {0}))
 
 abbrev pub NodeRanges : Node → Type 0
-NodeRanges n = Fits w32 (n .key) × (Fits w64 (n .value) × (Fits w16 (n .tag) × (LinkRanges (n .left) × (LinkRanges (n .right) × Unit {0}))))
+NodeRanges n = Fits w64 (n .value) × (Fits w32 (n .key) × (Fits w16 (n .tag) × (LinkRanges (n .left) × (LinkRanges (n .right) × Unit {0}))))
 
 pub node-ranges : (n : Node) → NodeRanges n → Ranged n
 unfolding Ranged Fit fieldsOf
@@ -27,22 +27,22 @@ node-ranges n g =
     let r = g .1 .1 .1 .1 .0 in (
       omega arith,
       (
-        l .0 .fits,
+        l .1 .1 .0 .fits,
         (
-          r .0 .fits,
+          r .1 .1 .0 .fits,
           (
             omega arith,
             (
-              g .0 .fits,
+              g .1 .0 .fits,
               (
-                l .1 .0 .fits,
+                l .0 .fits,
                 (
-                  r .1 .0 .fits,
+                  r .0 .fits,
                   (
                     g .1 .1 .0 .fits,
                     (
-                      l .1 .1 .0 .fits,
-                      (r .1 .1 .0 .fits, (omega arith, (g .1 .0 .fits, tt))),
+                      l .1 .0 .fits,
+                      (r .1 .0 .fits, (omega arith, (g .0 .fits, tt))),
                     ),
                   ),
                 ),

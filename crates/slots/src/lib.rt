@@ -5,16 +5,17 @@ pub const SLOT_LENGTH: usize = 32;
 
 pub const BUCKET_LENGTH: usize = 4 * SLOT_LENGTH;
 
-// A link to a node: height 0 means that there is none. A tag is a leaf number, the node's position tag.
+// A link to a node: height 0 means that there is none. A tag is a leaf number, the node's position tag. The fields of link and
+// node stand in the order in which they take least room: a link 8 bytes, a node 32.
 pub struct Link {
-    pub height: u8,
     pub key: u32,
     pub tag: u16,
+    pub height: u8,
 }
 
 pub struct Node {
-    pub key: u32,
     pub value: u64,
+    pub key: u32,
     pub tag: u16,
     pub left: Link,
     pub right: Link,

@@ -7,11 +7,13 @@ use lib.Bits.{bitXor}
 use lib.Count.{leadingZeros}
 use lib.Dec.{ltb}
 use lib.ListN.{length, drop, getD, set}
+use lib.Seq.{sets}
 use Rattle.basics.specs.Choice.{pick}
 use Rattle.slots.specs.Tree.{passes}
-use Rattle.slots.specs.Slot.{bucketBytes}
+use Rattle.slots.specs.Slot.{slotBytes, bucketBytes}
 use Rattle.rounds.specs.Format.{Format}
 use Rattle.rounds.specs.Round.{choose, withBucket}
+use Rattle.buckets.specs.Words.{zeroSlot}
 
 -- The level from which on two leaves' paths are one: the length in digits of the number in which the leaves differ.
 abbrev pub meeting : ℕ → ℕ → ℕ
@@ -30,6 +32,11 @@ roomFrom from us = from + crowded (drop from us)
 unfoldable pub cleared : List ℕ → List ℕ → List ℕ
 cleared tree [] = tree
 cleared tree (b ∷ bs) = cleared (withBucket tree b (bucketBytes [])) bs
+
+-- The tree with zero bytes in some slots, by the bytes where they start.
+unfoldable pub emptied : List ℕ → List ℕ → List ℕ
+emptied tree [] = tree
+emptied tree (at ∷ ats) = emptied (sets tree at (slotBytes zeroSlot)) ats
 
 -- What the buckets of a path hold, and the elements that are left.
 pub record Filling (E : Type 0) : Type 0 where

@@ -1,13 +1,15 @@
 -- The full slots of a path, by the bytes where they start: only those are read and joined.
-use Prim.Native.Nat.{ℕ, _+_, _*_, _/_}
+use mathlib.Core.Path.{_≡_}
+use Prim.Native.Nat.{ℕ, _+_, _*_, _/_, _≤_}
 use mathlib.Core.List.{List, [], _∷_, _++_}
-use lib.ListN.{take, drop}
+use lib.ListN.{length, take, drop}
 use Rattle.basics.specs.Choice.{pick}
-use Rattle.slots.specs.Tree.{slotLength, bucketStart, bucketLength}
+use Rattle.slots.specs.Tree.{slotLength, bucketStart, bucketLength, path}
 use Rattle.slots.specs.Slot.{allZero}
 use Rattle.slots.specs.declared.Slot.{Slot}
 use Rattle.rounds.specs.Format.{Read}
 use Rattle.rounds.specs.Nodes.{wordsFormat}
+use Rattle.buckets.specs.Words.{pathSlots}
 
 -- The bytes of the slot that starts at a byte.
 abbrev pub slotFrom : List ℕ → ℕ → List ℕ
@@ -25,6 +27,12 @@ slotStarts (b ∷ bs) = fourFrom (bucketStart b) ++ slotStarts bs
 unfoldable pub fullStarts : List ℕ → List ℕ → List ℕ
 fullStarts tree [] = []
 fullStarts tree (at ∷ ats) = pick (allZero (slotFrom tree at)) [] (at ∷ []) ++ fullStarts tree ats
+
+-- The first `full` of some numbers are where the full slots of a leaf's path start.
+pub record PathGathered (k leaf : ℕ) (tree from : List ℕ) (full : ℕ) : Type 0 where
+  pub sized : length from ≡ pathSlots
+  pub fewer : full ≤ 4 * (k + 1)
+  pub starts : take full from ≡ fullStarts tree (slotStarts (path k leaf))
 
 -- The bucket of the slot that starts at a byte, and the slot's reading.
 abbrev pub bucketOf : ℕ → ℕ

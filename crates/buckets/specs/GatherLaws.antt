@@ -196,7 +196,7 @@ module _ (k t : ℕ) (tree : List ℕ) (leaf : t < 2 ^ k) (is : length tree ≡ 
   abbrev pub pathStarts : List ℕ
   pathStarts = fullStarts tree (slotStarts (path k t))
 
-  inside : bucketStart (leafBucket k t) + bucketLength ≤ length tree
+  pub inside : bucketStart (leafBucket k t) + bucketLength ≤ length tree
   inside =
       let w : 2 ^ (k + 1) ≡ 2 * 2 ^ k = rw (add-one k) (omega arith) in
       let o = pow-pos k in
@@ -210,7 +210,7 @@ module _ (k t : ℕ) (tree : List ℕ) (leaf : t < 2 ^ k) (is : length tree ≡ 
   start-within from m i e h n =
       rw (← getD-take m from i 0 h, e) (all-getD {P = Within tree} pathStarts path-within i 0 (let l = length-take m from in let f = ap length e in omega arith))
 
-  pub start-small : (from : List ℕ) (m i : ℕ) → k ≤ 16 → take m from ≡ pathStarts → i < m → m ≤ length from → getD from i 0 < 2 ^ 24
+  pub start-small : (from : List ℕ) (m i : ℕ) → k ≤ 15 → take m from ≡ pathStarts → i < m → m ≤ length from → getD from i 0 < 2 ^ 24
   start-small from m i s e h n =
       let w = start-within from m i e h n in
       let p : 2 ^ (k + 1) ≤ 2 ^ 17 = pow-mono {i = k + 1} {j = 17} (omega arith) in

@@ -14,12 +14,17 @@ use Rattle.rounds.specs.Nodes.{wordsFormat}
 use Rattle.buckets.specs.Words.{wordCount, slotsOf, Leaves}
 use Rattle.buckets.specs.Stash.{joinReadings}
 use Rattle.buckets.specs.declared.read.Joined.{Joined}
+use Rattle.buckets.specs.declared.read.Gathered.{Gathered}
 
 -- A slot joined the first m of some places, or its key was there already.
 pub record SlotJoined (m : ℕ) (x : Slot) (before after : List ℕ) (new : Bool) : Type 0 where
   pub sized : length after ≡ wordCount
   pub is-new : new ≡ not (among (wordsFormat .key x) (keysOf wordsFormat (take m (slotsOf before))))
   pub joined : new ≡ true → take (m + 1) (slotsOf after) ≡ insert wordsFormat x (take m (slotsOf before))
+
+-- How joining a path went, its full slots not counted.
+abbrev pub joinedOf : Gathered → Joined
+joinedOf r = record { ok = r .ok; count = r .count }
 
 -- How the joining of readings went, and the slots that wait then.
 unfoldable pub outcome : Joined → List ℕ → Option (List Slot)

@@ -20,6 +20,7 @@ pub mod Fill
 pub mod FillLaws
 pub mod MeetLaws
 pub mod StoreLaws
+pub mod ClearLaws
 pub mod Settle
 pub mod SettleLaws
 pub mod KeepLaws

@@ -42,7 +42,7 @@ inHand wish words r = pick (r .ok) (some (handOf (wanted wish) (r .at) (take (r 
 -- The tree is one of that size, the leaf is in it, there is room for a path's slots beside the waiting ones, and the waiting
 -- keys ascend and are not held.
 pub record Fit (k leaf n : ℕ) (waiting scratch tree held : List ℕ) : Type 0 where
-  pub size : k ≤ 16
+  pub size : k ≤ 15
   pub is-leaf : leaf < 2 ^ k
   pub tree-sized : length tree ≡ treeLength k
   pub waiting-sized : length waiting ≡ wordCount

@@ -18,12 +18,17 @@ use Rattle.buckets.specs.WordsLaws.{slots-count, words-tag}
 use Rattle.buckets.specs.Stash.{position}
 use Rattle.buckets.specs.Joined.{outcome, ReadingsJoined}
 use Rattle.buckets.specs.JoinedLaws.{went, path-readings}
+use Rattle.buckets.specs.Gather.{PathGathered}
 use Rattle.buckets.specs.Look.{wishOf, inHand, LookedFor}
 use Rattle.buckets.specs.LookLaws.{half-joined, from-damage, from-joined, granted-nothing, granted-missing, granted-other, granted-found}
 use Rattle.buckets.specs.declared.read.Joined.{Joined}
 use Rattle.buckets.specs.declared.read.Looked.{Looked}
 use Rattle.buckets.specs.declared.read.Wish.{Wish}
 use Rattle.buckets.specs.declared.read.Wish.the-variants.{Nothing, Node}
+
+-- Where there is damage, nothing is said of the full slots.
+pub not-gathered : (k leaf : ℕ) (tree from : List ℕ) (a : Looked) → a .ok ≡ false → a .ok ≡ true → PathGathered k leaf tree from (a .full)
+not-gathered k leaf tree from a e t = let y : _≡_ {A = ℕ} 0 1 = cc in absurd (omega arith)
 
 module _ (k leaf n : ℕ) (waiting copied tree held after : List ℕ) (r : Joined)
     (distinct : noneTwice (keysOf wordsFormat (take n (slotsOf waiting)) ++ held) ≡ true)
@@ -72,8 +77,8 @@ module _ (k leaf n : ℕ) (waiting copied tree held after : List ℕ) (r : Joine
     kept-leaves v = read .leaves good (subst (Leaves k) (sym same) v)
 
     -- Nothing is wanted.
-    pub looked-nothing : (m : NodeOf) → LookedFor k leaf Nothing n waiting tree held after (record { ok = true; count = r .count; at = 0; node = m })
-    looked-nothing m =
+    pub looked-nothing : (m : NodeOf) (full : ℕ) → LookedFor k leaf Nothing n waiting tree held after (record { ok = true; count = r .count; at = 0; node = m; full = full })
+    looked-nothing m full =
         record {
           sized = read .sized;
           half = half-granted Nothing good ∙ granted-nothing wordsFormat (take (r .count) (slotsOf after));
@@ -116,14 +121,14 @@ module _ (k leaf n : ℕ) (waiting copied tree held after : List ℕ) (r : Joine
             ∙ granted-other wordsFormat key tag (take (r .count) (slotsOf after)) zeroSlot at-inside (λ q. d (sym (tag-is t e) ∙ q)))
 
         -- It is found.
-        pub looked-found : (t : ℕ) → t ≡ fieldsIn (slotBytes x) .tag → t ≡ tag → (m : NodeOf) → m ≡ nodeOf (fieldsIn (slotBytes x))
-            → LookedFor k leaf (Node key tag) n waiting tree held after (record { ok = true; count = r .count; at = at; node = m })
-        looked-found t e d m q =
+        pub looked-found : (t : ℕ) → t ≡ fieldsIn (slotBytes x) .tag → t ≡ tag → (m : NodeOf) (full : ℕ) → m ≡ nodeOf (fieldsIn (slotBytes x))
+            → LookedFor k leaf (Node key tag) n waiting tree held after (record { ok = true; count = r .count; at = at; node = m; full = full })
+        looked-found t e d m full q =
             record {
               sized = read .sized;
               half = half-granted (Node key tag) good
                   ∙ granted-found wordsFormat key tag (take (r .count) (slotsOf after)) zeroSlot at-inside (tag-is t e ∙ d)
-                  ∙ ap (λ (i : ℕ). inHand (Node key tag) after (record { ok = true; count = r .count; at = i; node = m })) (sym position-is);
+                  ∙ ap (λ (i : ℕ). inHand (Node key tag) after (record { ok = true; count = r .count; at = i; node = m; full = full })) (sym position-is);
               within = within-path;
               inside = λ _ _. there;
               node = λ _ _. q ∙ ap (λ (y : Slot). nodeOf (fieldsIn (slotBytes y))) got;

@@ -63,11 +63,11 @@ module _ (a b : ℕ) (p : a < 2 ^ 16) (q : b < 2 ^ 16) where
       let s = t .3 in omega arith
 
 -- ---- the path
-small : (k n : ℕ) → k ≤ 16 → n < 2 ^ k → n < 2 ^ 16
-small k n s h = let m : 2 ^ k ≤ 2 ^ 16 = pow-mono {i = k} {j = 16} s in omega arith
+small : (k n : ℕ) → k ≤ 15 → n < 2 ^ k → n < 2 ^ 16
+small k n s h = let m : 2 ^ k ≤ 2 ^ 16 = pow-mono {i = k} {j = 16} (omega arith) in omega arith
 
 -- At the root they have met.
-pub meeting-within : (k t tag : ℕ) → k ≤ 16 → t < 2 ^ k → tag < 2 ^ k → meeting t tag ≤ k
+pub meeting-within : (k t tag : ℕ) → k ≤ 15 → t < 2 ^ k → tag < 2 ^ k → meeting t tag ≤ k
 meeting-within k t tag s p q = go (ltb k (meeting t tag)) refl
   where
     go : (r : Bool) → ltb k (meeting t tag) ≡ r → meeting t tag ≤ k
@@ -77,7 +77,7 @@ meeting-within k t tag s p q = go (ltb k (meeting t tag)) refl
     go false e = ltb-false k (meeting t tag) e
 
 -- A tag's path passes the bucket of leaf t's path at a level exactly if they have met there.
-pub passes-met : (k t tag i : ℕ) → k ≤ 16 → t < 2 ^ k → tag < 2 ^ k → i ≤ k → passes k tag (pathBucket k t i) ≡ leb (meeting t tag) i
+pub passes-met : (k t tag i : ℕ) → k ≤ 15 → t < 2 ^ k → tag < 2 ^ k → i ≤ k → passes k tag (pathBucket k t i) ≡ leb (meeting t tag) i
 passes-met k t tag i s p q l =
     passes-at-level k tag i (pathBucket k t i) q l (path-at-level k t i p l)
     ∙ rw (halved-shift i (leafBucket k t), halved-shift i (leafBucket k tag)) (same (leb (meeting t tag) i) refl)
@@ -120,7 +120,7 @@ module _ {E : Type 0} (F : Format E) (k tag : ℕ) where
       rw (h 0 (omega arith) ∙ lt-leb (suc g) 0 (omega arith), and-false (ltb (length c) 4)) (omega arith)
 
   -- The home of an element on leaf t's path.
-  pub home-on-path : (t : ℕ) (cs : List (List E)) → k ≤ 16 → t < 2 ^ k → tag < 2 ^ k → length cs ≡ length (path k t)
+  pub home-on-path : (t : ℕ) (cs : List (List E)) → k ≤ 15 → t < 2 ^ k → tag < 2 ^ k → length cs ≡ length (path k t)
       → home F k (path k t) cs tag ≡ roomFrom (meeting t tag) (map length cs)
   home-on-path t cs s p q n =
       let l = halvings-length k (leafBucket k t) in

@@ -35,7 +35,7 @@ module _ (k t i : ℕ) (leaf : t < 2 ^ k) (level : i ≤ k) where
   pub bucket-below : pathBucket k t i < 2 ^ (k + 1)
   bucket-below = let h = halved-le i (leafBucket k t) in rw (add-one k) (omega arith)
 
-  pub bucket-small : k ≤ 16 → pathBucket k t i < 2 ^ 17
+  pub bucket-small : k ≤ 15 → pathBucket k t i < 2 ^ 17
   bucket-small s = let h = bucket-below in let p : 2 ^ (k + 1) ≤ 2 ^ 17 = pow-mono {i = k + 1} {j = 17} (omega arith) in omega arith
 
   pub bucket-inside : bucketStart (pathBucket k t i) + bucketLength ≤ treeLength k

@@ -19,7 +19,7 @@ pub record PathFilled (k leaf : ℕ) (ws : List Slot) (m : ℕ) (tree after tree
 
 -- The tree is one of that size, the leaf is in it, a wanted slot is among the joined ones, and every tag is a leaf.
 pub record Joint (k leaf m : ℕ) (want : Bool) (at : ℕ) (joint waiting tree : List ℕ) : Type 0 where
-  pub size : k ≤ 16
+  pub size : k ≤ 15
   pub is-leaf : leaf < 2 ^ k
   pub tree-sized : length tree ≡ treeLength k
   pub joint-sized : length joint ≡ wordCount

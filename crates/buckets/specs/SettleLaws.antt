@@ -88,7 +88,7 @@ take-zeros zero m h = refl
 take-zeros (suc n) zero h = let z : ⊥ = omega arith in absurd z
 take-zeros (suc n) (suc m) h = ap (λ (l : List ℕ). 0 ∷ l) (take-zeros n m (omega arith))
 
-pub placing-start : (k t : ℕ) (tree now waiting : List ℕ) → k ≤ 16 → length waiting ≡ wordCount → now ≡ cleared tree (path k t)
+pub placing-start : (k t : ℕ) (tree now waiting : List ℕ) → k ≤ 15 → length waiting ≡ wordCount → now ≡ cleared tree (path k t)
     → Placing k t tree [] now (replicate levels 0) waiting 0
 placing-start k t tree now waiting s n e =
     let z = fill-none wordsFormat k (path k t) (empties (path k t)) in
@@ -103,7 +103,7 @@ placing-start k t tree now waiting s n e =
 
 -- One more slot, and the level that was found for it.
 module _ (k t : ℕ) (tree : List ℕ) (xs : List Slot) (now used waiting : List ℕ) (kept level : ℕ) (x : Slot)
-    (size : k ≤ 16) (leaf : t < 2 ^ k) (tag : wordsFormat .tag x < 2 ^ k) (is : length tree ≡ treeLength k)
+    (size : k ≤ 15) (leaf : t < 2 ^ k) (tag : wordsFormat .tag x < 2 ^ k) (is : length tree ≡ treeLength k)
     (p : Placing k t tree xs now used waiting kept) (found : level ≡ roomFrom (meeting t (wordsFormat .tag x)) (take (k + 1) used)) where
   abbrev cs : List (List Slot)
   cs = placed k t xs .contents
@@ -212,7 +212,7 @@ pub found-level : (k t : ℕ) (used : List ℕ) (x : Slot) (tag g level : ℕ) �
 found-level k t used x tag g level e f q = q ∙ ap (λ (i : ℕ). roomFrom i (take (k + 1) used)) (f ∙ ap (meeting t) (e ∙ sym (words-tag x)))
 
 module _ (k t m out i : ℕ) (l : List Slot) (tree now used waiting : List ℕ) (kept level : ℕ) (x : Slot)
-    (size : k ≤ 16) (leaf : t < 2 ^ k) (is : length tree ≡ treeLength k) (v : Leaves k (take m l)) (h : i < m) (n : m ≤ length l) (got : x ≡ getD l i zeroSlot)
+    (size : k ≤ 15) (leaf : t < 2 ^ k) (is : length tree ≡ treeLength k) (v : Leaves k (take m l)) (h : i < m) (n : m ≤ length l) (got : x ≡ getD l i zeroSlot)
     (p : Placing k t tree (without out (take i l)) now used waiting kept) (found : level ≡ roomFrom (meeting t (wordsFormat .tag x)) (take (k + 1) used)) where
   next : (i ≡ out → ⊥) → without out (take i l) ++ x ∷ [] ≡ without out (take (i + 1) l)
   next d = sym (without-more l out i zeroSlot (omega arith) d ∙ ap (λ (y : Slot). without out (take i l) ++ y ∷ []) (sym got))

@@ -53,6 +53,20 @@ module _ {A : Type 0} where
   sets-after (x ∷ xs) ys i zero vs e = let z : ⊥ = omega arith in absurd z
   sets-after (x ∷ xs) ys i (suc j) vs e = sets-cons x (xs ++ ys) j vs ∙ ap (λ (m : List A). x ∷ m) (sets-after xs ys i j vs (omega arith))
 
+  pub sets-append : (l : List A) (i : ℕ) (us vs : List A) → sets l i (us ++ vs) ≡ sets (sets l i us) (i + length us) vs
+  sets-append l i [] vs = let e : i + 0 ≡ i = omega arith in rw e
+  sets-append l i (u ∷ us) vs =
+      let e : i + suc (length us) ≡ suc i + length us = omega arith in
+      rw e (sets-append (set l i u) (suc i) us vs)
+
+  -- What stands there is stored again.
+  pub sets-own : (l : List A) (i n : ℕ) → i + n ≤ length l → sets l i (take n (drop i l)) ≡ l
+  sets-own l i n h =
+      let part = take n (drop i l) in
+      let s : length part ≡ n = simp (length-take, length-drop) (omega arith) in
+      sets-eq part l i (rw s h)
+      ∙ rw (s, append-assoc (take i l) part (drop (i + n) l), ← drop-drop n i l, take-append-drop n (drop i l), take-append-drop i l)
+
 -- ---- a bucket's bytes
 filled-length : (n : ℕ) (xs : List Slot) → length (filled n (map slotBytes xs)) ≡ 32 * n
 unfolding filled
@@ -87,11 +101,9 @@ unfolding withBucket
 part-stored tree b j vs h g =
     let part = take bucketLength (drop (bucketStart b) tree) in
     let n : length part ≡ bucketLength = simp (length-take, length-drop) (omega arith) in
-    let own : sets tree (bucketStart b) part ≡ tree =
-    sym (with-sets tree b part n h) ∙ rw (← drop-drop bucketLength (bucketStart b) tree, take-append-drop bucketLength (drop (bucketStart b) tree), take-append-drop (bucketStart b) tree) in
     with-sets tree b (sets part j vs) (length-sets part j vs ∙ n) h
     ∙ sym (sets-within tree (bucketStart b) j part vs (omega arith))
-    ∙ ap (λ (m : List ℕ). sets m (bucketStart b + j) vs) own
+    ∙ ap (λ (m : List ℕ). sets m (bucketStart b + j) vs) (sets-own tree (bucketStart b) bucketLength h)
 
 -- ---- the path's buckets
 bytes-are : (xs : List Slot) → map (wordsFormat .bytes) xs ≡ map slotBytes xs
@@ -167,14 +179,6 @@ written-more (suc n) b (c ∷ cs) tree (suc i) x p h g l f =
     written-more n (b / 2) cs (withBucket tree b (bucketBytes (map (wordsFormat .bytes) c))) i x (let q : 2 ^ suc n ≤ b = p in omega arith) (rw (with-length tree b c h) (omega arith)) (omega arith) (omega arith) f
 
 -- ---- the path cleared
-pub cleared-end : (tree : List ℕ) → cleared tree [] ≡ tree
-unfolding cleared
-cleared-end tree = refl
-
-pub cleared-turn : (tree : List ℕ) (b : ℕ) (bs : List ℕ) → cleared tree (b ∷ bs) ≡ cleared (withBucket tree b (bucketBytes [])) bs
-unfolding cleared
-cleared-turn tree b bs = refl
-
 pub cleared-written : (bs tree : List ℕ) → cleared tree bs ≡ written wordsFormat tree bs (empties bs)
 unfolding cleared written
 cleared-written [] tree = refl

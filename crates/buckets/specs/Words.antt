@@ -14,7 +14,7 @@ wordCount = 4 * places
 
 -- The levels of the largest tree, and the slots of its paths.
 abbrev pub levels : ℕ
-levels = 17
+levels = 16
 
 abbrev pub pathSlots : ℕ
 pathSlots = 4 * levels

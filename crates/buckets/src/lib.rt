@@ -12,7 +12,7 @@ pub const WORDS: usize = SLOT_WORDS * PLACES;
 pub const BUCKET_SLOTS: usize = 4;
 
 // The levels of the largest tree, from the leaves up to the root.
-pub const LEVELS: usize = 17;
+pub const LEVELS: usize = 16;
 
 // The slots of the longest path.
 pub const PATH_SLOTS: usize = BUCKET_SLOTS * LEVELS;

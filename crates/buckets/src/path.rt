@@ -8,7 +8,7 @@ ghost use Rattle.buckets.specs.Fill.{meeting};
 
 // The bucket of a leaf's path at a level, counted from the leaf up: one shift for that many halvings.
 pub fn bucket_at(size: usize, leaf: usize, level: usize) -> usize
-    requires { ⌜ (size ≤ 16) × (leaf < 2 ^ 16) × (level ≤ size) ⌝ }
+    requires { ⌜ (size ≤ 15) × (leaf < 2 ^ 16) × (level ≤ size) ⌝ }
     ensures { λ r. ⌜ r ≡ pathBucket size leaf level ⌝ }
 {
     leaf_bucket(size, leaf) >> level
@@ -16,7 +16,7 @@ pub fn bucket_at(size: usize, leaf: usize, level: usize) -> usize
 
 // The byte where that bucket starts; the bucket is within the tree.
 pub fn start_at(size: usize, leaf: usize, level: usize) -> usize
-    requires { ⌜ (size ≤ 16) × (leaf < 2 ^ size) × (level ≤ size) ⌝ }
+    requires { ⌜ (size ≤ 15) × (leaf < 2 ^ size) × (level ≤ size) ⌝ }
     ensures { λ r. ⌜ (r ≡ bucketStart (pathBucket size leaf level)) × (r + bucketLength ≤ treeLength size) × (r < 2 ^ 24) ⌝ }
 {
     bucket_start(bucket_at(size, leaf, level))

@@ -31,8 +31,8 @@ ghost use Rattle.rounds.specs.Round.{keysOf, readBuckets};
 ghost use Rattle.rounds.specs.Nodes.{wordsFormat};
 ghost use Rattle.buckets.specs.Words.{places, wordCount, pathSlots, slotsOf};
 ghost use Rattle.basics.specs.Ascending.{ascending};
-ghost use Rattle.buckets.specs.Joined.{ReadingsJoined};
-ghost use Rattle.buckets.specs.Gather.{fourFrom, slotStarts, fullStarts};
+ghost use Rattle.buckets.specs.Joined.{joinedOf, ReadingsJoined};
+ghost use Rattle.buckets.specs.Gather.{fourFrom, fullStarts, PathGathered};
 ghost use Rattle.buckets.specs.Look.{Fit, LookedFor};
 
 // How joining what was read went: ok or damage, and how many slots wait then.
@@ -41,18 +41,27 @@ pub struct Joined {
     pub count: usize,
 }
 
+// How joining a path went, and how many of its slots are full.
+pub struct Gathered {
+    pub ok: bool,
+    pub count: usize,
+    pub full: usize,
+}
+
 // What a round wants: nothing, or the node with a key, under the tag of the link that leads to it.
 pub enum Wish {
     Nothing,
     Node(u32, u16),
 }
 
-// What looking for it answers: ok or damage, how many slots are joined, and of a wanted node its place among them and the node.
+// What looking for it answers: ok or damage, how many slots are joined, of a wanted node its place among them and the node, and
+// how many slots of the path are full.
 pub struct Looked {
     pub ok: bool,
     pub count: usize,
     pub at: usize,
     pub node: Node,
+    pub full: usize,
 }
 
 fn no_node() -> Node {
@@ -93,7 +102,7 @@ fn join_reading(
     bucket: usize,
     held: &[u32],
 ) -> Joined
-    requires { ⌜ (length (now s) ≡ wordCount) × (m < places) × (ascending (keysOf wordsFormat (take m (slotsOf (now s)))) ≡ true) × (size ≤ 16) ⌝ }
+    requires { ⌜ (length (now s) ≡ wordCount) × (m < places) × (ascending (keysOf wordsFormat (take m (slotsOf (now s)))) ≡ true) × (size ≤ 15) ⌝ }
     ensures { λ r. ⌜ ReadingsJoined size (now (held .entry)) (wordsFormat .read size bucket (slotBytes x) ∷ []) m (now (s .entry)) (now (s .exit)) r ⌝ }
 {
     let r = reading(x, size, bucket);
@@ -153,8 +162,8 @@ fn gather_bucket(tree: &[u8], start: usize, m: usize, from: &mut [u32; PATH_SLOT
 
 // Where the full slots of a leaf's path start, from the leaf's bucket up.
 fn gather_path(tree: &[u8], size: usize, leaf: usize, from: &mut [u32; PATH_SLOTS]) -> usize
-    requires { ⌜ (size ≤ 16) × (leaf < 2 ^ size) × (length (now tree) ≡ treeLength size) × (length (now from) ≡ pathSlots) ⌝ }
-    ensures { λ r. ⌜ (length (now (from .exit)) ≡ pathSlots) × (r ≤ 4 * (size + 1)) × (take r (now (from .exit)) ≡ fullStarts (now (tree .entry)) (slotStarts (path size leaf))) ⌝ }
+    requires { ⌜ (size ≤ 15) × (leaf < 2 ^ size) × (length (now tree) ≡ treeLength size) × (length (now from) ≡ pathSlots) ⌝ }
+    ensures { λ r. ⌜ PathGathered size leaf (now (tree .entry)) (now (from .exit)) r ⌝ }
 {
     let mut count = 0;
     let mut level = 0;
@@ -165,7 +174,7 @@ fn gather_path(tree: &[u8], size: usize, leaf: usize, from: &mut [u32; PATH_SLOT
     count
 }
 
-// The path of a leaf, from the leaf's bucket up, joins the first n. Only its full slots are asked.
+// The path of a leaf, from the leaf's bucket up, joins the first n. Only its full slots are asked; where they start stays in `from`.
 fn read_path(
     s: &mut [u64; WORDS],
     n: usize,
@@ -173,28 +182,33 @@ fn read_path(
     size: usize,
     leaf: usize,
     held: &[u32],
-) -> Joined
-    requires { ⌜ (length (now s) ≡ wordCount) × (n + 4 * (size + 1) ≤ places) × (ascending (keysOf wordsFormat (take n (slotsOf (now s)))) ≡ true) × (size ≤ 16) × (leaf < 2 ^ size) × (length (now tree) ≡ treeLength size) ⌝ }
-    ensures { λ r. ⌜ ReadingsJoined size (now (held .entry)) (readBuckets wordsFormat size (now (tree .entry)) (path size leaf)) n (now (s .entry)) (now (s .exit)) r ⌝ }
+    from: &mut [u32; PATH_SLOTS],
+) -> Gathered
+    requires { ⌜ (length (now s) ≡ wordCount) × (n + 4 * (size + 1) ≤ places) × (ascending (keysOf wordsFormat (take n (slotsOf (now s)))) ≡ true) × (size ≤ 15) × (leaf < 2 ^ size) × (length (now tree) ≡ treeLength size) × (length (now from) ≡ pathSlots) ⌝ }
+    ensures { λ r. ⌜ ReadingsJoined size (now (held .entry)) (readBuckets wordsFormat size (now (tree .entry)) (path size leaf)) n (now (s .entry)) (now (s .exit)) (joinedOf r) × PathGathered size leaf (now (tree .entry)) (now (from .exit)) (r .full) ⌝ }
 {
-    let mut from = [0u32; PATH_SLOTS];
-    let m = gather_path(tree, size, leaf, &mut from);
+    let full = gather_path(tree, size, leaf, from);
     let mut count = n;
     let mut i = 0;
-    while i < m {
+    while i < full {
         let at = from[i] as usize;
         let x = load(tree, at);
         let r = join_reading(s, count, x, size, at / BUCKET_LENGTH + 1, held);
         if !r.ok {
-            return Joined {
+            return Gathered {
                 ok: false,
                 count: n,
+                full,
             };
         }
         count = r.count;
         i += 1;
     }
-    Joined { ok: true, count }
+    Gathered {
+        ok: true,
+        count,
+        full,
+    }
 }
 
 // What looking for a wanted node answers where there is damage.
@@ -206,11 +220,12 @@ fn damage() -> Looked
         count: 0,
         at: 0,
         node: no_node(),
+        full: 0,
     }
 }
 
 // The read half of a round: the n waiting slots and the path's are joined in s, in key order, and the wanted one is found
-// there. The caller tests the node, and hands s on to the write half.
+// there. The caller tests the node, and hands s on to the write half, with `from`: where the path's full slots start.
 pub fn look(
     w: &[u64; WORDS],
     n: usize,
@@ -220,12 +235,13 @@ pub fn look(
     leaf: usize,
     wish: Wish,
     held: &[u32],
+    from: &mut [u32; PATH_SLOTS],
 ) -> Looked
-    requires { ⌜ Fit size leaf n (now w) (now s) (now tree) (now held) ⌝ }
-    ensures { λ r. ⌜ LookedFor size leaf wish n (now (w .entry)) (now (tree .entry)) (now (held .entry)) (now (s .exit)) r ⌝ }
+    requires { ⌜ Fit size leaf n (now w) (now s) (now tree) (now held) × (length (now from) ≡ pathSlots) ⌝ }
+    ensures { λ r. ⌜ LookedFor size leaf wish n (now (w .entry)) (now (tree .entry)) (now (held .entry)) (now (s .exit)) r × (r .ok ≡ true → PathGathered size leaf (now (tree .entry)) (now (from .exit)) (r .full)) ⌝ }
 {
     copy(w, n, s);
-    let r = read_path(s, n, tree, size, leaf, held);
+    let r = read_path(s, n, tree, size, leaf, held, from);
     if !r.ok {
         return damage();
     }
@@ -236,6 +252,7 @@ pub fn look(
             count,
             at: 0,
             node: no_node(),
+            full: r.full,
         };
     };
     let at = find(s, count, key);
@@ -251,5 +268,6 @@ pub fn look(
         count,
         at,
         node: node_of(x),
+        full: r.full,
     }
 }

@@ -3,6 +3,7 @@
 use super::BUCKET_SLOTS;
 use super::LEVELS;
 use super::LIMIT;
+use super::PATH_SLOTS;
 use super::WORDS;
 use super::path::meet;
 use super::path::start_at;
@@ -11,25 +12,24 @@ use super::stash::put;
 use slots::BUCKET_LENGTH;
 use slots::SLOT_LENGTH;
 use slots::Slot;
-use slots::bucket::write_bucket;
 use slots::codec::tag_of;
 use slots::words::store;
 ghost use mathlib.Core.Path.{_≡_};
-ghost use mathlib.Core.List.{[]};
 ghost use Prim.Native.Nat.{_+_, _*_, _^_, _<_, _≤_};
 ghost use lib.ListN.{length, take};
 ghost use lib.Seq.{sets};
-ghost use Rattle.slots.specs.Tree.{path, pathBucket, bucketStart, bucketLength, treeLength};
-ghost use Rattle.slots.specs.Slot.{slotBytes, bucketBytes};
+ghost use Rattle.slots.specs.Tree.{path, pathBucket, bucketStart, treeLength};
+ghost use Rattle.slots.specs.Slot.{slotBytes};
 ghost use Rattle.rounds.specs.Round.{overflows};
 ghost use Rattle.buckets.specs.Words.{places, wordCount, levels, slotsOf, Leaves};
 ghost use Rattle.buckets.specs.Stash.{without};
+ghost use Rattle.buckets.specs.Gather.{PathGathered};
 ghost use Rattle.buckets.specs.Fill.{roomFrom, cleared};
 ghost use Rattle.buckets.specs.Settle.{PathFilled, Joint, Settled};
 
 // The first level from a given one up whose bucket has room, of the numbers of slots that are used at each; size + 1 if none has.
 fn room_from(used: &[usize; LEVELS], size: usize, from: usize) -> usize
-    requires { ⌜ (length (now used) ≡ levels) × (size ≤ 16) × (from ≤ size) ⌝ }
+    requires { ⌜ (length (now used) ≡ levels) × (size ≤ 15) × (from ≤ size) ⌝ }
     ensures { λ r. ⌜ r ≡ roomFrom from (take (size + 1) (now (used .entry))) ⌝ }
 {
     let mut level = from;
@@ -42,37 +42,28 @@ fn room_from(used: &[usize; LEVELS], size: usize, from: usize) -> usize
     level
 }
 
-// The part of the tree that is a bucket gets zero bytes.
-fn clear_bucket(part: &mut [u8])
-    requires { ⌜ length (now part) ≡ bucketLength ⌝ }
-    ensures { λ _. ⌜ now (part .exit) ≡ bucketBytes [] ⌝ }
+// The buckets of a leaf's path get zero bytes. Only the full slots are written, whose starts the read half gathered: the others
+// are zero already.
+fn clear_path(tree: &mut [u8], size: usize, leaf: usize, from: &[u32; PATH_SLOTS], full: usize)
+    requires { ⌜ (size ≤ 15) × (leaf < 2 ^ size) × (length (now tree) ≡ treeLength size) × PathGathered size leaf (now tree) (now from) full ⌝ }
+    ensures { λ _. ⌜ now (tree .exit) ≡ cleared (now (tree .entry)) (path size leaf) ⌝ }
 {
-    let none = [Slot {
+    let none = Slot {
         a: 0,
         b: 0,
         c: 0,
         d: 0,
-    }; BUCKET_SLOTS];
-    write_bucket(part, none, 0);
-}
-
-// The buckets of a leaf's path get zero bytes.
-fn clear_path(tree: &mut [u8], size: usize, leaf: usize)
-    requires { ⌜ (size ≤ 16) × (leaf < 2 ^ size) × (length (now tree) ≡ treeLength size) ⌝ }
-    ensures { λ _. ⌜ now (tree .exit) ≡ cleared (now (tree .entry)) (path size leaf) ⌝ }
-{
-    let mut level = 0;
-    while level <= size {
-        let a = start_at(size, leaf, level);
-        let e = a + BUCKET_LENGTH;
-        clear_bucket(&mut tree[a..e]);
-        level += 1;
+    };
+    let mut i = 0;
+    while i < full {
+        store(tree, from[i] as usize, none);
+        i += 1;
     }
 }
 
 // A slot is stored as number j of the path's bucket at a level: the four-slot part of the tree is lent on.
 fn store_slot(tree: &mut [u8], size: usize, leaf: usize, level: usize, j: usize, x: Slot)
-    requires { ⌜ (size ≤ 16) × (leaf < 2 ^ size) × (length (now tree) ≡ treeLength size) × (level ≤ size) × (j < 4) ⌝ }
+    requires { ⌜ (size ≤ 15) × (leaf < 2 ^ size) × (length (now tree) ≡ treeLength size) × (level ≤ size) × (j < 4) ⌝ }
     ensures { λ _. ⌜ now (tree .exit) ≡ sets (now (tree .entry)) (bucketStart (pathBucket size leaf level) + 32 * j) (slotBytes x) ⌝ }
 {
     let a = start_at(size, leaf, level);
@@ -90,11 +81,13 @@ fn fill_path(
     tree: &mut [u8],
     size: usize,
     leaf: usize,
+    from: &[u32; PATH_SLOTS],
+    full: usize,
 ) -> usize
-    requires { ⌜ (length (now s) ≡ wordCount) × (m ≤ places) × (length (now w) ≡ wordCount) × (size ≤ 16) × (leaf < 2 ^ size) × (Leaves size (take m (slotsOf (now s)))) × (length (now tree) ≡ treeLength size) ⌝ }
+    requires { ⌜ (length (now s) ≡ wordCount) × (m ≤ places) × (length (now w) ≡ wordCount) × (size ≤ 15) × (leaf < 2 ^ size) × (Leaves size (take m (slotsOf (now s)))) × (length (now tree) ≡ treeLength size) × PathGathered size leaf (now tree) (now from) full ⌝ }
     ensures { λ r. ⌜ PathFilled size leaf (without out (take m (slotsOf (now (s .entry))))) m (now (tree .entry)) (now (w .exit)) (now (tree .exit)) r ⌝ }
 {
-    clear_path(tree, size, leaf);
+    clear_path(tree, size, leaf, from, full);
     let mut used = [0usize; LEVELS];
     let mut kept = 0;
     let mut i = 0;
@@ -117,7 +110,7 @@ fn fill_path(
 }
 
 // The write half of a round, of the m slots that the read half joined in s: all but a wanted one fill the path, and what is left
-// waits in w; how many those are.
+// waits in w; how many those are. The first `full` of `from` are where the path's full slots start, as the read half found them.
 pub fn settle(
     s: &mut [u64; WORDS],
     m: usize,
@@ -127,15 +120,17 @@ pub fn settle(
     tree: &mut [u8],
     size: usize,
     leaf: usize,
+    from: &[u32; PATH_SLOTS],
+    full: usize,
 ) -> usize
-    requires { ⌜ Joint size leaf m wanted at (now s) (now w) (now tree) ⌝ }
+    requires { ⌜ Joint size leaf m wanted at (now s) (now w) (now tree) × PathGathered size leaf (now tree) (now from) full ⌝ }
     ensures { λ r. ⌜ Settled size leaf m wanted at (now (s .entry)) (now (tree .entry)) (now (s .exit)) (now (w .exit)) (now (tree .exit)) r ⌝ }
 {
     let mut out = m;
     if wanted {
         out = at;
     }
-    fill_path(s, m, out, w, tree, size, leaf)
+    fill_path(s, m, out, w, tree, size, leaf, from, full)
 }
 
 // Whether more nodes wait and are held at a round's close than may.

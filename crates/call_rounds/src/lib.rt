@@ -1,4 +1,5 @@
 // One round of a call over the lent tree and the waiting nodes: one that wants none, and one that wants a node.
+use buckets::PATH_SLOTS;
 use buckets::WORDS;
 use buckets::read::Wish;
 use buckets::read::look;
@@ -71,14 +72,15 @@ pub fn idle_round(
     requires { ⌜ Ready size leaf n (now w) (now s) (now tree) (now held) ⌝ }
     ensures { λ r. ⌜ Idled size leaf n (now (w .entry)) (now (tree .entry)) (now (held .entry)) (now (w .exit)) (now (s .exit)) (now (tree .exit)) r ⌝ }
 {
-    let r = look(w, n, s, tree, size, leaf, Wish::Nothing, held);
+    let mut from = [0u32; PATH_SLOTS];
+    let r = look(w, n, s, tree, size, leaf, Wish::Nothing, held, &mut from);
     if !r.ok {
         return Rounded {
             mark: 8,
             waiting: n,
         };
     }
-    let left = settle(s, r.count, false, 0, w, tree, size, leaf);
+    let left = settle(s, r.count, false, 0, w, tree, size, leaf, &from, r.full);
     Rounded {
         mark: mark_at_close(left, held.len()),
         waiting: left,
@@ -102,6 +104,7 @@ pub fn want_round(
 {
     let link = want.link;
     let leaf = link.tag as usize;
+    let mut from = [0u32; PATH_SLOTS];
     let r = look(
         w,
         n,
@@ -111,6 +114,7 @@ pub fn want_round(
         leaf,
         Wish::Node(link.key, link.tag),
         held,
+        &mut from,
     );
     let node = r.node;
     if !r.ok {
@@ -129,7 +133,7 @@ pub fn want_round(
             node,
         };
     }
-    let left = settle(s, r.count, true, r.at, w, tree, size, leaf);
+    let left = settle(s, r.count, true, r.at, w, tree, size, leaf, &from, r.full);
     Took {
         mark: mark_at_close(left, held.len() + 1),
         waiting: left,

@@ -1,6 +1,7 @@
 // A round of a bucket store by itself, with no call around it and nothing held, and a node that comes to wait: for programs that
 // show rounds or time them.
 use buckets::LIMIT;
+use buckets::PATH_SLOTS;
 use buckets::WORDS;
 use buckets::read::Wish;
 use buckets::read::look;
@@ -71,7 +72,8 @@ pub fn round(
     ensures { λ r. ⌜ Rounded size leaf wish n (now (w .entry)) (now (tree .entry)) (now (w .exit)) (now (s .exit)) (now (tree .exit)) r ⌝ }
 {
     let held = [0u32; 0];
-    let r = look(w, n, s, tree, size, leaf, wish, &held);
+    let mut from = [0u32; PATH_SLOTS];
+    let r = look(w, n, s, tree, size, leaf, wish, &held, &mut from);
     let node = r.node;
     if !r.ok {
         return Closed {
@@ -81,7 +83,7 @@ pub fn round(
         };
     }
     let taken = is_wanted(wish);
-    let left = settle(s, r.count, taken, r.at, w, tree, size, leaf);
+    let left = settle(s, r.count, taken, r.at, w, tree, size, leaf, &from, r.full);
     Closed {
         mark: mark_at_close(left, taken_count(taken)),
         waiting: left,

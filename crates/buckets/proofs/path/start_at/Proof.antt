@@ -8,7 +8,7 @@ use Rattle.buckets.proofs.path.start_at.Tie as tie
 
 bucket-at-requires : tie.Need-bucket-at-requires
 bucket-at-requires c κs =
-    let p : 2 ^ c .args .size ≤ 2 ^ 16 = pow-mono {i = c .args .size} {j = 16} (c .pre .0) in
+    let p : 2 ^ c .args .size ≤ 2 ^ 16 = pow-mono {i = c .args .size} {j = 16} (omega (arith, c .pre .0)) in
     (c .pre .0, omega arith, c .pre .2)
 
 bucket-start-requires : tie.Need-bucket-start-requires

@@ -58,7 +58,11 @@ returns c =
     let l = c .before .loop in
     let all = fullStarts (a .tree .now) (slotStarts (path (a .size) (a .leaf))) in
     let e : l .level ≡ a .size + 1 = omega arith in
-    (l .inv .2, omega (arith, l .inv .1), gather-end (a .size) (a .leaf) (l .level) (a .tree .now) all (take (l .count) (l .from)) e (l .inv .3))
+    record {
+      sized = l .inv .2;
+      fewer = omega (arith, l .inv .1);
+      starts = gather-end (a .size) (a .leaf) (l .level) (a .tree .now) all (take (l .count) (l .from)) e (l .inv .3);
+    }
 
 pub gather-path-spec : {M : Type 1} → statement M
 gather-path-spec =

@@ -22,12 +22,12 @@ use Rattle.buckets.proofs.read.read_path.Statement.{statement}
 use Rattle.buckets.proofs.read.read_path.Tie as tie
 
 abbrev Inv-loop : tie.InvT-loop
-Inv-loop s₀ n tree size leaf held from m count₀ i₀ s count i =
-    (i ≤ m) × (count ≤ n + i)
-    × Joining size held (map (readFrom size tree) (take m from)) (drop i (map (readFrom size tree) (take m from))) n s₀ s count
+Inv-loop s₀ n tree size leaf held from full count₀ i₀ s count i =
+    (i ≤ full) × (count ≤ n + i)
+    × Joining size held (map (readFrom size tree) (take full from)) (drop i (map (readFrom size tree) (take full from))) n s₀ s count
 
 abbrev μ-loop : tie.MeasureT-loop
-μ-loop s₀ n tree size leaf held from m count₀ i₀ s count i = m - i
+μ-loop s₀ n tree size leaf held from full count₀ i₀ s count i = full - i
 
 gather-path-requires : tie.Need-gather-path-requires Inv-loop μ-loop
 gather-path-requires c κs = search needs
@@ -42,57 +42,59 @@ loop-holds c =
 mul-at : tie.Need-mul-at Inv-loop μ-loop
 mul-at c = search needs
 
-array-read-at : tie.Need-array-read-at Inv-loop μ-loop
-array-read-at c = search needs
+element-copy-out-at : tie.Need-element-copy-out-at Inv-loop μ-loop
+element-copy-out-at c = search needs
 
 cast-at : tie.Need-cast-at Inv-loop μ-loop
 cast-at c =
-    let b = c .before .before .before .before .before .before in
+    let b = c .before .before .before .before .before .before .before in
     let a = b .args in
-    let g = c .before .before .gather-path in
-    let w = start-small (a .size) (a .leaf) (a .tree .now) (b .pre .4) (b .pre .5) (g .last .1 .1 .1 .0) (g .result) (c .before .loop .i) (b .pre .3) (g .ensures .2) (c .loop-test .taken) (omega (arith, g .ensures .0, g .ensures .1, b .pre .3)) in
+    let g = c .before .before .before .gather-path in
+    let w = start-small (a .size) (a .leaf) (a .tree .now) (b .pre .4) (b .pre .5) (g .last .1 .1 .1 .0) (g .result) (c .before .before .loop .i) (b .pre .3) (g .ensures .starts) (c .before .loop-test .taken) (omega (arith, g .ensures .sized, g .ensures .fewer, b .pre .3)) in
     omega arith
 
 load-requires : tie.Need-load-requires Inv-loop μ-loop
 load-requires c κs =
-    let b = c .before .before .before .before .before .before in
+    let b = c .before .before .before .before .before .before .before in
     let a = b .args in
-    let g = c .before .before .gather-path in
-    start-within (a .size) (a .leaf) (a .tree .now) (b .pre .4) (b .pre .5) (g .last .1 .1 .1 .0) (g .result) (c .before .loop .i) (g .ensures .2) (c .loop-test .taken) (omega (arith, g .ensures .0, g .ensures .1, b .pre .3))
+    let g = c .before .before .before .gather-path in
+    start-within (a .size) (a .leaf) (a .tree .now) (b .pre .4) (b .pre .5) (g .last .1 .1 .1 .0) (g .result) (c .before .before .loop .i) (g .ensures .starts) (c .before .loop-test .taken) (omega (arith, g .ensures .sized, g .ensures .fewer, b .pre .3))
 
 add-join-reading : tie.Need-add-join-reading Inv-loop μ-loop
 add-join-reading c =
-    let b = c .before .before .before .before .before .before .before .before in
+    let b = c .before .before .before .before .before .before .before .before .before in
     let a = b .args in
-    let g = c .before .before .before .before .gather-path in
-    let w = start-small (a .size) (a .leaf) (a .tree .now) (b .pre .4) (b .pre .5) (g .last .1 .1 .1 .0) (g .result) (c .before .before .before .loop .i) (b .pre .3) (g .ensures .2) (c .before .before .loop-test .taken) (omega (arith, g .ensures .0, g .ensures .1, b .pre .3)) in
+    let g = c .before .before .before .before .before .gather-path in
+    let w = start-small (a .size) (a .leaf) (a .tree .now) (b .pre .4) (b .pre .5) (g .last .1 .1 .1 .0) (g .result) (c .before .before .before .before .loop .i) (b .pre .3) (g .ensures .starts) (c .before .before .before .loop-test .taken) (omega (arith, g .ensures .sized, g .ensures .fewer, b .pre .3)) in
     omega arith
 
 join-reading-requires : tie.Need-join-reading-requires Inv-loop μ-loop
 join-reading-requires c κs =
-    let b = c .before .before .before .before .before .before .before .before in
-    let l = c .before .before .before .loop in
-    let g = c .before .before .before .before .gather-path in
-    (l .inv .2 .sized, omega (arith, l .inv .1, g .ensures .1, b .pre .1, c .before .before .loop-test .taken), ascending-test (keysOf wordsFormat (take (l .count) (slotsOf (l .s)))) (l .inv .2 .order), b .pre .3)
+    let b = c .before .before .before .before .before .before .before .before .before in
+    let l = c .before .before .before .before .loop in
+    let g = c .before .before .before .before .before .gather-path in
+    (l .inv .2 .sized, omega (arith, l .inv .1, g .ensures .fewer, b .pre .1, c .before .before .before .loop-test .taken), ascending-test (keysOf wordsFormat (take (l .count) (slotsOf (l .s)))) (l .inv .2 .order), b .pre .3)
 
 returns : tie.Need-returns Inv-loop μ-loop
 returns c =
-    let b = c .before .before .before .before .before .before .before .before .before .before .before in
+    let b = c .before .before .before .before .before .before .before .before .before .before .before .before in
     let a = b .args in
-    let l = c .before .before .before .before .before .before .loop in
-    let g = c .before .before .before .before .before .before .before .gather-path in
+    let l = c .before .before .before .before .before .before .before .loop in
+    let g = c .before .before .before .before .before .before .before .before .gather-path in
     let from = g .last .1 .1 .1 .0 in
     let x = c .before .before .before .before .load in
     let k = c .before .before .join-reading in
-    let t = c .before .before .before .before .before .loop-test .taken in
+    let t = c .before .before .before .before .before .before .loop-test .taken in
     let starts = take (g .result) from in
     let rs = map (readFrom (a .size) (a .tree .now)) starts in
-    let n : length starts ≡ g .result = simp length-take (omega (arith, g .ensures .0, g .ensures .1, b .pre .3)) in
+    let n : length starts ≡ g .result = simp length-take (omega (arith, g .ensures .sized, g .ensures .fewer, b .pre .3)) in
     let q = wordsFormat .read (a .size) (bucketOf (getD from (l .i) 0)) (slotBytes (x .result)) ∷ [] in
     let d = loaded-from (a .size) (a .tree .now) starts (l .i) (getD from (l .i) 0) (x .result) (omega arith) (sym (getD-take (g .result) from (l .i) 0 t)) (x .ensures) in
-    let j : Joining (a .size) (a .held .now) rs (q ++ drop (l .i + 1) rs) (a .n) (a .s .now) (l .s) (l .count) = subst (λ (r : List (Read Slot)). Joining (a .size) (a .held .now) rs r (a .n) (a .s .now) (l .s) (l .count)) d (l .inv .2) in
-    full-joined (a .size) (a .leaf) (a .tree .now) (b .pre .4) (b .pre .5) (a .held .now) (a .n) (a .s .now) (k .last .0) (record { ok = false; count = a .n })
-    (rw (g .ensures .2) at (joining-damage (a .size) (a .held .now) rs q (drop (l .i + 1) rs) (a .n) (a .s .now) (l .s) (k .last .0) (l .count) (k .result) j (k .ensures) (not-true (k .result .ok) (c .if1 .taken))))
+    let j : Joining (a .size) (a .held .now) rs (q ++ drop (l .i + 1) rs) (a .n) (a .s .now) (l .s) (l .count) = subst (λ (r : List (Read Slot)). Joining (a .size) (a .held .now) rs r (a .n) (a .s .now) (l .s) (l .count)) d (l .inv .2) in (
+      full-joined (a .size) (a .leaf) (a .tree .now) (b .pre .4) (b .pre .5) (a .held .now) (a .n) (a .s .now) (k .last .0) (record { ok = false; count = a .n })
+          (rw (g .ensures .starts) at (joining-damage (a .size) (a .held .now) rs q (drop (l .i + 1) rs) (a .n) (a .s .now) (l .s) (k .last .0) (l .count) (k .result) j (k .ensures) (not-true (k .result .ok) (c .if1 .taken)))),
+      g .ensures,
+    )
 
 add-i : tie.Need-add-i Inv-loop μ-loop
 add-i c = search needs
@@ -102,17 +104,17 @@ loop-less c = search needs
 
 loop-again : tie.Need-loop-again Inv-loop μ-loop
 loop-again c =
-    let b = c .before .before .before .before .before .before .before .before .before .before .before in
+    let b = c .before .before .before .before .before .before .before .before .before .before .before .before in
     let a = b .args in
-    let l = c .before .before .before .before .before .before .loop in
-    let g = c .before .before .before .before .before .before .before .gather-path in
+    let l = c .before .before .before .before .before .before .before .loop in
+    let g = c .before .before .before .before .before .before .before .before .gather-path in
     let from = g .last .1 .1 .1 .0 in
     let x = c .before .before .before .before .load in
     let k = c .before .before .join-reading in
-    let t = c .before .before .before .before .before .loop-test .taken in
+    let t = c .before .before .before .before .before .before .loop-test .taken in
     let starts = take (g .result) from in
     let rs = map (readFrom (a .size) (a .tree .now)) starts in
-    let n : length starts ≡ g .result = simp length-take (omega (arith, g .ensures .0, g .ensures .1, b .pre .3)) in
+    let n : length starts ≡ g .result = simp length-take (omega (arith, g .ensures .sized, g .ensures .fewer, b .pre .3)) in
     let q = wordsFormat .read (a .size) (bucketOf (getD from (l .i) 0)) (slotBytes (x .result)) ∷ [] in
     let d = loaded-from (a .size) (a .tree .now) starts (l .i) (getD from (l .i) 0) (x .result) (omega arith) (sym (getD-take (g .result) from (l .i) 0 t)) (x .ensures) in
     let j : Joining (a .size) (a .held .now) rs (q ++ drop (l .i + 1) rs) (a .n) (a .s .now) (l .s) (l .count) = subst (λ (r : List (Read Slot)). Joining (a .size) (a .held .now) rs r (a .n) (a .s .now) (l .s) (l .count)) d (l .inv .2) in (
@@ -129,12 +131,14 @@ returns-2 c =
     let g = c .before .before .gather-path in
     let starts = take (g .result) (g .last .1 .1 .1 .0) in
     let rs = map (readFrom (a .size) (a .tree .now)) starts in
-    let n : length starts ≡ g .result = simp length-take (omega (arith, g .ensures .0, g .ensures .1, b .pre .3)) in
+    let n : length starts ≡ g .result = simp length-take (omega (arith, g .ensures .sized, g .ensures .fewer, b .pre .3)) in
     let m = length-map starts (readFrom (a .size) (a .tree .now)) in
-    let e : drop (l .i) rs ≡ [] = drop-of-length-le rs {i = l .i} (omega (arith, c .loop-test .left)) in
-    full-joined (a .size) (a .leaf) (a .tree .now) (b .pre .4) (b .pre .5) (a .held .now) (a .n) (a .s .now) (l .s) (record { ok = true; count = l .count })
-    (rw (g .ensures .2) at (joining-end (a .size) (a .held .now) rs (a .n) (a .s .now) (l .s) (l .count) (omega (arith, l .inv .1, l .inv .0))
-    (subst (λ (r : List (Read Slot)). Joining (a .size) (a .held .now) rs r (a .n) (a .s .now) (l .s) (l .count)) e (l .inv .2))))
+    let e : drop (l .i) rs ≡ [] = drop-of-length-le rs {i = l .i} (omega (arith, c .loop-test .left)) in (
+      full-joined (a .size) (a .leaf) (a .tree .now) (b .pre .4) (b .pre .5) (a .held .now) (a .n) (a .s .now) (l .s) (record { ok = true; count = l .count })
+          (rw (g .ensures .starts) at (joining-end (a .size) (a .held .now) rs (a .n) (a .s .now) (l .s) (l .count) (omega (arith, l .inv .1, l .inv .0))
+          (subst (λ (r : List (Read Slot)). Joining (a .size) (a .held .now) rs r (a .n) (a .s .now) (l .s) (l .count)) e (l .inv .2)))),
+      g .ensures,
+    )
 
 pub read-path-spec : {M : Type 1} → statement M
 read-path-spec =
@@ -145,7 +149,7 @@ read-path-spec =
     gather-path-requires
     loop-holds
     mul-at
-    array-read-at
+    element-copy-out-at
     cast-at
     load-requires
     add-join-reading

@@ -1,73 +1,67 @@
--- `buckets::write::clear_path` meets its contract. The invariant: the buckets below a level are cleared, the others are left to clear.
-use mathlib.Core.Path.{_≡_, refl, sym, _∙_, ap}
-use mathlib.Core.List.{List}
-use Prim.Native.Nat.{ℕ, _+_, _-_, _≤_}
-use lib.ListN.{length, drop, length-take, length-drop}
-use borrow.Rule.Slice.PartMut.{same-len-mid}
-use Rattle.slots.specs.Tree.{path, pathBucket}
-use Rattle.rounds.specs.Round.{withBucket}
-use Rattle.buckets.specs.Fill.{cleared}
-use Rattle.buckets.specs.PathLaws.{path-level, path-end}
-use Rattle.buckets.specs.StoreLaws.{cleared-end, cleared-turn}
-use Rattle.buckets.specs.SettleLaws.{bucket-lent}
+-- `buckets::write::clear_path` meets its contract. The invariant: the first i full slots are emptied, the others are left to empty.
+use mathlib.Core.Path.{_≡_, refl, sym, _∙_}
+use Prim.Native.Nat.{_-_, _≤_}
+use lib.ListN.{length, take, drop, getD}
+use lib.Seq.{length-sets}
+use Rattle.slots.specs.Slot.{slotBytes}
+use Rattle.buckets.specs.Words.{zeroSlot}
+use Rattle.buckets.specs.Fill.{emptied}
+use Rattle.buckets.specs.GatherLaws.{start-within, start-small}
+use Rattle.buckets.specs.ClearLaws.{emptied-turn, emptied-end, path-cleared}
 use borrow.Author.Needs.{needs}
 use native.Mathlib.Omega.{arith}
 use Rattle.buckets.proofs.write.clear_path.Statement.{statement}
 use Rattle.buckets.proofs.write.clear_path.Tie as tie
 
 abbrev Inv-loop : tie.InvT-loop
-Inv-loop tree₀ size leaf level₀ tree level =
-    (level ≤ size + 1) × (length tree ≡ length tree₀)
-    × (cleared tree₀ (path size leaf) ≡ cleared tree (drop level (path size leaf)))
+Inv-loop tree₀ size leaf from full none i₀ tree i =
+    (i ≤ full) × (length tree ≡ length tree₀) × (emptied tree₀ (take full from) ≡ emptied tree (drop i (take full from)))
 
 abbrev μ-loop : tie.MeasureT-loop
-μ-loop tree₀ size leaf level₀ tree level = size + 1 - level
+μ-loop tree₀ size leaf from full none i₀ tree i = full - i
 
 loop-holds : tie.Need-loop-holds Inv-loop μ-loop
 loop-holds c = (omega arith, refl, refl)
 
-start-at-requires : tie.Need-start-at-requires Inv-loop μ-loop
-start-at-requires c κs = search needs
+mul-store : tie.Need-mul-store Inv-loop μ-loop
+mul-store c = search needs
 
-add-e : tie.Need-add-e Inv-loop μ-loop
-add-e c = search needs
+element-copy-out-store : tie.Need-element-copy-out-store Inv-loop μ-loop
+element-copy-out-store c = search needs
 
-sub-clear-bucket : tie.Need-sub-clear-bucket Inv-loop μ-loop
-sub-clear-bucket c = search needs
+cast-store : tie.Need-cast-store Inv-loop μ-loop
+cast-store c =
+    let b = c .before .before .before .before .before in
+    let a = b .args in
+    let g = b .pre .3 in
+    let w = start-small (a .size) (a .leaf) (a .tree .now) (b .pre .1) (b .pre .2) (a .from .now) (a .full) (c .before .before .before .loop .i) (b .pre .0) (g .starts) (omega arith) (omega (arith, g .sized, g .fewer, b .pre .0)) in
+    omega arith
 
-part-clear-bucket-start : tie.Need-part-clear-bucket-start Inv-loop μ-loop
-part-clear-bucket-start c = search needs
+store-requires : tie.Need-store-requires Inv-loop μ-loop
+store-requires c κs =
+    let b = c .before .before .before .before .before in
+    let a = b .args in
+    let g = b .pre .3 in
+    let l = c .before .before .before .loop in
+    let w = start-within (a .size) (a .leaf) (a .tree .now) (b .pre .1) (b .pre .2) (a .from .now) (a .full) (l .i) (g .starts) (omega arith) (omega (arith, g .sized, g .fewer, b .pre .0)) in
+    rw (l .inv .1) w
 
-part-clear-bucket-end : tie.Need-part-clear-bucket-end Inv-loop μ-loop
-part-clear-bucket-end c =
-    let n = c .before .before .loop .inv .1 ∙ c .before .before .before .before .pre .2 in
-    omega (arith, c .start-at .ensures .1)
-
-clear-bucket-requires : tie.Need-clear-bucket-requires Inv-loop μ-loop
-clear-bucket-requires c κs =
-    let n = c .before .before .before .loop .inv .1 ∙ c .before .before .before .before .before .pre .2 in
-    simp (length-take, length-drop) (omega (arith, c .before .start-at .ensures .1))
-
-add-level : tie.Need-add-level Inv-loop μ-loop
-add-level c = search needs
+add-i : tie.Need-add-i Inv-loop μ-loop
+add-i c = search needs
 
 loop-less : tie.Need-loop-less Inv-loop μ-loop
 loop-less c = search needs
 
 loop-again : tie.Need-loop-again Inv-loop μ-loop
 loop-again c =
-    let a = c .before .before .before .before .before .before .before .before .args in
+    let b = c .before .before .before .before .before .before .before .before in
+    let a = b .args in
+    let g = b .pre .3 in
     let l = c .before .before .before .before .before .before .loop in
-    let s = c .before .before .before .before .start-at in
-    let k = c .before .before .clear-bucket in
-    let b = pathBucket (a .size) (a .leaf) (l .level) in
-    let rest = drop (l .level + 1) (path (a .size) (a .leaf)) in
-    let t : l .level ≤ a .size = omega arith in (
+    let s = c .before .before .store in (
       omega arith,
-      same-len-mid (s .result) (s .result + 128 - s .result) (l .tree) (k .last .0) (k .kept .0) ∙ l .inv .1,
-      l .inv .2
-          ∙ rw (path-level (a .size) (a .leaf) (l .level) t) (cleared-turn (l .tree) b rest)
-          ∙ ap (λ (m : List ℕ). cleared m rest) (sym (bucket-lent (l .tree) (k .last .0) b (s .result) (s .result + 128 - s .result) (s .ensures .0) (omega arith) ∙ ap (withBucket (l .tree) b) (k .ensures))),
+      rw (s .ensures) (length-sets (l .tree) (getD (a .from .now) (l .i) 0) (slotBytes zeroSlot)) ∙ l .inv .1,
+      l .inv .2 ∙ emptied-turn (l .tree) (s .last .0) (a .from .now) (a .full) (l .i) (omega arith) (omega (arith, g .sized, g .fewer, b .pre .0)) (s .ensures),
     )
 
 same-length : tie.Need-same-length Inv-loop μ-loop
@@ -75,10 +69,11 @@ same-length c = c .before .loop .inv .1
 
 returns : tie.Need-returns Inv-loop μ-loop
 returns c =
-    let a = c .before .before .before .args in
+    let b = c .before .before .before in
+    let a = b .args in
     let l = c .before .loop in
-    let e : l .level ≡ a .size + 1 = omega arith in
-    sym (l .inv .2 ∙ rw (e, path-end (a .size) (a .leaf)) (cleared-end (l .tree)))
+    sym (l .inv .2 ∙ emptied-end (l .tree) (a .from .now) (a .full) (l .i) (omega arith))
+    ∙ path-cleared (a .size) (a .leaf) (a .tree .now) (a .from .now) (a .full) (b .pre .1) (b .pre .2) (b .pre .3)
 
 pub clear-path-spec : {M : Type 1} → statement M
 clear-path-spec =
@@ -87,13 +82,11 @@ clear-path-spec =
     Inv-loop
     μ-loop
     loop-holds
-    start-at-requires
-    add-e
-    sub-clear-bucket
-    part-clear-bucket-start
-    part-clear-bucket-end
-    clear-bucket-requires
-    add-level
+    mul-store
+    element-copy-out-store
+    cast-store
+    store-requires
+    add-i
     loop-less
     loop-again
     same-length

@@ -20,12 +20,12 @@ use Rattle.buckets.proofs.write.fill_path.Statement.{statement}
 use Rattle.buckets.proofs.write.fill_path.Tie as tie
 
 abbrev Inv-loop : tie.InvT-loop
-Inv-loop s m out w₀ tree₀ size leaf used₀ kept₀ i₀ w tree used kept i =
+Inv-loop s m out w₀ tree₀ size leaf from full used₀ kept₀ i₀ w tree used kept i =
     (i ≤ m) × (kept ≤ i)
     × ((start : List ℕ) → length start ≡ treeLength size → tree₀ ≡ cleared start (path size leaf) → Placing size leaf start (without out (take i (slotsOf s))) tree used w kept)
 
 abbrev μ-loop : tie.MeasureT-loop
-μ-loop s m out w₀ tree₀ size leaf used₀ kept₀ i₀ w tree used kept i = m - i
+μ-loop s m out w₀ tree₀ size leaf from full used₀ kept₀ i₀ w tree used kept i = m - i
 
 clear-path-requires : tie.Need-clear-path-requires Inv-loop μ-loop
 clear-path-requires c κs = search needs
@@ -48,7 +48,7 @@ cast-meet c = search needs
 meet-requires : tie.Need-meet-requires Inv-loop μ-loop
 meet-requires c κs =
     let b = c .before .before .before .before .before .before .before .before .before .before .before in
-    let p : 2 ^ b .args .size ≤ 2 ^ 16 = pow-mono {i = b .args .size} {j = 16} (b .pre .3) in
+    let p : 2 ^ b .args .size ≤ 2 ^ 16 = pow-mono {i = b .args .size} {j = 16} (omega (arith, b .pre .3)) in
     (omega (arith, b .pre .4), search needs)
 
 room-from-requires : tie.Need-room-from-requires Inv-loop μ-loop

@@ -29,7 +29,7 @@ returns c =
     (λ w. rw (w .1) (ap (λ (t : Bool). removed t (a .at) ws) (sym (w .0 .taken))))
     (λ w. rw (w .1) (without-past (a .m) (slotsOf (a .s .now)) ∙ ap (λ (t : Bool). removed t (a .at) ws) (sym (w .0 .left))))
     (i .came) in
-    settled (a .size) (a .leaf) (a .m) (a .wanted) (a .at) (i .out) (a .s .now) (a .tree .now) (f .last .1 .1 .1 .0) (f .last .1 .1 .1 .1 .0) (f .result) (b .pre .room) (b .pre .joint-sized) e (f .ensures)
+    settled (a .size) (a .leaf) (a .m) (a .wanted) (a .at) (i .out) (a .s .now) (a .tree .now) (f .last .1 .1 .1 .0) (f .last .1 .1 .1 .1 .0) (f .result) (b .pre .0 .room) (b .pre .0 .joint-sized) e (f .ensures)
 
 pub settle-spec : {M : Type 1} → statement M
 settle-spec = tie.close (tie.spec fill-path-requires same-length returns)

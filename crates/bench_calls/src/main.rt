@@ -5,6 +5,7 @@ use libc::STDERR_FILENO;
 use libc::STDIN_FILENO;
 use libc::STDOUT_FILENO;
 use state::State;
+use state::fetching::rounds_of;
 use state::opening::open;
 use steps::Answer;
 use store::Called;
@@ -15,7 +16,6 @@ use walk_lines::LARGEST_TREE;
 use walk_lines::MOST_DRAWS;
 use walk_lines::MOST_LEAVES;
 use walk_lines::input::read_tape;
-use walk_lines::input::rounds;
 use walk_lines::input::tree_lent;
 ghost use Prim.Native.Nat.{_≤_};
 ghost use lib.ListN.{length};
@@ -177,7 +177,7 @@ fn run(opened: State, tree: &mut [u8], block: &mut [u8], tape: &mut [u16], trace
 fn run_opened(opened: State, tree: &mut [u8])
     requires { ⌜ (1 ≤ opened .size) × (opened .size ≤ largestSize) ⌝ }
 {
-    let leaves = 2 * rounds(opened.structure, opened.size);
+    let leaves = 2 * rounds_of(opened.structure, opened.size);
     let draws = leaves + 1;
     let mut block = [0u8; BLOCK];
     let mut tape = [0u16; MOST_DRAWS];

@@ -1,17 +1,16 @@
 -- What a call leaves after its fetch rounds.
-use mathlib.Core.Path.{_≡_, refl, sym, _∙_, ap, ap₂, subst}
-use mathlib.Core.Bool.{Bool, true, false}
-use mathlib.Core.List.{List, [], _∷_, _++_, map, append-nil}
-use mathlib.Core.Option.{none, some}
-use Prim.Native.Nat.{ℕ, zero, suc, _+_, _-_, _*_, _^_, _≤_, _<_}
+use mathlib.Core.Path.{_≡_, refl, sym, _∙_, ap, ap₂}
+use mathlib.Core.List.{List, [], _++_, map}
+use mathlib.Core.Option.{none}
+use Prim.Native.Nat.{ℕ, _+_, _-_, _*_, _≤_}
+use native.Mathlib.Decide.{ℕ-discrete}
 use native.Mathlib.Omega.{arith}
 use borrow.Author.Tests.{eq-eqb, ne-eqb}
-use lib.ListN.{length, take, drop, length-take, length-append, length-map, take-append-drop}
-use lib.Seq.{sets, sets-eq}
-use Rattle.basics.specs.Perm.{Perm}
+use lib.ListN.{length, take, drop, length-take, length-append, take-append-drop}
+use lib.Seq.{sets-eq}
 use Rattle.basics.specs.PermLaws.{perm-length}
 use Rattle.method.specs.Node.{Link, Node}
-use Rattle.method.specs.Prog.{Prog, done, root}
+use Rattle.method.specs.Prog.{done, root}
 use Rattle.method.specs.Map.{Outcome}
 use Rattle.method.specs.Call.{drawsFrom}
 use Rattle.runs.specs.Calls.{draws-length}
@@ -20,14 +19,15 @@ use Rattle.round_laws.specs.Lists.{join-perm}
 use Rattle.leaf_nodes.specs.Convert.{fromLink, toNode}
 use Rattle.leaf_nodes.specs.Leaf.{leafFormat}
 use Rattle.calls.specs.Fetch as fetch
-use Rattle.calls.specs.Fetch.{Left, Going, Round, on, shut, closing}
+use Rattle.calls.specs.Fetch.{Going, on, closing}
 use Rattle.calls.specs.Call.{afterPuts, putRounds, stepped}
 use Rattle.slots.specs.declared.Link as link
 use Rattle.state.specs.declared.State.{State}
 use Rattle.steps.specs.declared.Outcome as outcome
-use Rattle.steps.specs.Method.{toLink, nodesOf, toOutcome, toAnswer, outcomeIn}
-use Rattle.steps.specs.Moved.{movedLink, movedNode, fetchesIn, ClosedTo}
-use Rattle.store.specs.declared.Called.{Called}
+use Rattle.steps.specs.Widths.{byteOutcome}
+use Rattle.steps.specs.WidthLaws.{outcome-fits}
+use Rattle.steps.specs.Method.{toLink, toOp, nodesOf, toOutcome, toAnswer}
+use Rattle.steps.specs.Moved.{movedLink, ClosedTo}
 use Rattle.store.specs.declared.Reply.{Reply}
 use Rattle.store.specs.declared.Reply.the-variants.{Refused}
 use Rattle.store.specs.Store.{Ended, replied, replyOf}
@@ -36,13 +36,14 @@ use Rattle.waiting.specs.Waiting.{waitingIn}
 use Rattle.waiting.specs.WaitingLaws.{waiting-length}
 use Rattle.call_rounds.specs.TwiceLaws.{join-twice}
 use Rattle.call_rounds.specs.OneRound.{going, endedWith}
-use Rattle.phases.specs.declared.idle.Idle.{Idle}
+use Rattle.idle_rounds.specs.declared.idle.Idle.{Idle}
 use Rattle.phases.specs.declared.wanting.Job.{Job}
 use Rattle.phases.specs.declared.wanting.Fetched.{Fetched}
 use Rattle.phases.specs.Wanting.{fromsIn, heldIn}
 use Rattle.phases.specs.Put.{Stepped, Puts}
-use Rattle.phases.specs.IdleLaws.{goes-on, stops-here}
-use Rattle.call.specs.Run.{endedAs, endingWith, goingBy, outcomeOf, Shuts, ShutAs, Finishes, finishedBy}
+use Rattle.idle_rounds.specs.IdleLaws.{goes-on, stops-here}
+use Rattle.call.specs.declared.ending.Ran.{Ran}
+use Rattle.call.specs.Run.{leftBy, endingWith, goingBy, outcomeOf, answered, Shuts, ShutAs, Finishes, finishedBy, FinishedAs}
 use Rattle.call.specs.MovedLaws.{moved-link, moved-nodes}
 
 -- ---- parts alike
@@ -66,7 +67,7 @@ pub numbers-first : (n : ℕ) (trace : List ℕ) → n ≤ length trace → leng
 numbers-first n trace h = length-take n trace ∙ omega arith
 
 -- ---- a fetch round closed the store
-module _ (structure size : ℕ) (j : Job) (f : Fetched) (words : List ℕ) (shuts : Shuts f words) {o : outcome.Outcome} {words′ : List ℕ} {m : ℕ}
+module _ (j : Job) (f : Fetched) (words : List ℕ) (shuts : Shuts f words) {o : outcome.Outcome} {words′ : List ℕ} {m : ℕ}
     (moved : ClosedTo (f .held) (f .came) (j .root) (j .entries) o) (joined : NodesJoined (f .waiting) (o .nodes) (o .count) words words′ m) where
   abbrev held : List fetch.Held
   held = heldIn (f .held) (f .came)
@@ -80,12 +81,15 @@ module _ (structure size : ℕ) (j : Job) (f : Fetched) (words : List ℕ) (shut
   same-root : o .root ≡ fromLink (fetch.movedLink held root (toLink (j .root)))
   same-root = ap fromLink (moved .root ∙ sym (moved-link (fromsIn (f .held) (f .came)) (nodesOf (f .held)) root (toLink (j .root))))
 
-  pub shut-ends : {r : Called} → r ≡ record { state = saved structure size (f .mark) (o .entries) (o .root) (waitingIn m words′); reply = Refused (f .mark); leaves = f .leaves }
-      → ShutAs structure size j f words r
+  pub shut-ends : ShutAs j f words words′
+      (record { mark = f .mark; entries = o .entries; root = o .root; waiting = m; reply = Refused (f .mark); leaves = f .leaves })
   unfolding closing replied
-  shut-ends e tree trace h =
-      ap (λ (c : Called). endedAs c tree trace) e
-      ∙ ended-same (saved-same refl (moved .kept) same-root same-waiting) refl (sym (numbers-first (f .leaves) trace h)) refl (first-and-rest (f .leaves) trace h)
+  shut-ends =
+      record {
+        holds = joined .holds;
+        ends = λ tree trace h.
+            ended-same (saved-same refl (moved .kept) same-root same-waiting) refl (sym (numbers-first (f .leaves) trace h)) refl (first-and-rest (f .leaves) trace h);
+      }
 
 -- ---- the step and the put rounds
 pub joined-length : (ns ws : List (Node ℕ)) → length (join leafFormat ns ws) ≡ length ns + length ws
@@ -98,11 +102,15 @@ closing-none : (mark entries : ℕ) (l : Link ℕ) (n : ℕ) (words tree leaves 
 unfolding closing join fetch.movedLink
 closing-none mark entries l n words tree leaves = refl
 
-module _ (structure size : ℕ) (j : Job) (draw : ℕ → ℕ) (f : Fetched) (words scratch tree trace keys : List ℕ) (b : Finishes j f words scratch tree keys)
-    (long : 2 * j .rounds ≤ length trace) (o : outcome.Outcome) (made : toOutcome o ≡ outcomeOf j f)
+module _ (j : Job) (draw : ℕ → ℕ) (f : Fetched) {words scratch tree keys : List ℕ} (trace : List ℕ) (b : Finishes j f words scratch tree keys)
+    (long : 2 * j .rounds ≤ length trace) (o : outcome.Outcome) (told : toOutcome o ≡ byteOutcome (outcomeOf j f))
     {words′ : List ℕ} {m : ℕ} (joined : NodesJoined (f .waiting) (o .nodes) (o .count) words words′ m) where
   abbrev O : Outcome ℕ
   O = outcomeOf j f
+
+  -- Heights are low here: the step is the method's as it stands.
+  made : toOutcome o ≡ O
+  made = told ∙ outcome-fits (toOp (j .op)) (j .tag) (j .limit) (j .entries) (j .root) (f .held) (b .low)
 
   made-nodes : map toNode (take (o .count) (o .nodes)) ≡ O .nodes
   made-nodes = ap (λ (x : Outcome ℕ). x .nodes) made
@@ -156,28 +164,36 @@ module _ (structure size : ℕ) (j : Job) (draw : ℕ → ℕ) (f : Fetched) (wo
         ∙ ap₂ (λ (n d : ℕ). (take n trace ++ draws) ++ drop d trace) (sym (b .leaves-are)) (ap (λ (n : ℕ). j .rounds + n) many ∙ sym leaves-many)
 
     kept-as : {mark : ℕ} → mark ≡ r .mark
-        → saved structure size (r .mark) (o .entries) (o .root) (waitingIn (r .waiting) words″) ≡ saved structure size mark (O .entries) (fromLink (O .root)) (waitingIn (r .waiting) words″)
+        → saved (j .structure) (j .size) (r .mark) (o .entries) (o .root) (waitingIn (r .waiting) words″)
+        ≡ saved (j .structure) (j .size) mark (O .entries) (fromLink (O .root)) (waitingIn (r .waiting) words″)
     kept-as e = saved-same {ws = waitingIn (r .waiting) words″} (sym e) (ap (λ (x : Outcome ℕ). x .entries) made) (ap (λ (x : Outcome ℕ). fromLink (x .root)) made) refl
 
+    abbrev ran : Reply → Ran
+    ran p = record { mark = r .mark; entries = o .entries; root = o .root; waiting = r .waiting; reply = p; leaves = j .rounds + r .shown }
+
+    abbrev EndsAs : Reply → Type 0
+    EndsAs p = leftBy (j .structure) (j .size) (ran p) words″ tree″ trace″ ≡ endingWith (j .structure) (j .size) trace (finishedBy j draw f words tree trace)
+
     -- A put round closed the store.
-    pub finish-shuts : {r′ : Called} → (r .mark ≡ 0 → ⊥)
-        → r′ ≡ record { state = saved structure size (r .mark) (o .entries) (o .root) (waitingIn (r .waiting) words″); reply = Refused (r .mark); leaves = j .rounds + r .shown }
-        → endedAs r′ tree″ trace″ ≡ endingWith structure size trace (finishedBy j draw f words tree trace)
+    finish-shuts : {p : Reply} → (r .mark ≡ 0 → ⊥) → p ≡ Refused (r .mark) → EndsAs p
     unfolding afterPuts replied
-    finish-shuts marked e =
-        ap (λ (c : Called). endedAs c tree″ trace″) e
-        ∙ ended-same (kept-as refl) refl (sym leaves-many) refl trace-is
-        ∙ ap (endingWith structure size trace)
+    finish-shuts marked q =
+        ended-same (kept-as refl) q (sym leaves-many) refl trace-is
+        ∙ ap (endingWith (j .structure) (j .size) trace)
         (sym
         (ap (afterPuts O) (came-to ∙ stops-here (r .mark) end (done O) marked)
         ∙ closing-none (r .mark) (O .entries) (O .root) (r .waiting) words″ tree″ leaves″))
 
     -- They all went on.
-    pub finish-answers : {r′ : Called} {p : Reply} → r .mark ≡ 0 → p ≡ replyOf (toAnswer (o .answer))
-        → r′ ≡ record { state = saved structure size (r .mark) (o .entries) (o .root) (waitingIn (r .waiting) words″); reply = p; leaves = j .rounds + r .shown }
-        → endedAs r′ tree″ trace″ ≡ endingWith structure size trace (finishedBy j draw f words tree trace)
+    finish-answers : {p : Reply} → r .mark ≡ 0 → p ≡ replyOf (toAnswer (o .answer)) → EndsAs p
     unfolding afterPuts replied
-    finish-answers went q e =
-        ap (λ (c : Called). endedAs c tree″ trace″) e
-        ∙ ended-same (kept-as (sym went)) (q ∙ ap (λ (x : Outcome ℕ). replyOf (x .answer)) made) (sym leaves-many) refl trace-is
-        ∙ ap (endingWith structure size trace) (sym (ap (afterPuts O) (came-to ∙ goes-on (r .mark) end (done O) went)))
+    finish-answers went q =
+        ended-same (kept-as (sym went)) (q ∙ ap (λ (x : Outcome ℕ). replyOf (x .answer)) made) (sym leaves-many) refl trace-is
+        ∙ ap (endingWith (j .structure) (j .size) trace) (sym (ap (afterPuts O) (came-to ∙ goes-on (r .mark) end (done O) went)))
+
+    pub finish-ends : {p : Reply} → p ≡ answered (r .mark) (toAnswer (o .answer)) → FinishedAs j draw f words tree trace words″ tree″ trace″ (ran p)
+    finish-ends {p} q = record { holds = puts .holds; enough = omega arith; ends = go (ℕ-discrete (r .mark) 0) }
+      where
+        go : Dec (r .mark ≡ 0) → EndsAs p
+        go (yes e) = finish-answers e (q ∙ rw (eq-eqb (r .mark) 0 e))
+        go (no h) = finish-shuts h (q ∙ rw (ne-eqb (r .mark) 0 h))

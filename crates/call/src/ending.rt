@@ -3,12 +3,11 @@ use buckets::WORDS;
 use phases::put::put_rounds;
 use phases::wanting::Fetched;
 use phases::wanting::Job;
+use slots::Link;
 use stash::join::join_nodes;
-use stash::places::save;
 use steps::Answer;
 use steps::fetched::closed;
 use steps::operation::step;
-use store::Called;
 use store::Reply;
 ghost use mathlib.Core.Path.{_≡_};
 ghost use Prim.Native.Nat.{_+_, _*_, _≤_};
@@ -16,9 +15,20 @@ ghost use lib.ListN.{length};
 ghost use Rattle.calls.specs.Call.{drawOf};
 ghost use Rattle.steps.specs.Method.{toAnswer};
 ghost use Rattle.store.specs.Store.{replyOf};
-ghost use Rattle.phases.specs.Idle.{keysHeld};
+ghost use Rattle.idle_rounds.specs.Idle.{keysHeld};
 ghost use Rattle.phases.specs.Wanting.{heldIn};
-ghost use Rattle.call.specs.Run.{endedAs, endingWith, Shuts, ShutAs, Finishes, finishedBy};
+ghost use Rattle.call.specs.Run.{answered, Shuts, ShutAs, Finishes, FinishedAs};
+
+// What the rounds and the step of a call leave beside the words of the waiting nodes: the mark, the entries, the root link, how
+// many nodes wait, the reply, and how many leaves were revealed.
+pub struct Ran {
+    pub mark: u8,
+    pub entries: u16,
+    pub root: Link,
+    pub waiting: usize,
+    pub reply: Reply,
+    pub leaves: usize,
+}
 
 // The paper's answer, or for a full store its number.
 fn reply_of(answer: Answer) -> Reply
@@ -37,21 +47,33 @@ fn reply_of(answer: Answer) -> Reply
     }
 }
 
+// The answer, unless a put round closed the store.
+fn reply_after(mark: u8, answer: Answer) -> Reply
+    ensures { λ r. ⌜ r ≡ answered mark (toAnswer answer) ⌝ }
+{
+    if mark != 0 {
+        return Reply::Refused(mark);
+    }
+    reply_of(answer)
+}
+
 // A fetch round closed the store: the held nodes join those waiting, as they were fetched, with only tags moved.
-pub fn shut(structure: u8, size: u8, job: Job, f: Fetched, w: &mut [u64; WORDS]) -> Called
+pub fn shut(job: Job, f: Fetched, w: &mut [u64; WORDS]) -> Ran
     requires { ⌜ Shuts f (now w) ⌝ }
-    ensures { λ r. ⌜ ShutAs structure size job f (now (w .entry)) r ⌝ }
+    ensures { λ r. ⌜ ShutAs job f (now (w .entry)) (now (w .exit)) r ⌝ }
 {
     let held = f.held;
     let came = f.came;
-    let root = job.root;
-    let o = closed(held, came, root, job.entries);
+    let old = job.root;
+    let o = closed(held, came, old, job.entries);
     let nodes = o.nodes;
-    let moved = o.root;
-    let all = join_nodes(w, f.waiting, nodes, o.count);
-    let state = save(structure, size, f.mark, o.entries, moved, w, all);
-    Called {
-        state,
+    let root = o.root;
+    let waiting = join_nodes(w, f.waiting, nodes, o.count);
+    Ran {
+        mark: f.mark,
+        entries: o.entries,
+        root,
+        waiting,
         reply: Reply::Refused(f.mark),
         leaves: f.leaves,
     }
@@ -59,8 +81,6 @@ pub fn shut(structure: u8, size: u8, job: Job, f: Fetched, w: &mut [u64; WORDS])
 
 // All fetch rounds went on: the step, and the put rounds.
 pub fn finish(
-    structure: u8,
-    size: u8,
     job: Job,
     f: Fetched,
     w: &mut [u64; WORDS],
@@ -69,9 +89,9 @@ pub fn finish(
     keys: &[u32],
     tape: &[u16],
     trace: &mut [u16],
-) -> Called
+) -> Ran
     requires { ⌜ (Finishes job f (now w) (now s) (now tree) (keysHeld (heldIn (f .held) (f .came)))) × ((2 * job .rounds + 1 ≤ length (now tape)) × (2 * job .rounds ≤ length (now trace))) ⌝ }
-    ensures { λ r. ⌜ (endedAs r (now (tree .exit)) (now (trace .exit)) ≡ endingWith structure size (now (trace .entry)) (finishedBy job (drawOf (job .size) (now (tape .entry))) f (now (w .entry)) (now (tree .entry)) (now (trace .entry)))) × (job .rounds ≤ r .leaves) ⌝ }
+    ensures { λ r. ⌜ FinishedAs job (drawOf (job .size) (now (tape .entry))) f (now (w .entry)) (now (tree .entry)) (now (trace .entry)) (now (w .exit)) (now (tree .exit)) (now (trace .exit)) r ⌝ }
 {
     let op = job.op;
     let old = job.root;
@@ -79,21 +99,18 @@ pub fn finish(
     let o = step(op, job.limit, job.entries, old, job.tag, held);
     let nodes = o.nodes;
     let root = o.root;
+    let entries = o.entries;
     let answer = o.answer;
     let m = join_nodes(w, f.waiting, nodes, o.count);
     let r = put_rounds(w, m, s, tree, job.size, job.rounds, keys, tape, trace);
-    let state = save(structure, size, r.mark, o.entries, root, w, r.waiting);
+    let reply = reply_after(r.mark, answer);
     let leaves = job.rounds + r.shown;
-    if r.mark != 0 {
-        return Called {
-            state,
-            reply: Reply::Refused(r.mark),
-            leaves,
-        };
-    }
-    Called {
-        state,
-        reply: reply_of(answer),
+    Ran {
+        mark: r.mark,
+        entries,
+        root,
+        waiting: r.waiting,
+        reply,
         leaves,
     }
 }

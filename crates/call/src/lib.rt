@@ -1,6 +1,10 @@
 // Calls on a store: the checks, the rounds and the step, and what is left.
+use buckets::WORDS;
 use slots::tree::tree_length;
+use stash::places::load;
+use stash::places::save;
 use state::State;
+use state::fetching::rounds_of;
 use state::fit::fits_state;
 use store::Called;
 use store::Reply;
@@ -47,12 +51,24 @@ pub fn call(state: State, tree: &mut [u8], ticket: &[u8], tape: &[u16], trace: &
     let Asked::Call(op) = asked else {
         return refused(state, 5);
     };
-    let rounds = run::rounds_of(state.structure, size);
+    let rounds = rounds_of(state.structure, state.size);
     if tape.len() < 2 * rounds + 1 {
         return refused(state, 6);
     }
     if trace.len() < 2 * rounds {
         return refused(state, 7);
     }
-    run::run(state, op, rounds, tree, tape, trace)
+    let mut w = [0u64; WORDS];
+    let n = load(state, &mut w);
+    let root = state.root;
+    let job = run::job_for(state.structure, size, state.entries, root, op, rounds, tape);
+    let r = run::run(job, &mut w, n, tree, tape, trace);
+    let after = r.root;
+    let reply = r.reply;
+    let left = save(state, r.mark, r.entries, after, &w, r.waiting);
+    Called {
+        state: left,
+        reply,
+        leaves: r.leaves,
+    }
 }

@@ -16,10 +16,10 @@ use Rattle.steps.specs.declared.Came.{Came}
 use Rattle.steps.specs.declared.Held.{Held}
 use Rattle.steps.specs.Method.{nodesOf, wantedIn}
 use Rattle.call_rounds.specs.OneRound.{going, endedWith, Rests}
-use Rattle.phases.specs.declared.idle.Idle.{Idle}
+use Rattle.idle_rounds.specs.declared.idle.Idle.{Idle}
 use Rattle.phases.specs.declared.wanting.Job.{Job}
 use Rattle.phases.specs.declared.wanting.Fetched.{Fetched}
-use Rattle.phases.specs.Idle.{Between, keysHeld, IdledAll}
+use Rattle.idle_rounds.specs.Idle.{Between, keysHeld, IdledAll}
 use Rattle.phases.specs.Wanting.{heldIn, structureIn, programOf, Begins, Walked, Fetches}
 use Rattle.phases.specs.WantingLaws.{rounds-left, done-rounds, walked-few, walked-counted, walked-paired}
 

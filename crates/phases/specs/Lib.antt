@@ -1,6 +1,4 @@
 pub mod Splits
-pub mod Idle
-pub mod IdleLaws
 pub mod Wanting
 pub mod WantingLaws
 pub mod WalkLaws

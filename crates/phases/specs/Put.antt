@@ -17,7 +17,7 @@ use Rattle.calls.specs.Call.{putRounds}
 use Rattle.leaf_laws.specs.Proper.{ProperLeaf}
 use Rattle.waiting.specs.Waiting.{waitingIn, Holds}
 use Rattle.call_rounds.specs.OneRound.{going, endedWith, keysWaiting}
-use Rattle.phases.specs.declared.idle.Idle.{Idle}
+use Rattle.idle_rounds.specs.declared.idle.Idle.{Idle}
 
 -- After the step: the tree is one of that size, the waiting nodes are proper and have room, and where their keys do not ascend
 -- one of them stands twice.

@@ -19,9 +19,9 @@ use Rattle.calls.specs.Call.{putRounds}
 use Rattle.call_rounds.specs.OneRound.{going, endedWith, keysWaiting}
 use Rattle.call_rounds.specs.TwiceLaws.{twice-shuts}
 use Rattle.waiting.specs.Waiting.{waitingIn}
-use Rattle.phases.specs.declared.idle.Idle.{Idle}
-use Rattle.phases.specs.Idle.{Between, IdledAll}
-use Rattle.phases.specs.IdleLaws.{put-shuts, draws-one}
+use Rattle.idle_rounds.specs.declared.idle.Idle.{Idle}
+use Rattle.idle_rounds.specs.Idle.{Between, IdledAll}
+use Rattle.idle_rounds.specs.IdleLaws.{put-shuts, draws-one}
 use Rattle.phases.specs.Put.{Stepped, Puts}
 
 module _ {k n : ℕ} {words scratch tree : List ℕ} (b : Stepped k n words scratch tree) where

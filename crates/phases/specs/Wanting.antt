@@ -25,7 +25,7 @@ use Rattle.waiting.specs.Waiting.{waitingIn}
 use Rattle.call_rounds.specs.OneRound.{going, endedWith, Rests}
 use Rattle.phases.specs.declared.wanting.Job.{Job}
 use Rattle.phases.specs.declared.wanting.Fetched.{Fetched}
-use Rattle.phases.specs.Idle.{keysHeld}
+use Rattle.idle_rounds.specs.Idle.{keysHeld}
 
 -- ---- the held nodes, each with where its link stood
 unfoldable pub heldOf : List From → List (Node ℕ) → List fetch.Held

@@ -39,8 +39,8 @@ use Rattle.closing.specs.Ends.{highest, FitStore, entriesBefore, keyOf}
 use Rattle.closing.specs.Changes.{valueIn, Answers, Yielded}
 use Rattle.closing.specs.Lost.{FetchEnds, fetch-rounds, never-left-wanting}
 use Rattle.phases.specs.Splits.{goesOn, fetches-none, fetches-next, fetches-split}
-use Rattle.phases.specs.Idle.{Between, keysHeld}
-use Rattle.phases.specs.IdleLaws.{put-none, put-goes, put-shuts, goes-on, stops-here, between-ready}
+use Rattle.idle_rounds.specs.Idle.{Between, keysHeld}
+use Rattle.idle_rounds.specs.IdleLaws.{put-none, put-goes, put-shuts, goes-on, stops-here, between-ready}
 use Rattle.phases.specs.declared.wanting.Job.{Job}
 use Rattle.phases.specs.declared.wanting.Fetched.{Fetched}
 use Rattle.phases.specs.Wanting.{heldOf, fromsIn, heldIn, structureIn, programOf, storeAt, fetched, Begins, Walked, Walks, Fetches}

@@ -1,10 +1,9 @@
 // All fetch rounds of a call: those that want a node, then those that are left.
-use super::idle::idle_rounds;
 use super::wanting::Fetched;
 use super::wanting::Job;
-use super::wanting::came_to;
 use super::wanting::want_rounds;
 use buckets::WORDS;
+use idle_rounds::idle::idle_rounds;
 ghost use mathlib.Core.Path.{_≡_};
 ghost use Prim.Native.Nat.{_+_, _*_, _≤_};
 ghost use lib.ListN.{length};
@@ -24,13 +23,11 @@ pub fn fetch_rounds(
     requires { ⌜ (Begins job (drawOf (job .size) (now tape)) n (now w) (now s) (now tree)) × ((length (now keys) ≡ 33) × ((2 * job .rounds + 1 ≤ length (now tape)) × (2 * job .rounds ≤ length (now trace)))) ⌝ }
     ensures { λ r. ⌜ Fetches job (drawOf (job .size) (now (tape .entry))) n (now (w .entry)) (now (tree .entry)) (now (trace .entry)) (now (w .exit)) (now (s .exit)) (now (tree .exit)) (now (trace .exit)) r ⌝ }
 {
-    let f = want_rounds(job, w, n, s, tree, keys, tape, trace);
+    let mut f = want_rounds(job, w, n, s, tree, keys, tape, trace);
     if f.mark != 0 {
         return f;
     }
-    let held = f.held;
-    let came = f.came;
-    let i = held.count;
+    let i = f.held.count;
     let left = job.rounds - i;
     let r = idle_rounds(
         w,
@@ -45,5 +42,8 @@ pub fn fetch_rounds(
         trace,
         i,
     );
-    came_to(held, came, r.waiting, r.mark, i + r.shown)
+    f.waiting = r.waiting;
+    f.mark = r.mark;
+    f.leaves = i + r.shown;
+    f
 }

@@ -1,9 +1,9 @@
 // The put rounds of a call: they want none, and nothing is held.
-use super::idle::Idle;
-use super::idle::draw_at;
-use super::idle::idle_rounds;
 use buckets::WORDS;
 use call_rounds::ascends;
+use idle_rounds::idle::Idle;
+use idle_rounds::idle::draw_at;
+use idle_rounds::idle::idle_rounds;
 ghost use mathlib.Core.Path.{_≡_};
 ghost use Prim.Native.Nat.{_+_, _*_, _≤_};
 ghost use lib.ListN.{length};

@@ -1,7 +1,7 @@
 // The fetch rounds: those that want a node, one after the other, and then those that are left.
-use super::idle::draw_at;
 use buckets::WORDS;
 use call_rounds::want_round;
+use idle_rounds::idle::draw_at;
 use slots::Link;
 use slots::Node;
 use steps::Came;
@@ -12,10 +12,10 @@ use steps::Op;
 use steps::Wanted;
 use steps::operation::wanted;
 ghost use mathlib.Core.Path.{_≡_};
-ghost use Prim.Native.Nat.{_+_, _*_, _≤_, _<_};
+ghost use Prim.Native.Nat.{_+_, _*_, _≤_};
 ghost use lib.ListN.{length};
 ghost use Rattle.calls.specs.Call.{drawOf};
-ghost use Rattle.phases.specs.Wanting.{withOneMore, Begins, Walks};
+ghost use Rattle.phases.specs.Wanting.{Begins, Walks};
 
 // What the rounds of a call are for: the operation, the store's structure and size, how many fetch rounds there are, the capacity,
 // the entries and the root link, and the tag that a new node would get.
@@ -60,27 +60,7 @@ fn none_held() -> Held
     Held { nodes, count: 0 }
 }
 
-// The held nodes and one more, under its new tag.
-fn hold(held: Held, node: Node, tag: u16) -> Held
-    requires { ⌜ held .count < 33 ⌝ }
-    ensures { λ r. ⌜ r ≡ withOneMore held node tag ⌝ }
-{
-    let mut h = held;
-    let mut n = node;
-    n.tag = tag;
-    let i = h.count;
-    h.nodes[i] = n;
-    h.count = i + 1;
-    h
-}
-
-pub fn came_to(
-    held: Held,
-    came: [Came; FETCHES],
-    waiting: usize,
-    mark: u8,
-    leaves: usize,
-) -> Fetched
+fn came_to(held: Held, came: [Came; FETCHES], waiting: usize, mark: u8, leaves: usize) -> Fetched
     ensures { λ r. ⌜ r ≡ record { held = held; came = came; waiting = waiting; mark = mark; leaves = leaves } ⌝ }
 {
     Fetched {
@@ -134,8 +114,10 @@ pub fn want_rounds(
         if !r.taken {
             return came_to(held, came, r.waiting, r.mark, i + 1);
         }
-        let node = r.node;
-        held = hold(held, node, draw_at(tape, i, job.size) as u16);
+        let mut node = r.node;
+        node.tag = draw_at(tape, i, job.size) as u16;
+        held.nodes[i] = node;
+        held.count = i + 1;
         came[i] = Came { from };
         keys[i] = node.key;
         if r.mark != 0 {

@@ -1,2 +1,3 @@
 pub mod Stash
 pub mod StashLaws
+pub mod SaveLaws

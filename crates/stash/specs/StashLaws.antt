@@ -1,16 +1,14 @@
--- One more node at a time: loaded, joined, saved.
+-- One more node at a time: loaded, joined.
 use mathlib.Core.Path.{_≡_, refl, sym, _∙_, ap}
-use mathlib.Core.Bool.{true}
-use mathlib.Core.List.{List, [], _∷_, _++_, map, map-append, append-assoc}
+use mathlib.Core.List.{List, [], _∷_, _++_, map, map-append}
 use Prim.Native.Nat.{ℕ, zero, suc, _+_, _-_, _≤_, _<_}
 use native.Mathlib.Numerals.{add-one}
 use native.Mathlib.Omega.{arith}
-use lib.ListN.{length, take, getD, set, replicate, length-map, length-append}
-use lib.Seq.{take-suc, take-suc-set, length-take-le, set-at}
+use lib.ListN.{length, take, getD, set, length-map}
+use lib.Seq.{take-suc, take-suc-set, length-take-le}
 use Rattle.basics.specs.PermLaws.{perm-sym}
 use Rattle.basics.specs.Distinct.{All}
 use Rattle.basics.specs.DistinctLaws.{all-nil, all-cons, all-append, all-perm}
-use Rattle.slots.specs.Slot.{fieldsIn, nodeOf, slotBytes}
 use Rattle.slots.specs.declared.Slot.{Slot}
 use Rattle.slots.specs.declared.Node as node
 use Rattle.method.specs.Node.{Node}
@@ -18,18 +16,16 @@ use Rattle.rounds.specs.Format.{Format}
 use Rattle.rounds.specs.Round.{insert, join}
 use Rattle.rounds.specs.Nodes.{wordsFormat}
 use Rattle.round_laws.specs.Lists.{insert-perm}
-use Rattle.leaf_nodes.specs.Convert.{toNode, fromNode, fromLink}
+use Rattle.leaf_nodes.specs.Convert.{toNode}
 use Rattle.leaf_nodes.specs.Leaf.{leafFormat}
-use Rattle.calls.specs.Fetch.{Left}
-use Rattle.buckets.specs.Words.{places, wordCount, slotsOf, zeroSlot}
+use Rattle.buckets.specs.Words.{places, wordCount, slotsOf}
 use Rattle.buckets.specs.WordsLaws.{slots-count}
 use Rattle.waiting.specs.Waiting.{wordsFor, nodeIn, InWidths, waitingIn, Holds}
 use Rattle.waiting.specs.WaitingLaws.{waiting-are, holds-them, insert-words}
 use Rattle.state.specs.declared.Place.{Place}
 use Rattle.state.specs.declared.State.{State}
 use Rattle.state.specs.Fit.{placesFrom, noPlace}
-use Rattle.store.specs.Store.{placed, stateLeft}
-use Rattle.stash.specs.Stash.{Loaded, NodesJoined, saved}
+use Rattle.stash.specs.Stash.{Loaded, NodesJoined}
 
 -- ---- the first n slots
 pub waiting-count : (n : ℕ) (words : List ℕ) → length words ≡ wordCount → n ≤ places → length (waitingIn n words) ≡ n
@@ -142,34 +138,3 @@ module _ (n i m : ℕ) (nodes : List node.Node) (d : node.Node) (words now more 
             ∙ sym (join-last leafFormat (map toNode (take i nodes)) next (waitingIn n words))
             ∙ ap (λ (es : List (Node ℕ)). join leafFormat es (waitingIn n words)) (sym next-last);
       }
-
--- ---- save
-waiting-more : (i : ℕ) (words : List ℕ) → length words ≡ wordCount → i < places → waitingIn (i + 1) words ≡ waitingIn i words ++ (nodeIn (getD (slotsOf words) i zeroSlot) ∷ [])
-waiting-more i words sized h =
-    let c = slots-count words sized in
-    rw (add-one i, take-suc (slotsOf words) i zeroSlot (omega arith))
-    (map-append nodeIn (take i (slotsOf words)) (getD (slotsOf words) i zeroSlot ∷ []))
-
-abbrev holding : Node ℕ → Place
-holding n = record { full = true; node = fromNode n }
-
-placed-more : (ns : List (Node ℕ)) (x : Node ℕ) (i : ℕ) → length ns ≡ i → i < places → set (placed ns) i (holding x) ≡ placed (ns ++ (x ∷ []))
-placed-more ns x i l h =
-    let k = places - length (ns ++ (x ∷ [])) in
-    let e : places - length ns ≡ suc k = simp length-append (omega arith) in
-    let m : length (map holding ns) ≡ i = length-map ns holding ∙ l in
-    rw e
-    (set-at (map holding ns) noPlace (replicate k noPlace) (holding x) i m
-    ∙ sym (append-assoc (map holding ns) (holding x ∷ []) (replicate k noPlace))
-    ∙ ap (λ (ps : List Place). ps ++ replicate k noPlace) (sym (map-append holding ns (x ∷ []))))
-
--- Slot number i goes into its place.
-pub saved-more : (i : ℕ) (words : List ℕ) (ps : List Place) (x : Slot) (n : node.Node) → length words ≡ wordCount → i < places → ps ≡ placed (waitingIn i words)
-    → x ≡ getD (slotsOf words) i zeroSlot → n ≡ nodeOf (fieldsIn (slotBytes x)) → set ps i (record { full = true; node = n }) ≡ placed (waitingIn (i + 1) words)
-saved-more i words ps x n sized h e q m =
-    rw (m, q, e, waiting-more i words sized h)
-    (placed-more (waitingIn i words) (nodeIn (getD (slotsOf words) i zeroSlot)) i (waiting-count i words sized (omega arith)) h)
-
--- What is saved is the state that a call leaves.
-pub saved-left : (s : State) (l : Left) → stateLeft s l ≡ saved (s .structure) (s .size) (l .mark) (l .entries) (fromLink (l .root)) (l .waiting)
-saved-left s l = refl

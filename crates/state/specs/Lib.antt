@@ -1,5 +1,7 @@
 pub mod Fit
 pub mod Opening
 pub mod Ticket
+pub mod Fetching
 pub mod FitLaws
 pub mod OpeningLaws
+pub mod FetchingLaws

@@ -32,5 +32,6 @@ pub struct State {
     pub places: [Place; 101],
 }
 
+pub mod fetching;
 pub mod fit;
 pub mod opening;

@@ -5,7 +5,7 @@ use mathlib.Core.List.{[]}
 use mathlib.Core.Bool.{Bool, true, false}
 use lib.ListN.{getD, drop}
 use Rattle.method.specs.Prog.{Prog, done, bind}
-use Rattle.method.specs.Map.{Outcome, start, finish}
+use Rattle.method.specs.Map.{Outcome, Built, start, finish}
 use Rattle.slots.specs.declared.Link as link
 use Rattle.steps.specs.declared.Want as want
 use Rattle.steps.specs.declared.Sub.the-variants.{Stub}
@@ -17,6 +17,7 @@ use Rattle.steps.specs.declared.Wanted.{Wanted}
 use Rattle.steps.specs.declared.Wanted.the-variants.{Done, Fetch}
 use Rattle.steps.specs.declared.Bottom.{Bottom}
 use Rattle.steps.specs.Method.{toLink, toSub, toWant, toAnswer, blank, nodesOf}
+use Rattle.steps.specs.Widths.{wideLink}
 use Rattle.steps.specs.Heights.{LowSub}
 use Rattle.steps.specs.LevelLaws.{weight}
 use Rattle.steps.specs.Resume.{Resumed, missing, resume}
@@ -35,7 +36,7 @@ unfinishedAt w =
     record {
       wanted = Fetch w;
       rotating = false;
-      sub = Stub (w .link);
+      sub = Stub (wideLink (w .link));
       found = 0;
       length = 0;
       at = 0;
@@ -61,7 +62,7 @@ pastFound Done last found entries value h =
     record {
       wanted = Done;
       rotating = true;
-      sub = Stub (getD (h .nodes) last blank .right);
+      sub = Stub (wideLink (getD (h .nodes) last blank .right));
       found = found;
       length = last;
       at = last + 1;
@@ -72,16 +73,17 @@ pastFound (Fetch w) last found entries value h = unfinishedAt w
 
 module _ (key : ℕ) (root : link.Link) (h : Held) where
   -- The way up from there, and what comes of it.
+  abbrev pub wayUp : Bottom → Prog ℕ (Built ℕ)
+  wayUp r = upward (r .rotating) (pathTo key h (start (toLink root)) (r .found) (r .length) (r .length)) (toSub (r .sub)) []
+
   abbrev pub upFrom : Bottom → Prog ℕ (Outcome ℕ)
-  upFrom r =
-      bind (upward (r .rotating) (pathTo key h (start (toLink root)) (r .found) (r .length) (r .length)) (toSub (r .sub)) [])
-      (λ b. done (finish (r .entries) (toAnswer (r .answer)) b))
+  upFrom r = bind (wayUp r) (λ b. done (finish (r .entries) (toAnswer (r .answer)) b))
 
   -- What the way up asks.
   pub record Ready (r : Bottom) : Type 0 where
     pub passed : r .length ≤ r .at
     pub within : r .at ≤ h .count
-    pub low : LowSub 100 (toSub (r .sub))
+    pub low : LowSub 255 (toSub (r .sub))
     pub bare : weight (toSub (r .sub)) ≡ 1
 
   -- The program, on the held nodes, misses that node, or goes up from there.

@@ -117,7 +117,7 @@ module _ (key : ℕ) (root : link.Link) (h : Held) (walks : Walks root h) (f : S
   starts-missing e g =
       record { resumes = spot e ∙ rw g; ready = λ x. let z : _≡_ {A = ℕ} 0 1 = cc in absurd (omega arith) }
 
-  module _ (rotating : Bool) (b : sub.Sub) (entries : ℕ) (a : answer.Answer) (low : LowSub 100 (toSub b)) (bare : weight (toSub b) ≡ 1) {r : Bottom} where
+  module _ (rotating : Bool) (b : sub.Sub) (entries : ℕ) (a : answer.Answer) (low : LowSub 255 (toSub b)) (bare : weight (toSub b) ≡ 1) {r : Bottom} where
     module _ (at : ℕ) (past : d .depth ≤ at) (within : at ≤ h .count) (s : Spot ℕ) where
       starts-at : resume (walking key (toLink root) f) (nodesOf h) ≡ resume (f s) (drop at (nodesOf h))
           → f s ≡ way rotating passes (toSub b) entries (toAnswer a) → r ≡ bottomAt rotating b (d .depth) at entries a
@@ -152,9 +152,9 @@ module _ (key : ℕ) (root : link.Link) (h : Held) (walks : Walks root h) (f : S
   pub hit-within : d .end ≡ Hit → d .depth < h .count
   hit-within e = subst (λ (x : End). Reached key h (start (toLink root)) x (d .depth)) e (down .reached)
 
-  pub hit-low : d .end ≡ Hit → Low 100 (heldAt h (d .depth))
+  pub hit-low : d .end ≡ Hit → Low 255 (heldAt h (d .depth))
   hit-low e =
-      held-low h (d .depth) 100 (walks .held .low) (hit-within e) (omega (arith, walks .held .places, walks .held .few))
+      held-low h (d .depth) 255 (walks .held .low) (hit-within e) (omega (arith, walks .held .places, walks .held .few))
 
 -- ---- a remove that goes past the node with the key
 
@@ -228,7 +228,7 @@ module _ (key : ℕ) (root : link.Link) (h : Held) (walks : Walks root h) (entri
                   passed = omega arith;
                   within = omega (arith, k .1);
                   low =
-                      held-low h (y .last) 100 (walks .held .low) (k .1) (omega (arith, walks .held .places, walks .held .few)) .1;
+                      held-low h (y .last) 255 (walks .held .low) (k .1) (omega (arith, walks .held .places, walks .held .few)) .1;
                   bare = refl;
                 };
           }

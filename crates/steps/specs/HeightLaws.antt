@@ -6,7 +6,7 @@ use Rattle.basics.specs.Choice.{pick}
 use Rattle.method.specs.Node.{Link, Node, child, withChild, linkTo}
 use mathlib.Core.List.{List, [], _∷_, _++_}
 use mathlib.Core.Option.{Option, none, some}
-use Rattle.method.specs.Map.{Step, Sub, stub, top, kid, topOf, linkOf, placed, nearOn, rotate}
+use Rattle.method.specs.Map.{Step, Sub, stub, top, listed, kid, kids, nodesAt, topOf, linkOf, placed, nearOn, rotate}
 use Rattle.steps.specs.Heights.{Low, LowKid, LowSub, Lows}
 
 pub low-more : {T : Type 0} {most more : ℕ} (n : Node T) → Low most n → most ≤ more → Low more n
@@ -64,6 +64,21 @@ module _ {T : Type 0} (most : ℕ) where
   pub lows-append : (ns : List (Node T)) (n : Node T) → Lows most ns → Low most n → Lows most (ns ++ (n ∷ []))
   lows-append [] n h k = (k, tt)
   lows-append (m ∷ ns) n h k = (h .0, lows-append ns n (h .1) k)
+
+  pub lows-both : (ns ms : List (Node T)) → Lows most ns → Lows most ms → Lows most (ns ++ ms)
+  lows-both [] ms h k = k
+  lows-both (n ∷ ns) ms h k = (h .0, lows-both ns ms (h .1) k)
+
+  pub lows-listed : (k : Option (Node T)) → LowKid most k → Lows most (listed k)
+  lows-listed none h = tt
+  lows-listed (some n) h = (h, tt)
+
+  pub lows-kids : (b : Sub T) → LowSub most b → Lows most (kids b)
+  lows-kids b h =
+      lows-both (listed (kid true b)) (listed (kid false b)) (lows-listed (kid true b) (low-kid true b h)) (lows-listed (kid false b) (low-kid false b h))
+
+  pub lows-at : (b : Sub T) → LowSub most b → Lows most (nodesAt b)
+  lows-at b h = lows-both (kids b) (listed (topOf b)) (lows-kids b h) (lows-listed (topOf b) (low-top b h))
 
 module _ {T : Type 0} (most more : ℕ) (larger : most ≤ more) where
   pub low-kid-more : (k : Option (Node T)) → LowKid most k → LowKid more k

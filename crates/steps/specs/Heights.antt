@@ -1,4 +1,4 @@
--- Bounds of the heights in nodes: what the code needs so that no height goes beyond a byte.
+-- Bounds of the heights in nodes: what the code needs so that no height goes beyond the width that it is computed in.
 use Prim.Native.Nat.{ℕ, _≤_}
 use mathlib.Core.List.{List, [], _∷_}
 use mathlib.Core.Option.{Option, none, some}

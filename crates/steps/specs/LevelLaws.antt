@@ -1,10 +1,10 @@
 -- A level of the way up keeps heights low and loses room for at most one node more: what the code needs so that heights
--- stay in a byte and the nodes that are done with fit their array.
+-- have room where they are computed and the nodes that are done with fit their array.
 use Prim.Native.Nat.{ℕ, suc, _+_, _≤_}
 use native.Mathlib.Omega.{arith}
 use mathlib.Core.Path.{_≡_}
 use mathlib.Core.Bool.{Bool, true, false, not, Bool·beq}
-use mathlib.Core.List.{List, [], _∷_}
+use mathlib.Core.List.{List, [], _∷_, _++_}
 use mathlib.Core.Option.{Option, none, some}
 use lib.Dec.{leb}
 use lib.ListN.{length, length-append}
@@ -13,7 +13,7 @@ use Rattle.method.specs.Node.{Node, child}
 use Rattle.method.specs.Prog.{Want, done}
 use Rattle.method.specs.Map.{Step, Sub, stub, Built, listed, topOf, kid, kids, nodesAt, seat, beside, below, stepAt, tall, rotate, opened, single, double, turn, placed, rest, nearOn, othersOf, raise}
 use Rattle.steps.specs.Heights.{Low, LowKid, LowSub, Lows}
-use Rattle.steps.specs.HeightLaws.{low-more, low-kid, low-top, low-down, low-up, low-placed, low-near, low-kid-more}
+use Rattle.steps.specs.HeightLaws.{low-more, low-kid, low-top, low-down, low-up, low-placed, low-near, low-kid-more, lows-more, lows-both, lows-listed, lows-kids, lows-at}
 use Rattle.steps.specs.RotationLaws.{double-as}
 use Rattle.steps.specs.Resume.{resume, Ends}
 use Rattle.steps.specs.ResumeLaws.{ends-bind, ends-done, ends-pick, ends-more}
@@ -26,6 +26,8 @@ module _ {T : Type 0} where
   -- What is asked of a level that comes to its end: low heights, and how many nodes there are in all.
   pub record Kept (most total : ℕ) (r : Built T) (ns : List (Node T)) : Type 0 where
     pub low : LowSub most (r .sub)
+    pub listed-low : Lows most (r .out)
+    pub left-low : Lows most ns
     pub room : length (r .out) + weight (r .sub) + length ns ≤ total
 
   module _ (most : ℕ) where
@@ -72,11 +74,17 @@ module _ {T : Type 0} where
   abbrev total : Sub T → List (Node T) → List (Node T) → ℕ
   total near others ns = suc (length others + (length (kids near) + length (listed (topOf near))) + length ns)
 
-  module _ (most : ℕ) (p : Step T) (s : Bool) (n : Node T) (near : Sub T) (others : List (Node T)) (low : Low (suc most) n) (low-near : LowSub most near) where
-    single-kept : (c : Node T) (ns end : List (Node T)) → Low most c → length (listed (topOf near)) + length ns ≡ suc (length end)
+  module _ (most : ℕ) (p : Step T) (s : Bool) (n : Node T) (near : Sub T) (others : List (Node T)) (low : Low (suc most) n) (low-near : LowSub most near) (low-others : Lows most others) where
+    -- A child at hand and the others, as they are done with.
+    low-out : (s : Bool) → Lows (2 + most) (listed (kid s near) ++ others)
+    low-out s =
+        lows-more most (2 + most) (omega arith) (listed (kid s near) ++ others)
+        (lows-both most (listed (kid s near)) others (lows-listed most (kid s near) (low-kid most s near low-near)) low-others)
+
+    single-kept : (c : Node T) (ns end : List (Node T)) → Low most c → Lows most end → length (listed (topOf near)) + length ns ≡ suc (length end)
         → Kept (2 + most) (total near others ns) (single s n c (kid s near) (kid (not s) near) others) end
     unfolding single
-    single-kept c ns end h e =
+    single-kept c ns end h l e =
         let d = low-more {more = suc most} c h (omega arith) in
         record {
           low =
@@ -84,6 +92,8 @@ module _ {T : Type 0} where
               (low-more (rotate s n c .up) (low-up {most = suc most} s n c low d) (omega arith))
               (low-kid-more most (2 + most) (omega arith) (kid s near) (low-kid most s near low-near))
               (low-more (rotate s n c .down) (low-down {most = suc most} s n c low d) (omega arith));
+          listed-low = low-out (not s);
+          left-low = lows-more most (2 + most) (omega arith) end l;
           room =
               omega (
                 arith,
@@ -93,10 +103,10 @@ module _ {T : Type 0} where
               );
         }
 
-    double-kept : (c g : Node T) (ns mid end : List (Node T)) → Low most c → Low most g
+    double-kept : (c g : Node T) (ns mid end : List (Node T)) → Low most c → Low most g → Lows most end
         → length (listed (topOf near)) + length ns ≡ suc (length mid) → length (listed (kid (not s) near)) + length mid ≡ suc (length end)
         → Kept (2 + most) (total near others ns) (double s n c g (kid s near) others) end
-    double-kept c g ns mid end h k e f =
+    double-kept c g ns mid end h k l e f =
         let r = rotate (not s) c g in
         let u = low-up {most = most} (not s) c g h k in
         rw (double-as s n c g (kid s near) others)
@@ -106,6 +116,8 @@ module _ {T : Type 0} where
               (low-more (rotate s n (r .up) .up) (low-up {most = suc most} s n (r .up) low u) (omega arith))
               (low-more (r .down) (low-down {most = most} (not s) c g h k) (omega arith))
               (low-more (rotate s n (r .up) .down) (low-down {most = suc most} s n (r .up) low u) (omega arith));
+          listed-low = low-out s;
+          left-low = lows-more most (2 + most) (omega arith) end l;
           room =
               omega (
                 arith,
@@ -125,31 +137,40 @@ module _ {T : Type 0} where
         (λ c mid h l e.
         ends-pick K (leb (child (not s) c .height) (child s c .height))
         (done (single s n c (kid s near) (kid (not s) near) others)) _ mid
-        (ends-done K (single s n c (kid s near) (kid (not s) near) others) mid (single-kept c ns mid h e))
+        (ends-done K (single s n c (kid s near) (kid (not s) near) others) mid (single-kept c ns mid h l e))
         (ends-bind K (opened (inward c) (kid (not s) near)) _ mid
         (ends-opened most _ (inward c) (kid (not s) near) mid (low-kid most (not s) near low-near) l
         (λ g end k m f.
-        ends-done K (double s n c g (kid s near) others) end (double-kept c g ns mid end h k e f))))))
+        ends-done K (double s n c g (kid s near) others) end (double-kept c g ns mid end h k m e f))))))
 
   -- ---- a level
 
   module _ (most : ℕ) (p : Step T) (b : Sub T) (low : Low most (p .node)) (low-sub : LowSub most b) where
-    pub rest-kept : (ns : List (Node T)) → Kept (2 + most) (suc (weight b + length ns)) (rest p b) ns
-    rest-kept ns =
+    pub rest-kept : (ns : List (Node T)) → Lows most ns → Kept (2 + most) (suc (weight b + length ns)) (rest p b) ns
+    rest-kept ns lows =
         record {
           low =
               low-seat (2 + most) (p .way) (placed p b) (topOf b) none
               (low-more (placed p b) (low-placed most p b low low-sub) (omega arith))
               (low-kid-more most (2 + most) (omega arith) (topOf b) (low-top most b low-sub)) tt;
+          listed-low = lows-more most (2 + most) (omega arith) (kids b) (lows-kids most b low-sub);
+          left-low = lows-more most (2 + most) (omega arith) ns lows;
           room = omega (arith, weight-seat (p .way) (placed p b) (topOf b) none, kid-size (topOf b));
         }
+
+    low-others : (s : Bool) → Lows most (othersOf p b s)
+    low-others s = go (Bool·beq s (p .way))
+      where
+        go : (t : Bool) → Lows most (pick t [] (nodesAt b))
+        go true = tt
+        go false = lows-at most b low-sub
 
     turned-kept : (s : Bool) (ns : List (Node T)) → Lows most ns
         → Ends (Kept (2 + most) (suc (weight b + length ns))) (resume (turn p s (placed p b) (nearOn p b s) (othersOf p b s)) ns)
     turned-kept s ns lows =
-        ends-more (λ r end k. record { low = k .low; room = omega (arith, k .room, near-size p b s) })
+        ends-more (λ r end k. record { low = k .low; listed-low = k .listed-low; left-low = k .left-low; room = omega (arith, k .room, near-size p b s) })
         (resume (turn p s (placed p b) (nearOn p b s) (othersOf p b s)) ns)
-        (turn-kept most p s (placed p b) (nearOn p b s) (othersOf p b s) (low-placed most p b low low-sub) (low-near most p b s low low-sub) ns lows)
+        (turn-kept most p s (placed p b) (nearOn p b s) (othersOf p b s) (low-placed most p b low low-sub) (low-near most p b s low low-sub) (low-others s) ns lows)
 
     pub raise-kept : (ns : List (Node T)) → Lows most ns → Ends (Kept (2 + most) (suc (weight b + length ns))) (resume (raise p b) ns)
     unfolding raise
@@ -159,4 +180,4 @@ module _ {T : Type 0} where
         (turned-kept true ns lows)
         (ends-pick K (tall false (placed p b)) (turn p false (placed p b) (nearOn p b false) (othersOf p b false)) _ ns
         (turned-kept false ns lows)
-        (ends-done K (rest p b) ns (rest-kept ns)))
+        (ends-done K (rest p b) ns (rest-kept ns lows)))

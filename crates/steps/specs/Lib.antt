@@ -1,10 +1,12 @@
 pub mod Method
+pub mod Widths
 pub mod Balance
 pub mod BalanceLaws
 pub mod Resume
 pub mod ResumeLaws
 pub mod Heights
 pub mod HeightLaws
+pub mod ByteLaws
 pub mod RotationLaws
 pub mod Raise
 pub mod HeldLaws
@@ -27,3 +29,5 @@ pub mod Moved
 pub mod MoveLaws
 pub mod FetchTestLaws
 pub mod WantLaws
+pub mod GrowthLaws
+pub mod WidthLaws

@@ -53,7 +53,7 @@ module _ (h : Held) (w₀ : Want ℕ) (ways : ℕ → Bool) (found : ℕ) where
 pub lowers-from : (h : Held) (found : ℕ) {w v : Want ℕ} {fuel : ℕ} {r : search.Lowest} → w ≡ v → LowersTo h found w fuel r → LowersTo h found v fuel r
 lowers-from h found {fuel = fuel} {r = r} e = subst (λ (u : Want ℕ). LowersTo h found u fuel r) e
 
-module _ (h : Held) (found : ℕ) (w : Want ℕ) (fuel : ℕ) (from : HeldFrom 100 h 0) where
+module _ (h : Held) (found : ℕ) (w : Want ℕ) (fuel : ℕ) (from : HeldFrom 255 h 0) where
   pub lower-start : found < h .count → Lowering h found w fuel w fuel (found + 1)
   lower-start k =
       rw (add-one found)

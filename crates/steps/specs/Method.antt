@@ -14,6 +14,8 @@ use Rattle.steps.specs.declared.From.the-variants.{Root, Side}
 use Rattle.steps.specs.declared.Bound.{Bound}
 use Rattle.steps.specs.declared.Bound.the-variants.{Open, Key}
 use Rattle.steps.specs.declared.Want as wanted
+use Rattle.steps.specs.declared.WideLink.{WideLink}
+use Rattle.steps.specs.declared.WideNode.{WideNode}
 use Rattle.steps.specs.declared.Kid.{Kid}
 use Rattle.steps.specs.declared.Kid.the-variants.{Away, Here}
 use Rattle.steps.specs.declared.Sub as sub
@@ -36,6 +38,13 @@ toLink l = record { height = l .height; key = l .key; tag = l .tag }
 abbrev pub toNode : node.Node → Node ℕ
 toNode n =
     record { key = n .key; value = n .value; tag = n .tag; left = toLink (n .left); right = toLink (n .right) }
+
+abbrev pub toWideLink : WideLink → Link ℕ
+toWideLink l = record { height = l .height; key = l .key; tag = l .tag }
+
+abbrev pub toWideNode : WideNode → Node ℕ
+toWideNode n =
+    record { key = n .key; value = n .value; tag = n .tag; left = toWideLink (n .left); right = toWideLink (n .right) }
 
 -- What an unused place of an array holds.
 abbrev pub blank : node.Node
@@ -66,11 +75,11 @@ toWant w =
 
 abbrev pub toKid : Kid → Option (Node ℕ)
 toKid Away = none
-toKid (Here n) = some (toNode n)
+toKid (Here n) = some (toWideNode n)
 
 abbrev pub toSub : sub.Sub → Sub ℕ
-toSub (Stub l) = stub (toLink l)
-toSub (Top n l r) = top (toNode n) (toKid l) (toKid r)
+toSub (Stub l) = stub (toWideLink l)
+toSub (Top n l r) = top (toWideNode n) (toKid l) (toKid r)
 
 abbrev pub toStep : step.Step → Step ℕ
 toStep p =
@@ -83,7 +92,7 @@ toStep p =
     }
 
 abbrev pub toRotated : rotated.Rotated → Rotated ℕ
-toRotated r = record { up = toNode (r .up); down = toNode (r .down) }
+toRotated r = record { up = toWideNode (r .up); down = toWideNode (r .down) }
 
 -- What a ticket asks, and of which structure.
 abbrev pub structureOf : op.Op → Structure

@@ -15,7 +15,8 @@ use Rattle.steps.specs.declared.Op.{Op}
 use Rattle.steps.specs.declared.Op.the-variants.{Get, Put, Remove, Push, Pop}
 use Rattle.steps.specs.declared.Bottom.{Bottom}
 use Rattle.steps.specs.Method.{toOp, wantedIn, outcomeIn, nodesOf}
-use Rattle.steps.specs.Resume.{resume}
+use Rattle.steps.specs.Widths.{byteWanted, byteOutcome}
+use Rattle.steps.specs.Resume.{Resumed, resume}
 use Rattle.steps.specs.Bottom.{StartsUp}
 use Rattle.steps.specs.Outcome.{wantedOf, outcomeOf, fromBottom}
 use Rattle.steps.specs.OutcomeLaws.{wanted-after, outcome-after}
@@ -54,16 +55,23 @@ module _ {p q : Prog ℕ (Outcome ℕ)} (e : p ≡ q) (h : Held) where
   wanted-by f = f ∙ sym (wanted-after q (nodesOf h)) ∙ ap (λ (x : Prog ℕ (Outcome ℕ)). wantedIn (after x (nodesOf h))) (sym e)
 
   module _ (l : Link ℕ) (entries : ℕ) where
-    pub outcome-by : {o : Outcome ℕ} → o ≡ outcomeOf l entries (resume q (nodesOf h)) → o ≡ outcomeIn l entries (after p (nodesOf h))
+    pub outcome-by : {o : Outcome ℕ} → o ≡ byteOutcome (outcomeOf l entries (resume q (nodesOf h))) → o ≡ byteOutcome (outcomeIn l entries (after p (nodesOf h)))
     outcome-by f =
-        f ∙ sym (outcome-after l entries q (nodesOf h)) ∙ ap (λ (x : Prog ℕ (Outcome ℕ)). outcomeIn l entries (after x (nodesOf h))) (sym e)
+        f
+        ∙ ap byteOutcome
+        (sym (outcome-after l entries q (nodesOf h)) ∙ ap (λ (x : Prog ℕ (Outcome ℕ)). outcomeIn l entries (after x (nodesOf h))) (sym e))
 
   module _ (key : ℕ) (root : link.Link) (b : Bottom) (starts : StartsUp key root h q b) where
-    pub wanted-up : {w : Option (Want ℕ)} → w ≡ wantedOf (fromBottom key root h b) → w ≡ wantedIn (after p (nodesOf h))
-    wanted-up f = wanted-by (f ∙ ap wantedOf (sym (starts .resumes)))
+    -- What a program wants is in a slot's widths.
+    pub wanted-up : {w : Option (Want ℕ)} → byteWanted (wantedIn (after p (nodesOf h))) ≡ wantedIn (after p (nodesOf h))
+        → w ≡ byteWanted (wantedOf (fromBottom key root h b)) → w ≡ wantedIn (after p (nodesOf h))
+    wanted-up fits f =
+        f ∙ ap byteWanted (wanted-by (ap wantedOf (sym (starts .resumes)))) ∙ fits
 
-    pub outcome-up : (l : Link ℕ) (entries : ℕ) {o : Outcome ℕ} → o ≡ outcomeOf l entries (fromBottom key root h b) → o ≡ outcomeIn l entries (after p (nodesOf h))
-    outcome-up l entries f = outcome-by l entries (f ∙ ap (outcomeOf l entries) (sym (starts .resumes)))
+    pub outcome-up : (l : Link ℕ) (entries : ℕ) {o : Outcome ℕ} → o ≡ byteOutcome (outcomeOf l entries (fromBottom key root h b))
+        → o ≡ byteOutcome (outcomeIn l entries (after p (nodesOf h)))
+    outcome-up l entries f =
+        outcome-by l entries (f ∙ ap (λ (x : Resumed ℕ (Outcome ℕ)). byteOutcome (outcomeOf l entries x)) (sym (starts .resumes)))
 
 pub push-wants-none : (value tag entries limit : ℕ) (l : Link ℕ) (h : Held) → none ≡ wantedOf (resume (pushProg 0 value tag entries limit l) (nodesOf h))
 push-wants-none value tag entries limit l h = go (decLt entries limit)

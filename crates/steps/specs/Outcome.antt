@@ -12,17 +12,16 @@ use Rattle.steps.specs.declared.Held.{Held}
 use Rattle.steps.specs.declared.Bottom.{Bottom}
 use Rattle.steps.specs.declared.Outcome as outcome
 use Rattle.steps.specs.declared.climb.Climbed.{Climbed}
-use Rattle.steps.specs.Method.{toSub, toAnswer, nothing, nodesOf}
+use Rattle.steps.specs.Method.{toSub, nothing, nodesOf}
 use Rattle.steps.specs.Heights.{LowSub, Lows}
 use Rattle.steps.specs.LevelLaws.{weight}
-use Rattle.steps.specs.Resume.{Resumed, missing, finished, resume, follow}
+use Rattle.steps.specs.Resume.{Resumed, missing, finished, resume}
 use Rattle.steps.specs.Raise.{resumedAs}
-use Rattle.steps.specs.Climb.{climbedOf}
-use Rattle.steps.specs.Bottom.{unlessMissing, upFrom}
-use Rattle.method.specs.Map as map
+use Rattle.steps.specs.Climb.{climbedOf, byteClimb}
+use Rattle.steps.specs.Bottom.{unlessMissing, wayUp, upFrom}
 
--- What the operations ask of their callers: the held nodes fit, and no height is so large that a byte would not hold what
--- rotations make of it.
+-- Held nodes and a root link so low that a byte holds what rotations make of their heights: then the step in a slot's
+-- widths is the method's own (see WidthLaws). Those of a store that fits are.
 pub record LowHeld (root : link.Link) (h : Held) : Type 0 where
   pub few : h .count ≤ 33
   pub low : Lows 100 (nodesOf h)
@@ -48,12 +47,12 @@ abbrev pub fromBottom : ℕ → link.Link → Held → Bottom → Resumed ℕ (O
 fromBottom key root h b = unlessMissing (b .wanted) (resume (upFrom key root h b) (drop (b .at) (nodesOf h)))
 
 pub record RoomToFinish (c : Climbed) : Type 0 where
-  pub places : length (c .list .nodes) ≡ 34
-  pub room : c .list .count + weight (toSub (c .sub)) ≤ 34
-  pub low : LowSub 250 (toSub (c .sub))
+  pub places : length (c .nodes) ≡ 34
+  pub room : c .count + weight (toSub (c .sub)) ≤ 34
+  pub low : LowSub 65530 (toSub (c .sub))
 
+-- The climb over the path to the bottom, in a slot's widths.
 pub record Rises (key : ℕ) (root : link.Link) (h : Held) (b : Bottom) (r : Climbed) : Type 0 where
-  pub resumes : resume (upFrom key root h b) (drop (b .at) (nodesOf h))
-      ≡ follow (resumedAs (r .wanted) (climbedOf r) (drop (r .next) (nodesOf h)))
-      (λ x ns. finished (map.finish (b .entries) (toAnswer (b .answer)) x) ns)
+  pub resumes : byteClimb (resume (wayUp key root h b) (drop (b .at) (nodesOf h)))
+      ≡ resumedAs (r .wanted) (climbedOf r) (drop (r .next) (nodesOf h))
   pub room : RoomToFinish r

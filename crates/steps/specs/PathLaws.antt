@@ -50,19 +50,19 @@ path-more : (key : ℕ) (h : Held) (w : Want ℕ) (found last i : ℕ)
 unfolding pathTo
 path-more key h w found last i = refl
 
-low-stored : (steps : List step.Step) (i : ℕ) (v : step.Step) → i < length steps → Low 100 (toNode (v .node))
-    → ((j : ℕ) → j < i → Low 100 (toNode (stepOf steps j .node)))
-    → (j : ℕ) → j < suc i → Low 100 (toNode (stepOf (set steps i v) j .node))
+low-stored : (steps : List step.Step) (i : ℕ) (v : step.Step) → i < length steps → Low 255 (toNode (v .node))
+    → ((j : ℕ) → j < i → Low 255 (toNode (stepOf steps j .node)))
+    → (j : ℕ) → j < suc i → Low 255 (toNode (stepOf (set steps i v) j .node))
 low-stored steps i v h l f j k = go (decLt j i)
   where
-    go : Dec (j < i) → Low 100 (toNode (stepOf (set steps i v) j .node))
+    go : Dec (j < i) → Low 255 (toNode (stepOf (set steps i v) j .node))
     go (yes m) = rw (getD-set-other steps i j v blankStep (λ e. omega arith)) (f j m)
     go (no m) = let e : j ≡ i = omega arith in rw (e, getD-set-same steps i v blankStep h) l
 
 pub leads-from : (key : ℕ) (h : Held) (found last : ℕ) {w v : Want ℕ} {r : Path} → w ≡ v → LeadsTo key h w found last r → LeadsTo key h v found last r
 leads-from key h found last {r = r} e = subst (λ (u : Want ℕ). LeadsTo key h u found last r) e
 
-module _ (key : ℕ) (h : Held) (w : Want ℕ) (found last : ℕ) (from : HeldFrom 100 h 0) (enough : last ≤ h .count) where
+module _ (key : ℕ) (h : Held) (w : Want ℕ) (found last : ℕ) (from : HeldFrom 255 h 0) (enough : last ≤ h .count) where
   few : h .count ≤ length (h .nodes)
   few = omega (arith, from .places, from .few)
 
@@ -77,12 +77,12 @@ module _ (key : ℕ) (h : Held) (w : Want ℕ) (found last : ℕ) (from : HeldFr
         low = λ j k. absurd (omega arith);
       }
 
-  low-step : (i : ℕ) → i < last → Low 100 (stepTo key h w found last i .node)
+  low-step : (i : ℕ) → i < last → Low 255 (stepTo key h w found last i .node)
   low-step i k = go (eqb i found)
     where
-      go : (t : Bool) → Low 100 (pick t (swapped (passed h w (waysTo key h w found) i) (heldAt h last)) (passed h w (waysTo key h w found) i) .node)
-      go true = held-low h i 100 (from .low) (omega arith) few
-      go false = held-low h i 100 (from .low) (omega arith) few
+      go : (t : Bool) → Low 255 (pick t (swapped (passed h w (waysTo key h w found) i) (heldAt h last)) (passed h w (waysTo key h w found) i) .node)
+      go true = held-low h i 255 (from .low) (omega arith) few
+      go false = held-low h i 255 (from .low) (omega arith) few
 
   module _ {steps : List step.Step} {v : Want ℕ} {i : ℕ} (now : Leading key h w found last steps v i) where
     pub lead-turn : (p : step.Step) {u : Want ℕ} → i < last → toStep p ≡ stepTo key h w found last i → u ≡ below (passed h w (waysTo key h w found) i)
@@ -97,7 +97,7 @@ module _ (key : ℕ) (h : Held) (w : Want ℕ) (found last : ℕ) (from : HeldFr
           wanted = f ∙ sym (want-next h w (waysTo key h w found) i);
           within = omega arith;
           places = length-set steps i p ∙ now .places;
-          low = low-stored steps i p in-array (subst (λ (s : Step ℕ). Low 100 (s .node)) (sym e) (low-step i k)) (now .low);
+          low = low-stored steps i p in-array (subst (λ (s : Step ℕ). Low 255 (s .node)) (sym e) (low-step i k)) (now .low);
         }
 
     -- The step as the code puts it together.

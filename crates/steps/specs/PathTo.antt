@@ -36,7 +36,7 @@ module _ (key : ℕ) (h : Held) (w : Want ℕ) (found : ℕ) where
     pub is : pathOf r ≡ pathTo last last
     pub counted : r .count ≡ last
     pub places : length (r .steps) ≡ 33
-    pub low : (i : ℕ) → i < r .count → Low 100 (toNode (stepOf (r .steps) i .node))
+    pub low : (i : ℕ) → i < r .count → Low 255 (toNode (stepOf (r .steps) i .node))
 
   -- The first i steps are laid out.
   pub record Leading (last : ℕ) (steps : List step.Step) (v : Want ℕ) (i : ℕ) : Type 0 where
@@ -44,4 +44,4 @@ module _ (key : ℕ) (h : Held) (w : Want ℕ) (found : ℕ) where
     pub wanted : v ≡ wantAt h w waysTo i
     pub within : i ≤ last
     pub places : length steps ≡ 33
-    pub low : (j : ℕ) → j < i → Low 100 (toNode (stepOf steps j .node))
+    pub low : (j : ℕ) → j < i → Low 255 (toNode (stepOf steps j .node))

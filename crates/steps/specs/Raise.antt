@@ -17,6 +17,7 @@ use Rattle.steps.specs.declared.raise.Opened.{Opened}
 use Rattle.steps.specs.declared.raise.Others.{Others}
 use Rattle.steps.specs.declared.raise.Raised.{Raised}
 use Rattle.steps.specs.Method.{toKid, toSub, toWant, nodesOf}
+use Rattle.steps.specs.Widths.{byteWant}
 use Rattle.steps.specs.Heights.{LowKid, Lows}
 use Rattle.steps.specs.Resume.{Resumed, missing, finished, resume}
 
@@ -35,7 +36,7 @@ openedAs w (some n) ns = finished n ns
 pub record Opens (k : Option (Node ℕ)) (h : Held) (next : ℕ) (r : Opened) : Type 0 where
   pub resumes : (w : Want ℕ) → resume (opened w k) (drop next (nodesOf h)) ≡ openedAs w (toKid (r .node)) (drop (r .next) (nodesOf h))
   pub within : r .next ≤ h .count
-  pub low : LowKid 250 (toKid (r .node))
+  pub low : LowKid 65530 (toKid (r .node))
 
 -- The nodes that are done with.
 abbrev pub listOf : Others → List (Node ℕ)
@@ -49,9 +50,14 @@ abbrev pub resumedAs : {A : Type 0} → Wanted → A → List (Node ℕ) → Res
 resumedAs Done a ns = finished a ns
 resumedAs (Fetch w) a ns = missing (toWant w)
 
+-- The node that is missing, in a slot's widths.
+abbrev pub byteMissing : {A : Type 0} → Resumed ℕ A → Resumed ℕ A
+byteMissing (missing w) = missing (byteWant w)
+byteMissing (finished a ns) = finished a ns
+
 -- The code's result is what the program comes to on the held nodes from `next` on.
 pub record Raises (p : Prog ℕ (Built ℕ)) (h : Held) (next : ℕ) (r : Raised) : Type 0 where
-  pub resumes : resume p (drop next (nodesOf h)) ≡ resumedAs (r .wanted) (builtOf r) (drop (r .next) (nodesOf h))
+  pub resumes : byteMissing (resume p (drop next (nodesOf h))) ≡ resumedAs (r .wanted) (builtOf r) (drop (r .next) (nodesOf h))
   pub within : r .next ≤ h .count
 
 -- A rotation where the child c on the tall side s is at hand.

@@ -2,7 +2,7 @@
 use Prim.Native.Nat.{ℕ, suc, _+_, _≤_, _<_}
 use native.Mathlib.Omega.{arith}
 use native.Mathlib.Numerals.{add-one}
-use mathlib.Core.Path.{_≡_, sym, _∙_, ap, subst}
+use mathlib.Core.Path.{_≡_, refl, sym, _∙_, ap, subst}
 use mathlib.Core.Bool.{Bool, true, false, not}
 use mathlib.Core.List.{List, [], _++_, append-nil}
 use mathlib.Core.Option.{Option, none, some}
@@ -10,7 +10,7 @@ use lib.ListN.{length, getD, drop}
 use Rattle.method.specs.Node.{Link, Node, child}
 use Rattle.method.specs.Prog.{Want, Prog, done, want}
 use Rattle.method.specs.Map.{Step, Sub, Built, listed, kid, topOf, beside, below, stepAt, tall, opened, single, double, turn, placed, rest, nearOn, othersOf, seat, raise}
-use Rattle.slots.specs.declared.Node as node
+use Rattle.steps.specs.declared.WideNode.{WideNode}
 use Rattle.steps.specs.declared.Sub as sub
 use Rattle.steps.specs.declared.Want as want
 use Rattle.steps.specs.declared.Wanted.the-variants.{Done, Fetch}
@@ -20,28 +20,29 @@ use Rattle.steps.specs.declared.raise.Opened.{Opened}
 use Rattle.steps.specs.declared.Kid.{Kid}
 use Rattle.steps.specs.declared.Kid.the-variants.{Away, Here}
 use Rattle.steps.specs.declared.Held.{Held}
-use Rattle.steps.specs.Method.{toNode, toKid, toSub, toWant, blank, nodesOf}
+use Rattle.steps.specs.Method.{toNode, toWideNode, toKid, toSub, toWant, blank, nodesOf}
+use Rattle.steps.specs.Widths.{byteLink, byteNode, byteWant, wideNode}
 use Rattle.steps.specs.Heights.{Low}
 use Rattle.steps.specs.HeldLaws.{held-next, held-none, held-low}
 use Rattle.steps.specs.Balance.{leansOut}
 use Rattle.steps.specs.Resume.{resume, finished, follow}
 use Rattle.steps.specs.ResumeLaws.{resume-done, resume-want, resume-missing, resume-bind, resume-map}
-use Rattle.steps.specs.Raise.{HeldFrom, Opens, openedAs, listOf, builtOf, Raises, turnOver}
+use Rattle.steps.specs.Raise.{HeldFrom, Opens, openedAs, listOf, builtOf, byteMissing, Raises, turnOver}
 
 -- ---- opening
 
-module _ (h : Held) (next : ℕ) (from : HeldFrom 250 h next) where
-  pub opens-here : (n : node.Node) → Low 250 (toNode n) → Opens (some (toNode n)) h next (record { node = Here n; next = next })
+module _ (h : Held) (next : ℕ) (from : HeldFrom 65530 h next) where
+  pub opens-here : (n : WideNode) → Low 65530 (toWideNode n) → Opens (some (toWideNode n)) h next (record { node = Here n; next = next })
   opens-here n low =
-      record { resumes = λ w. resume-done (toNode n) (drop next (nodesOf h)); within = from .within; low = low }
+      record { resumes = λ w. resume-done (toWideNode n) (drop next (nodesOf h)); within = from .within; low = low }
 
-  pub opens-next : next < h .count → Opens none h next (record { node = Here (getD (h .nodes) next blank); next = next + 1 })
+  pub opens-next : next < h .count → Opens none h next (record { node = Here (wideNode (getD (h .nodes) next blank)); next = next + 1 })
   opens-next k =
       let few : h .count ≤ length (h .nodes) = omega (arith, from .places, from .few) in
       record {
         resumes = λ w. rw (held-next h next k few, add-one) (resume-want w done (toNode (getD (h .nodes) next blank)) (drop (suc next) (nodesOf h)) ∙ resume-done (toNode (getD (h .nodes) next blank)) (drop (suc next) (nodesOf h)));
         within = omega arith;
-        low = held-low h next 250 (from .low) k few;
+        low = held-low h next 65530 (from .low) k few;
       }
 
   pub opens-none : h .count ≤ next → Opens none h next (record { node = Away; next = next })
@@ -55,11 +56,19 @@ module _ (h : Held) (next : ℕ) (from : HeldFrom 250 h next) where
 
 -- ---- a rotation
 
--- The inner child, as a wanted node, from one part after the other.
-pub inward-is : (p : Step ℕ) (s : Bool) (n c : Node ℕ) {l : Link ℕ} {v w : Want ℕ} {q : Step ℕ}
-    → l ≡ child s n → v ≡ beside p s l → q ≡ stepAt v c (not s) → w ≡ below q
-    → w ≡ below (stepAt (beside p s (child s n)) c (not s))
-inward-is p s n c e f g h = h ∙ ap below (g ∙ ap (λ (u : Want ℕ). stepAt u c (not s)) (f ∙ ap (beside p s) e))
+-- The child on a side, and its inner child, as wanted nodes, from one part after the other.
+module _ (p : Step ℕ) (s : Bool) (n : Node ℕ) where
+  pub child-is : {l k : Link ℕ} {w : Want ℕ} → l ≡ child s n → k ≡ byteLink l → w ≡ beside p s k → w ≡ byteWant (beside p s (child s n))
+  child-is e f g = g ∙ ap (beside p s) (f ∙ ap byteLink e)
+
+  pub inward-is : (c : Node ℕ) {v w : Want ℕ} {m : Node ℕ} {q : Step ℕ}
+      → v ≡ byteWant (beside p s (child s n)) → m ≡ byteNode c → q ≡ stepAt v m (not s) → w ≡ below q
+      → w ≡ byteWant (below (stepAt (beside p s (child s n)) c (not s)))
+  inward-is c e f g h = h ∙ ap below (g ∙ rw (e, f)) ∙ go (not s)
+    where
+      go : (t : Bool) → below (stepAt (byteWant (beside p s (child s n))) (byteNode c) t) ≡ byteWant (below (stepAt (beside p s (child s n)) c t))
+      go true = refl
+      go false = refl
 
 module _ (p : Step ℕ) (s : Bool) (n c : Node ℕ) (near : Sub ℕ) (others : List (Node ℕ)) where
   abbrev inward : Want ℕ
@@ -83,7 +92,7 @@ module _ (p : Step ℕ) (s : Bool) (n c : Node ℕ) (near : Sub ℕ) (others : O
       (record { wanted = Done; sub = b; aside = inner; others = others; next = next })
   raises-single i e q k =
       record {
-        resumes = turn-single p s n c near (listOf others) (drop next (nodesOf h)) e ∙ rw (q, i);
+        resumes = ap (λ x. byteMissing x) (turn-single p s n c near (listOf others) (drop next (nodesOf h)) e) ∙ rw (q, i);
         within = k;
       }
 
@@ -96,16 +105,16 @@ module _ (p : Step ℕ) (s : Bool) (n c : Node ℕ) (near : Sub ℕ) (others : O
         ∙ rw (opens .resumes (inward p s n c near (listOf others)))
 
     pub raises-inward : {w : want.Want} {r : Raised} → toKid (o .node) ≡ none
-        → toWant w ≡ below (stepAt (beside p s (child s n)) c (not s)) → r .wanted ≡ Fetch w → r .next ≡ next → next ≤ h .count
+        → toWant w ≡ byteWant (below (stepAt (beside p s (child s n)) c (not s))) → r .wanted ≡ Fetch w → r .next ≡ next → next ≤ h .count
         → Raises (turnOver p s n c near (listOf others)) h next r
     raises-inward q u v x k =
-        record { resumes = resumes-inward ∙ rw (q, v, u); within = rw x k }
+        record { resumes = ap (λ x. byteMissing x) resumes-inward ∙ rw (q, v, u); within = rw x k }
 
-    pub raises-double : {g : node.Node} {b : sub.Sub} {outer : Kid} → toKid (o .node) ≡ some (toNode g)
-        → toSub b ≡ double s n c (toNode g) none [] .sub → toKid outer ≡ kid s near
+    pub raises-double : {g : WideNode} {b : sub.Sub} {outer : Kid} → toKid (o .node) ≡ some (toWideNode g)
+        → toSub b ≡ double s n c (toWideNode g) none [] .sub → toKid outer ≡ kid s near
         → Raises (turnOver p s n c near (listOf others)) h next
         (record { wanted = Done; sub = b; aside = outer; others = others; next = o .next })
-    raises-double q u v = record { resumes = resumes-inward ∙ rw (q, u, v); within = opens .within }
+    raises-double q u v = record { resumes = ap (λ x. byteMissing x) resumes-inward ∙ rw (q, u, v); within = opens .within }
 
 module _ (p : Step ℕ) (s : Bool) (n : Node ℕ) (near : Sub ℕ) (others : Others) (h : Held) (next : ℕ) where
   module _ (o : Opened) (opens : Opens (topOf near) h next o) where
@@ -118,14 +127,14 @@ module _ (p : Step ℕ) (s : Bool) (n : Node ℕ) (near : Sub ℕ) (others : Oth
         ∙ rw (opens .resumes (beside p s (child s n)))
 
     pub raises-missing : {w : want.Want} {r : Raised} → toKid (o .node) ≡ none
-        → toWant w ≡ beside p s (child s n) → r .wanted ≡ Fetch w → r .next ≡ next → next ≤ h .count
+        → toWant w ≡ byteWant (beside p s (child s n)) → r .wanted ≡ Fetch w → r .next ≡ next → next ≤ h .count
         → Raises (turn p s n near (listOf others)) h next r
-    raises-missing q u v x k = record { resumes = resumes-turn ∙ rw (q, v, u); within = rw x k }
+    raises-missing q u v x k = record { resumes = ap (λ x. byteMissing x) resumes-turn ∙ rw (q, v, u); within = rw x k }
 
-    pub raises-turn : {c : node.Node} {r : Raised} → toKid (o .node) ≡ some (toNode c)
-        → Raises (turnOver p s n (toNode c) near (listOf others)) h (o .next) r
+    pub raises-turn : {c : WideNode} {r : Raised} → toKid (o .node) ≡ some (toWideNode c)
+        → Raises (turnOver p s n (toWideNode c) near (listOf others)) h (o .next) r
         → Raises (turn p s n near (listOf others)) h next r
-    raises-turn q u = record { resumes = resumes-turn ∙ rw q (u .resumes); within = u .within }
+    raises-turn q u = record { resumes = ap (λ x. byteMissing x) resumes-turn ∙ rw q (u .resumes); within = u .within }
 
 -- ---- a level
 
@@ -151,7 +160,7 @@ module _ (p : Step ℕ) (b : Sub ℕ) where
   module _ (h : Held) (next : ℕ) {r : Raised} where
     pub raises-rest : r .wanted ≡ Done → builtOf r ≡ rest p b → r .next ≡ next → next ≤ h .count → Raises (done (rest p b)) h next r
     raises-rest d e f k =
-        record { resumes = resume-done (rest p b) (drop next (nodesOf h)) ∙ rw (d, ← e, f); within = rw f k }
+        record { resumes = ap (λ x. byteMissing x) (resume-done (rest p b) (drop next (nodesOf h))) ∙ rw (d, ← e, f); within = rw f k }
 
     module _ {n : Node ℕ} (at : n ≡ placed p b) {near : Sub ℕ} (others : Others) where
       pub raises-left : tall true n ≡ true → near ≡ nearOn p b true → listOf others ≡ othersOf p b true

@@ -23,8 +23,8 @@ use Rattle.steps.specs.Raise.{HeldFrom, resumedAs}
 
 -- What the walk asks of the root link and the held nodes.
 pub record Walks (root : link.Link) (h : Held) : Type 0 where
-  pub held : HeldFrom 100 h 0
-  pub root-low : root .height ≤ 100
+  pub held : HeldFrom 255 h 0
+  pub root-low : root .height ≤ 255
 
 module _ (h : Held) (w : Want ℕ) (ways : ℕ → Bool) where
   -- The node that is wanted after the first i held nodes were passed, each on its way; at first w is.
@@ -62,14 +62,14 @@ module _ (key : ℕ) (h : Held) (w₀ : Want ℕ) where
     pub resumes : resume (walk key fuel w₀ []) (nodesOf h) ≡ spotOf (r .end) (toWant (r .want)) (r .depth)
     pub wanted : toWant (r .want) ≡ wantAt h w₀ (byKey key h) (r .depth)
     pub reached : Reached (r .end) (r .depth)
-    pub low : toWant (r .want) .link .height ≤ 100
+    pub low : toWant (r .want) .link .height ≤ 255
 
   -- The walk after i nodes.
   pub record Descending (fuel₀ : ℕ) (w : Want ℕ) (fuel i : ℕ) : Type 0 where
     pub resumes : resume (walk key fuel w (trail h w₀ (byKey key h) i)) (drop i (nodesOf h)) ≡ resume (walk key fuel₀ w₀ []) (nodesOf h)
     pub wanted : w ≡ wantAt h w₀ (byKey key h) i
     pub within : i ≤ h .count
-    pub low : w .link .height ≤ 100
+    pub low : w .link .height ≤ 255
 
 -- ---- the next larger key's node
 

@@ -74,8 +74,8 @@ module _ (h : Held) (w₀ : Want ℕ) (ways : ℕ → Bool) where
 pub descends-from : (key : ℕ) (h : Held) {w v : Want ℕ} {fuel : ℕ} {r : Descent} → w ≡ v → DescendsTo key h w fuel r → DescendsTo key h v fuel r
 descends-from key h {fuel = fuel} {r = r} e = subst (λ (u : Want ℕ). DescendsTo key h u fuel r) e
 
-module _ (key : ℕ) (h : Held) (w₀ : Want ℕ) (fuel₀ : ℕ) (from : HeldFrom 100 h 0) where
-  pub descend-start : w₀ .link .height ≤ 100 → Descending key h w₀ fuel₀ w₀ fuel₀ 0
+module _ (key : ℕ) (h : Held) (w₀ : Want ℕ) (fuel₀ : ℕ) (from : HeldFrom 255 h 0) where
+  pub descend-start : w₀ .link .height ≤ 255 → Descending key h w₀ fuel₀ w₀ fuel₀ 0
   descend-start l =
       record { resumes = rw (trail-none h w₀ (byKey key h)); wanted = sym (want-first h w₀ (byKey key h)); within = omega arith; low = l }
 
@@ -155,5 +155,5 @@ module _ (key : ℕ) (h : Held) (w₀ : Want ℕ) (fuel₀ : ℕ) (from : HeldFr
                   rw (add-one i, want-next h w₀ (byKey key h) i)
                   (f ∙ ap (λ (u : Want ℕ). below (stepAt u (heldAt h i) (byKey key h i))) (now .wanted));
               within = omega arith;
-              low = rw f (low-child (byKey key h i) (heldAt h i) (held-low h i 100 (from .low) here few));
+              low = rw f (low-child (byKey key h i) (heldAt h i) (held-low h i 255 (from .low) here few));
             }

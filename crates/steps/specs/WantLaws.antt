@@ -1,5 +1,5 @@
 -- What a program wants lies no higher than the root link and the links in the nodes that it was given: so a caller whose
--- root link is low, and who asks the fetch test of each node, holds only low nodes, as `wanted` and `step` require.
+-- root link is low, and who asks the fetch test of each node, holds only low nodes.
 use Prim.Native.Nat.{ℕ, zero, suc, _≤_}
 use native.Mathlib.Omega.{arith}
 use mathlib.Core.Path.{_≡_}
@@ -52,7 +52,7 @@ module _ {T : Type 0} (most : ℕ) where
   OpenLow (stub l) = l .height ≤ most
   OpenLow (top n l r) = OpenAt l (n .left) × OpenAt r (n .right)
 
-  abbrev StepsLow : List (Step T) → Type 0
+  abbrev pub StepsLow : List (Step T) → Type 0
   StepsLow [] = Unit
   StepsLow (p ∷ ps) = Low most (p .node) × StepsLow ps
 
@@ -146,7 +146,7 @@ module _ {T : Type 0} (most : ℕ) where
   low-climb (p ∷ path) b out h k =
       low-bind _ (asks-more (λ r o. low-climb path (r .sub) (out ++ r .out) (h .1) o) (low-raise p b (h .0) k))
 
-  abbrev SpotLow : Spot T → Type 0
+  abbrev pub SpotLow : Spot T → Type 0
   SpotLow (gap l path) = (l .height ≤ most) × StepsLow path
   SpotLow (hit w n path) = Low most n × StepsLow path
 
@@ -160,7 +160,7 @@ module _ {T : Type 0} (most : ℕ) where
       (low-walk key fuel (below (stepAt w n (ltb key (n .key)))) (stepAt w n (ltb key (n .key)) ∷ path)
       (low-child (ltb key (n .key)) n low) (low, k))))
 
-  abbrev LowestLow : Lowest T → Type 0
+  abbrev pub LowestLow : Lowest T → Type 0
   LowestLow y = Low most (y .node) × StepsLow (y .path)
 
   low-lowest : (fuel : ℕ) (w : Want T) (n : Node T) (path : List (Step T)) → Low most n → StepsLow path → AsksLow LowestLow (lowest fuel w n path)
@@ -170,7 +170,7 @@ module _ {T : Type 0} (most : ℕ) where
       low-pick (eqb (n .left .height) 0) (ends-low (h, k))
       (asks-low (h .0) (λ m low. low-lowest fuel (below (stepAt w n true)) m (stepAt w n true ∷ path) low (h, k)))
 
-  steps-append : (ps qs : List (Step T)) → StepsLow ps → StepsLow qs → StepsLow (ps ++ qs)
+  pub steps-append : (ps qs : List (Step T)) → StepsLow ps → StepsLow qs → StepsLow (ps ++ qs)
   steps-append [] qs h k = k
   steps-append (p ∷ ps) qs h k = (h .0, steps-append ps qs (h .1) k)
 

@@ -6,17 +6,20 @@ use super::Kid;
 use super::Sub;
 use super::Want;
 use super::Wanted;
+use super::WideLink;
+use super::WideNode;
 use super::walk::End;
 use super::walk::Lowest;
 use super::walk::descend;
 use super::walk::next_larger;
+use super::widths::widen;
+use super::widths::widen_link;
 use slots::Link;
-use slots::Node;
 ghost use mathlib.Core.Path.{_≡_};
 ghost use Prim.Native.Nat.{_<_, pred};
 ghost use Rattle.method.specs.Node.{absent};
 ghost use Rattle.method.specs.Map.{getProg, putProg, removeProg};
-ghost use Rattle.steps.specs.Method.{toLink, toNode};
+ghost use Rattle.steps.specs.Method.{toLink, toWideNode};
 ghost use Rattle.steps.specs.Walk.{Walks};
 ghost use Rattle.steps.specs.Raise.{HeldFrom};
 ghost use Rattle.steps.specs.Bottom.{StartsUp, unfinishedAt, bottomAt, pastFound};
@@ -25,7 +28,7 @@ ghost use Rattle.steps.specs.Bottom.{StartsUp, unfinishedAt, bottomAt, p
 fn unfinished(want: Want) -> Bottom
     ensures { λ r. ⌜ r ≡ unfinishedAt want ⌝ }
 {
-    let link = want.link;
+    let link = widen_link(want.link);
     Bottom {
         wanted: Wanted::Fetch(want),
         rotating: false,
@@ -63,7 +66,7 @@ fn bottom_at(
 
 // The place of the next larger key's node: its right link takes that, and its entry goes to the node `found`.
 fn past_found(y: Lowest, found: usize, entries: u16, value: u64, held: Held) -> Bottom
-    requires { ⌜ HeldFrom 100 held 0 × (y .wanted ≡ Wanted.Done → y .last < held .count) ⌝ }
+    requires { ⌜ HeldFrom 255 held 0 × (y .wanted ≡ Wanted.Done → y .last < held .count) ⌝ }
     ensures { λ r. ⌜ r ≡ pastFound (y .wanted) (y .last) found entries value held ⌝ }
 {
     let wanted = y.wanted;
@@ -73,10 +76,11 @@ fn past_found(y: Lowest, found: usize, entries: u16, value: u64, held: Held) -> 
             let last = y.last;
             let m = held.nodes[last];
             let right = m.right;
+            let link = widen_link(right);
             Bottom {
                 wanted: Wanted::Done,
                 rotating: true,
-                sub: Sub::Stub(right),
+                sub: Sub::Stub(link),
                 found,
                 length: last,
                 at: last + 1,
@@ -99,7 +103,7 @@ pub fn get(key: u32, entries: u16, root: Link, held: Held) -> Bottom
     match end {
         End::Missing => unfinished(want),
         End::Gap => {
-            let link = want.link;
+            let link = widen_link(want.link);
             bottom_at(
                 false,
                 Sub::Stub(link),
@@ -113,7 +117,7 @@ pub fn get(key: u32, entries: u16, root: Link, held: Held) -> Bottom
             let n = held.nodes[depth];
             bottom_at(
                 false,
-                Sub::Top(n, Kid::Away, Kid::Away),
+                Sub::Top(widen(n), Kid::Away, Kid::Away),
                 depth,
                 depth + 1,
                 entries,
@@ -123,20 +127,20 @@ pub fn get(key: u32, entries: u16, root: Link, held: Held) -> Bottom
     }
 }
 
-fn leaf(key: u32, value: u64, tag: u16) -> Node
-    ensures { λ r. ⌜ toNode r ≡ record { key = key; value = value; tag = tag; left = absent 0; right = absent 0 } ⌝ }
+fn leaf(key: u32, value: u64, tag: u16) -> WideNode
+    ensures { λ r. ⌜ toWideNode r ≡ record { key = key; value = value; tag = tag; left = absent 0; right = absent 0 } ⌝ }
 {
-    let none = Link {
-        height: 0,
+    let none = WideLink {
         key: 0,
         tag: 0,
+        height: 0,
     };
-    Node {
-        key,
-        value,
-        tag,
+    WideNode {
         left: none,
         right: none,
+        value,
+        key,
+        tag,
     }
 }
 
@@ -171,13 +175,13 @@ pub fn put(
                     Answer::New,
                 );
             }
-            let link = want.link;
+            let link = widen_link(want.link);
             bottom_at(false, Sub::Stub(link), depth, depth, entries, Answer::Full)
         }
         End::Hit => {
             let n = held.nodes[depth];
             if entries < limit {
-                let mut m = n;
+                let mut m = widen(n);
                 m.value = value;
                 return bottom_at(
                     false,
@@ -190,7 +194,7 @@ pub fn put(
             }
             bottom_at(
                 false,
-                Sub::Top(n, Kid::Away, Kid::Away),
+                Sub::Top(widen(n), Kid::Away, Kid::Away),
                 depth,
                 depth + 1,
                 entries,
@@ -221,7 +225,7 @@ pub fn remove(key: u32, entries: u16, root: Link, held: Held) -> Bottom
     match end {
         End::Missing => unfinished(want),
         End::Gap => {
-            let link = want.link;
+            let link = widen_link(want.link);
             bottom_at(
                 false,
                 Sub::Stub(link),
@@ -239,7 +243,7 @@ pub fn remove(key: u32, entries: u16, root: Link, held: Held) -> Bottom
             if left.height == 0 {
                 return bottom_at(
                     true,
-                    Sub::Stub(right),
+                    Sub::Stub(widen_link(right)),
                     depth,
                     depth + 1,
                     fewer,
@@ -249,7 +253,7 @@ pub fn remove(key: u32, entries: u16, root: Link, held: Held) -> Bottom
             if right.height == 0 {
                 return bottom_at(
                     true,
-                    Sub::Stub(left),
+                    Sub::Stub(widen_link(left)),
                     depth,
                     depth + 1,
                     fewer,

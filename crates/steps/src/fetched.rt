@@ -8,11 +8,12 @@ use super::Held;
 use super::NODES;
 use super::Outcome;
 use super::Want;
-use super::balance::is_tall;
 use super::climb::blank_node;
-use super::rotation::child_link;
+use super::lean::is_tall;
 use super::rotation::taller;
-use super::rotation::with_child;
+use super::sides::child_link;
+use super::sides::with_child;
+use super::widths::widen;
 use slots::Link;
 use slots::Node;
 ghost use mathlib.Core.Path.{_≡_};
@@ -51,13 +52,14 @@ fn is_between(low: Bound, high: Bound, key: u32) -> bool
 pub fn map_test(want: Want, n: Node) -> bool
     ensures { λ r. ⌜ r ≡ map.mapTest (toWant want) (toNode n) ⌝ }
 {
-    if is_tall(true, n) {
+    let m = widen(n);
+    if is_tall(true, m) {
         return false;
     }
-    if is_tall(false, n) {
+    if is_tall(false, m) {
         return false;
     }
-    let height = taller(n.left.height, n.right.height) as u16;
+    let height = taller(m.left.height, m.right.height);
     let link = want.link;
     if height + 1 != link.height as u16 {
         return false;

@@ -67,16 +67,32 @@ pub enum Wanted {
     Fetch(Want),
 }
 
+// A link and a node as the way up computes them. Heights have more room than in a slot: in a store that another hand has
+// damaged they may grow beyond a byte there.
+pub struct WideLink {
+    pub key: u32,
+    pub tag: u16,
+    pub height: u16,
+}
+
+pub struct WideNode {
+    pub left: WideLink,
+    pub right: WideLink,
+    pub value: u64,
+    pub key: u32,
+    pub tag: u16,
+}
+
 // A node that may be at hand.
 pub enum Kid {
     Away,
-    Here(Node),
+    Here(WideNode),
 }
 
 // A subtree as it is at hand: its link alone, or its top node and those of its children that were fetched too.
 pub enum Sub {
-    Stub(Link),
-    Top(Node, Kid, Kid),
+    Stub(WideLink),
+    Top(WideNode, Kid, Kid),
 }
 
 // A node that the walk passed: the key that it had when it was passed, the side on which the walk went on, and the
@@ -117,16 +133,18 @@ pub struct Bottom {
     pub answer: Answer,
 }
 
-pub mod balance;
 pub mod climb;
 pub mod down;
 pub mod fetched;
+pub mod lean;
 pub mod operation;
 pub mod paths;
 pub mod raise;
 pub mod rotation;
+pub mod sides;
 pub mod stack;
 pub mod subtree;
 pub mod up;
 pub mod walk;
 pub mod wants;
+pub mod widths;

@@ -13,15 +13,17 @@ use super::up::map_step;
 use super::up::map_wanted;
 use slots::Link;
 ghost use mathlib.Core.Path.{_≡_};
+ghost use Prim.Native.Nat.{_≤_};
 ghost use Rattle.method.specs.Prog.{after};
 ghost use Rattle.method.specs.Call.{program};
 ghost use Rattle.steps.specs.Method.{toLink, toOp, toOutcome, toWanted, nodesOf, wantedIn, outcomeIn};
-ghost use Rattle.steps.specs.Outcome.{InPlaces, LowHeld};
+ghost use Rattle.steps.specs.Widths.{byteOutcome};
+ghost use Rattle.steps.specs.Outcome.{InPlaces};
 
 // The next wanted node, for a store of that capacity with those entries and that root link, and the tag that a new node
 // would get.
 pub fn wanted(op: Op, limit: u16, entries: u16, root: Link, tag: u16, held: Held) -> Wanted
-    requires { ⌜ LowHeld root held ⌝ }
+    requires { ⌜ held .count ≤ 33 ⌝ }
     ensures { λ r. ⌜ toWanted r ≡ wantedIn (after (program 0 (toOp op) tag limit entries (toLink root)) (nodesOf held)) ⌝ }
 {
     match op {
@@ -38,10 +40,10 @@ pub fn wanted(op: Op, limit: u16, entries: u16, root: Link, tag: u16, held: Held
     }
 }
 
-// The step, where no node is wanted any more; else nothing, with root link and entries as they were.
+// The step, where no node is wanted any more, in a slot's widths; else nothing, with root link and entries as they were.
 pub fn step(op: Op, limit: u16, entries: u16, root: Link, tag: u16, held: Held) -> Outcome
-    requires { ⌜ LowHeld root held ⌝ }
-    ensures { λ r. ⌜ (toOutcome r ≡ outcomeIn (toLink root) entries (after (program 0 (toOp op) tag limit entries (toLink root)) (nodesOf held))) × InPlaces r ⌝ }
+    requires { ⌜ held .count ≤ 33 ⌝ }
+    ensures { λ r. ⌜ (toOutcome r ≡ byteOutcome (outcomeIn (toLink root) entries (after (program 0 (toOp op) tag limit entries (toLink root)) (nodesOf held)))) × InPlaces r ⌝ }
 {
     match op {
         Op::Get(key) => map_step(get(key, entries, root, held), key, entries, root, held),

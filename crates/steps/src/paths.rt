@@ -37,7 +37,7 @@ fn blank_step() -> Step
 
 // A fetched node by its number.
 pub fn node_at(held: Held, i: usize) -> Node
-    requires { ⌜ HeldFrom 100 held 0 ⌝ }
+    requires { ⌜ HeldFrom 255 held 0 ⌝ }
     ensures { λ r. ⌜ r ≡ getD (held .nodes) i blank ⌝ }
 {
     if i < FETCHES {

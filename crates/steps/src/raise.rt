@@ -6,12 +6,13 @@ use super::Step;
 use super::Sub;
 use super::Want;
 use super::Wanted;
-use super::balance::is_tall;
-use super::balance::leans_out;
-use super::rotation::child_link;
+use super::WideNode;
+use super::lean::is_tall;
+use super::lean::leans_out;
 use super::rotation::double;
 use super::rotation::seated;
 use super::rotation::single;
+use super::rotation::wide_child;
 use super::subtree::kid_of;
 use super::subtree::near_on;
 use super::subtree::place;
@@ -19,11 +20,17 @@ use super::subtree::top_of;
 use super::wants::below;
 use super::wants::beside;
 use super::wants::step_at;
-use slots::Node;
+use super::widths::narrow;
+use super::widths::narrow_link;
+use super::widths::widen;
+use super::widths::widen_link;
 ghost use mathlib.Core.Path.{_≡_};
+ghost use mathlib.Core.Bool.{not};
 ghost use mathlib.Core.List.{[]};
+ghost use Rattle.method.specs.Node.{child};
 ghost use Rattle.method.specs.Map as map;
-ghost use Rattle.steps.specs.Method.{toNode, toKid, toSub, toStep, toWant};
+ghost use Rattle.steps.specs.Method.{toNode, toWideNode, toKid, toSub, toStep, toWant};
+ghost use Rattle.steps.specs.Widths.{byteWant};
 ghost use Rattle.steps.specs.Heights.{Low, LowKid, LowSub};
 ghost use Rattle.steps.specs.Raise.{HeldFrom, Opens, Raises, listOf, builtOf, turnOver, level};
 
@@ -34,7 +41,7 @@ pub struct Opened {
 }
 
 pub fn open_kid(kid: Kid, held: Held, next: usize) -> Opened
-    requires { ⌜ HeldFrom 250 held next × LowKid 250 (toKid kid) ⌝ }
+    requires { ⌜ HeldFrom 65530 held next × LowKid 65530 (toKid kid) ⌝ }
     ensures { λ r. ⌜ Opens (toKid kid) held next r ⌝ }
 {
     if let Kid::Here(n) = kid {
@@ -44,7 +51,7 @@ pub fn open_kid(kid: Kid, held: Held, next: usize) -> Opened
         };
     }
     if next < held.count {
-        let n = held.nodes[next];
+        let n = widen(held.nodes[next]);
         return Opened {
             node: Kid::Here(n),
             next: next + 1,
@@ -103,7 +110,7 @@ pub fn others_of(p: Step, b: Sub, left: bool) -> Others
 fn missing(want: Want, next: usize) -> Raised
     ensures { λ r. ⌜ (r .wanted ≡ Wanted.Fetch want) × (r .next ≡ next) ⌝ }
 {
-    let link = want.link;
+    let link = widen_link(want.link);
     let others = no_others();
     Raised {
         wanted: Wanted::Fetch(want),
@@ -114,20 +121,34 @@ fn missing(want: Want, next: usize) -> Raised
     }
 }
 
+// The child on a side of the node that was passed, as a wanted node.
+fn child_want(p: Step, left: bool, n: WideNode) -> Want
+    ensures { λ r. ⌜ toWant r ≡ byteWant (map.beside (toStep p) left (child left (toWideNode n))) ⌝ }
+{
+    beside(p, left, narrow_link(wide_child(left, n)))
+}
+
+// The inner child of that child.
+fn inner_want(p: Step, left: bool, n: WideNode, c: WideNode) -> Want
+    ensures { λ r. ⌜ toWant r ≡ byteWant (map.below (map.stepAt (map.beside (toStep p) left (child left (toWideNode n))) (toWideNode c) (not left))) ⌝ }
+{
+    below(step_at(child_want(p, left, n), narrow(c), !left))
+}
+
 // A rotation where the child on the tall side is at hand: single where that does not lean inward, else double, for which
 // the inner child is opened.
 pub fn turn_over(
     p: Step,
     left: bool,
-    n: Node,
-    c: Node,
+    n: WideNode,
+    c: WideNode,
     near: Sub,
     others: Others,
     held: Held,
     next: usize,
 ) -> Raised
-    requires { ⌜ HeldFrom 250 held next × (Low 253 (toNode n) × (Low 253 (toNode c) × LowSub 250 (toSub near))) ⌝ }
-    ensures { λ r. ⌜ Raises (turnOver (toStep p) left (toNode n) (toNode c) (toSub near) (listOf others)) held next r ⌝ }
+    requires { ⌜ HeldFrom 65530 held next × (Low 65533 (toWideNode n) × (Low 65533 (toWideNode c) × LowSub 65530 (toSub near))) ⌝ }
+    ensures { λ r. ⌜ Raises (turnOver (toStep p) left (toWideNode n) (toWideNode c) (toSub near) (listOf others)) held next r ⌝ }
 {
     let outer = kid_of(left, near);
     let inner = kid_of(!left, near);
@@ -144,10 +165,7 @@ pub fn turn_over(
     let o = open_kid(inner, held, next);
     let opened = o.node;
     match opened {
-        Kid::Away => missing(
-            below(step_at(beside(p, left, child_link(left, n)), c, !left)),
-            next,
-        ),
+        Kid::Away => missing(inner_want(p, left, n, c), next),
         Kid::Here(g) => {
             let sub = double(left, n, c, g);
             Raised {
@@ -165,27 +183,27 @@ pub fn turn_over(
 pub fn turn(
     p: Step,
     left: bool,
-    n: Node,
+    n: WideNode,
     near: Sub,
     others: Others,
     held: Held,
     next: usize,
 ) -> Raised
-    requires { ⌜ HeldFrom 250 held next × (Low 253 (toNode n) × LowSub 250 (toSub near)) ⌝ }
-    ensures { λ r. ⌜ Raises (map.turn (toStep p) left (toNode n) (toSub near) (listOf others)) held next r ⌝ }
+    requires { ⌜ HeldFrom 65530 held next × (Low 65533 (toWideNode n) × LowSub 65530 (toSub near)) ⌝ }
+    ensures { λ r. ⌜ Raises (map.turn (toStep p) left (toWideNode n) (toSub near) (listOf others)) held next r ⌝ }
 {
     let top = top_of(near);
     let o = open_kid(top, held, next);
     let opened = o.node;
     match opened {
-        Kid::Away => missing(beside(p, left, child_link(left, n)), next),
+        Kid::Away => missing(child_want(p, left, n), next),
         Kid::Here(c) => turn_over(p, left, n, c, near, others, held, o.next),
     }
 }
 
 // No rotation: the node that was passed takes the subtree in, and the children at hand there are done with.
 pub fn rest(p: Step, b: Sub, next: usize) -> Raised
-    requires { ⌜ LowSub 250 (toSub b) ⌝ }
+    requires { ⌜ LowSub 65530 (toSub b) ⌝ }
     ensures { λ r. ⌜ (r .wanted ≡ Wanted.Done) × ((builtOf r ≡ map.rest (toStep p) (toSub b)) × (r .next ≡ next)) ⌝ }
 {
     let n = place(p, b);
@@ -209,7 +227,7 @@ pub fn rest(p: Step, b: Sub, next: usize) -> Raised
 
 // One level up.
 pub fn raise(p: Step, b: Sub, held: Held, next: usize) -> Raised
-    requires { ⌜ HeldFrom 250 held next × (Low 250 (toNode (p .node)) × LowSub 250 (toSub b)) ⌝ }
+    requires { ⌜ HeldFrom 65530 held next × (Low 65530 (toNode (p .node)) × LowSub 65530 (toSub b)) ⌝ }
     ensures { λ r. ⌜ Raises (map.raise (toStep p) (toSub b)) held next r ⌝ }
 {
     let n = place(p, b);
@@ -228,7 +246,7 @@ pub fn raise(p: Step, b: Sub, held: Held, next: usize) -> Raised
 
 // One level up, with rotations or without.
 pub fn raise_or_rest(rotating: bool, p: Step, b: Sub, held: Held, next: usize) -> Raised
-    requires { ⌜ HeldFrom 250 held next × (Low 250 (toNode (p .node)) × LowSub 250 (toSub b)) ⌝ }
+    requires { ⌜ HeldFrom 65530 held next × (Low 65530 (toNode (p .node)) × LowSub 65530 (toSub b)) ⌝ }
     ensures { λ r. ⌜ Raises (level rotating (toStep p) (toSub b)) held next r ⌝ }
 {
     if rotating {

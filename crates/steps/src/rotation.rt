@@ -1,8 +1,8 @@
 // Rotations of a few nodes by value.
 use super::Kid;
 use super::Sub;
-use slots::Link;
-use slots::Node;
+use super::WideLink;
+use super::WideNode;
 ghost use mathlib.Core.Path.{_≡_};
 ghost use mathlib.Core.Bool.{not};
 ghost use mathlib.Core.Option.{none};
@@ -11,12 +11,12 @@ ghost use Prim.Native.Nat.{max};
 ghost use Rattle.method.specs.Node.{child, withChild, linkTo};
 ghost use Rattle.method.specs.Map.{seat};
 ghost use Rattle.method.specs.Map as map;
-ghost use Rattle.steps.specs.Method.{toLink, toNode, toKid, toSub, toRotated};
+ghost use Rattle.steps.specs.Method.{toWideLink, toWideNode, toKid, toSub, toRotated};
 ghost use Rattle.steps.specs.Heights.{Low};
 
 // The link of a node on a side, the left or else the right.
-pub fn child_link(left: bool, n: Node) -> Link
-    ensures { λ r. ⌜ toLink r ≡ child left (toNode n) ⌝ }
+pub fn wide_child(left: bool, n: WideNode) -> WideLink
+    ensures { λ r. ⌜ toWideLink r ≡ child left (toWideNode n) ⌝ }
 {
     if left {
         return n.left;
@@ -25,8 +25,8 @@ pub fn child_link(left: bool, n: Node) -> Link
 }
 
 // The node with another link on a side.
-pub fn with_child(left: bool, n: Node, link: Link) -> Node
-    ensures { λ r. ⌜ toNode r ≡ withChild left (toNode n) (toLink link) ⌝ }
+pub fn with_wide_child(left: bool, n: WideNode, link: WideLink) -> WideNode
+    ensures { λ r. ⌜ toWideNode r ≡ withChild left (toWideNode n) (toWideLink link) ⌝ }
 {
     let mut m = n;
     if left {
@@ -37,7 +37,7 @@ pub fn with_child(left: bool, n: Node, link: Link) -> Node
     m
 }
 
-pub fn taller(a: u8, b: u8) -> u8
+pub fn taller(a: u16, b: u16) -> u16
     ensures { λ r. ⌜ r ≡ max a b ⌝ }
 {
     if a < b {
@@ -47,12 +47,12 @@ pub fn taller(a: u8, b: u8) -> u8
 }
 
 // The link to a node of the map: its height is that of its taller side and 1.
-pub fn link_to(n: Node) -> Link
-    requires { ⌜ Low 254 (toNode n) ⌝ }
-    ensures { λ r. ⌜ toLink r ≡ linkTo (toNode n) ⌝ }
+pub fn link_to(n: WideNode) -> WideLink
+    requires { ⌜ Low 65534 (toWideNode n) ⌝ }
+    ensures { λ r. ⌜ toWideLink r ≡ linkTo (toWideNode n) ⌝ }
 {
     let height = taller(n.left.height, n.right.height);
-    Link {
+    WideLink {
         height: height + 1,
         key: n.key,
         tag: n.tag,
@@ -61,23 +61,23 @@ pub fn link_to(n: Node) -> Link
 
 // The two nodes of a rotation.
 pub struct Rotated {
-    pub up: Node,
-    pub down: Node,
+    pub up: WideNode,
+    pub down: WideNode,
 }
 
 // The child of a node on a side comes up, and the node goes down on the other side.
-pub fn rotate(left: bool, n: Node, c: Node) -> Rotated
-    requires { ⌜ Low 254 (toNode n) × Low 254 (toNode c) ⌝ }
-    ensures { λ r. ⌜ toRotated r ≡ map.rotate left (toNode n) (toNode c) ⌝ }
+pub fn rotate(left: bool, n: WideNode, c: WideNode) -> Rotated
+    requires { ⌜ Low 65534 (toWideNode n) × Low 65534 (toWideNode c) ⌝ }
+    ensures { λ r. ⌜ toRotated r ≡ map.rotate left (toWideNode n) (toWideNode c) ⌝ }
 {
-    let down = with_child(left, n, child_link(!left, c));
-    let up = with_child(!left, c, link_to(down));
+    let down = with_wide_child(left, n, wide_child(!left, c));
+    let up = with_wide_child(!left, c, link_to(down));
     Rotated { up, down }
 }
 
 // A node with the children at hand on a side and on the other.
-pub fn seated(left: bool, n: Node, near: Kid, far: Kid) -> Sub
-    ensures { λ r. ⌜ toSub r ≡ seat left (toNode n) (toKid near) (toKid far) ⌝ }
+pub fn seated(left: bool, n: WideNode, near: Kid, far: Kid) -> Sub
+    ensures { λ r. ⌜ toSub r ≡ seat left (toWideNode n) (toKid near) (toKid far) ⌝ }
 {
     if left {
         return Sub::Top(n, near, far);
@@ -86,9 +86,9 @@ pub fn seated(left: bool, n: Node, near: Kid, far: Kid) -> Sub
 }
 
 // A single rotation: the child that does not lean inward comes up.
-pub fn single(left: bool, n: Node, c: Node, outer: Kid) -> Sub
-    requires { ⌜ Low 253 (toNode n) × Low 253 (toNode c) ⌝ }
-    ensures { λ r. ⌜ toSub r ≡ map.single left (toNode n) (toNode c) (toKid outer) none [] .sub ⌝ }
+pub fn single(left: bool, n: WideNode, c: WideNode, outer: Kid) -> Sub
+    requires { ⌜ Low 65533 (toWideNode n) × Low 65533 (toWideNode c) ⌝ }
+    ensures { λ r. ⌜ toSub r ≡ map.single left (toWideNode n) (toWideNode c) (toKid outer) none [] .sub ⌝ }
 {
     let r = rotate(left, n, c);
     let up = r.up;
@@ -97,9 +97,9 @@ pub fn single(left: bool, n: Node, c: Node, outer: Kid) -> Sub
 }
 
 // A double rotation: the inner child comes up over the child, then over the node.
-pub fn double(left: bool, n: Node, c: Node, inner: Node) -> Sub
-    requires { ⌜ Low 253 (toNode n) × (Low 253 (toNode c) × Low 253 (toNode inner)) ⌝ }
-    ensures { λ r. ⌜ toSub r ≡ map.double left (toNode n) (toNode c) (toNode inner) none [] .sub ⌝ }
+pub fn double(left: bool, n: WideNode, c: WideNode, inner: WideNode) -> Sub
+    requires { ⌜ Low 65533 (toWideNode n) × (Low 65533 (toWideNode c) × Low 65533 (toWideNode inner)) ⌝ }
+    ensures { λ r. ⌜ toSub r ≡ map.double left (toWideNode n) (toWideNode c) (toWideNode inner) none [] .sub ⌝ }
 {
     let r = rotate(!left, c, inner);
     let middle = r.up;

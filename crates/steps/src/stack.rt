@@ -53,7 +53,7 @@ pub fn push(value: u64, tag: u16, limit: u16, entries: u16, root: Link, held: He
 
 // A pop wants the top.
 pub fn pop_wanted(entries: u16, root: Link, held: Held) -> Wanted
-    requires { ⌜ HeldFrom 100 held 0 ⌝ }
+    requires { ⌜ HeldFrom 255 held 0 ⌝ }
     ensures { λ r. ⌜ toWanted r ≡ wantedOf (resume (popProg entries (toLink root)) (nodesOf held)) ⌝ }
 {
     if root.height == 0 {
@@ -67,7 +67,7 @@ pub fn pop_wanted(entries: u16, root: Link, held: Held) -> Wanted
 
 // The root link becomes the top's left link.
 pub fn pop(entries: u16, root: Link, held: Held) -> Outcome
-    requires { ⌜ HeldFrom 100 held 0 ⌝ }
+    requires { ⌜ HeldFrom 255 held 0 ⌝ }
     ensures { λ r. ⌜ (toOutcome r ≡ outcomeOf (toLink root) entries (resume (popProg entries (toLink root)) (nodesOf held))) × InPlaces r ⌝ }
 {
     if root.height == 0 {

@@ -2,19 +2,21 @@
 use super::Kid;
 use super::Step;
 use super::Sub;
-use super::rotation::child_link;
+use super::WideLink;
+use super::WideNode;
 use super::rotation::link_to;
-use super::rotation::with_child;
-use slots::Link;
-use slots::Node;
+use super::rotation::with_wide_child;
+use super::sides::child_link;
+use super::widths::widen;
+use super::widths::widen_link;
 ghost use mathlib.Core.Path.{_≡_};
 ghost use Rattle.method.specs.Map.{linkOf, topOf, kid, placed, nearOn};
-ghost use Rattle.steps.specs.Method.{toLink, toNode, toKid, toSub, toStep};
+ghost use Rattle.steps.specs.Method.{toWideLink, toWideNode, toKid, toSub, toStep};
 ghost use Rattle.steps.specs.Heights.{LowSub};
 
-pub fn link_of(b: Sub) -> Link
-    requires { ⌜ LowSub 254 (toSub b) ⌝ }
-    ensures { λ r. ⌜ toLink r ≡ linkOf (toSub b) ⌝ }
+pub fn link_of(b: Sub) -> WideLink
+    requires { ⌜ LowSub 65534 (toSub b) ⌝ }
+    ensures { λ r. ⌜ toWideLink r ≡ linkOf (toSub b) ⌝ }
 {
     match b {
         Sub::Stub(link) => link,
@@ -47,13 +49,13 @@ pub fn kid_of(left: bool, b: Sub) -> Kid
 }
 
 // The node that was passed, with the link to the subtree that now stands where the walk went on.
-pub fn place(p: Step, b: Sub) -> Node
-    requires { ⌜ LowSub 254 (toSub b) ⌝ }
-    ensures { λ r. ⌜ toNode r ≡ placed (toStep p) (toSub b) ⌝ }
+pub fn place(p: Step, b: Sub) -> WideNode
+    requires { ⌜ LowSub 65534 (toSub b) ⌝ }
+    ensures { λ r. ⌜ toWideNode r ≡ placed (toStep p) (toSub b) ⌝ }
 {
     let n = p.node;
     let link = link_of(b);
-    with_child(p.left, n, link)
+    with_wide_child(p.left, widen(n), link)
 }
 
 // What is at hand on a side of the place.
@@ -65,5 +67,5 @@ pub fn near_on(p: Step, b: Sub, left: bool) -> Sub
     }
     let n = p.node;
     let link = child_link(left, n);
-    Sub::Stub(link)
+    Sub::Stub(widen_link(link))
 }

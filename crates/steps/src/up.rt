@@ -2,23 +2,25 @@
 use super::Answer;
 use super::Bottom;
 use super::Held;
+use super::Kid;
 use super::NODES;
 use super::Outcome;
 use super::Wanted;
 use super::climb::Climbed;
 use super::climb::blank_node;
 use super::climb::climb;
-use super::climb::list_kid;
 use super::paths::path_to;
 use super::subtree::kid_of;
 use super::subtree::link_of;
 use super::subtree::top_of;
+use super::widths::narrow;
+use super::widths::narrow_link;
 use slots::Link;
 ghost use mathlib.Core.Path.{_≡_};
 ghost use Rattle.steps.specs.declared.Wanted.the-variants.{Done};
-ghost use Rattle.method.specs.Map as map;
 ghost use Rattle.steps.specs.Method.{toLink, toAnswer, toOutcome, toWanted, nothing};
-ghost use Rattle.steps.specs.Climb.{climbedOf};
+ghost use Rattle.steps.specs.Widths.{byteWanted, byteOutcome};
+ghost use Rattle.steps.specs.Climb.{climbedOf, finishIn};
 ghost use Rattle.steps.specs.Walk.{Walks};
 ghost use Rattle.steps.specs.Bottom.{Ready};
 ghost use Rattle.steps.specs.Outcome.{InPlaces, RoomToFinish, Rises, fromBottom, wantedOf, outcomeOf};
@@ -51,21 +53,30 @@ pub fn rise(b: Bottom, key: u32, root: Link, held: Held) -> Climbed
 // The outcome of a climb that came to its end: the nodes at hand there are done with too.
 pub fn finish(c: Climbed, entries: u16, answer: Answer) -> Outcome
     requires { ⌜ RoomToFinish c ⌝ }
-    ensures { λ r. ⌜ (toOutcome r ≡ map.finish entries (toAnswer answer) (climbedOf c)) × InPlaces r ⌝ }
+    ensures { λ r. ⌜ (toOutcome r ≡ finishIn entries (toAnswer answer) (climbedOf c)) × InPlaces r ⌝ }
 {
     let sub = c.sub;
-    let list = c.list;
     let left = kid_of(true, sub);
     let right = kid_of(false, sub);
     let top = top_of(sub);
-    let some = list_kid(list, left);
-    let more = list_kid(some, right);
-    let all = list_kid(more, top);
-    let nodes = all.nodes;
-    let root = link_of(sub);
+    let mut nodes = c.nodes;
+    let mut count = c.count;
+    if let Kid::Here(n) = left {
+        nodes[count] = narrow(n);
+        count += 1;
+    }
+    if let Kid::Here(n) = right {
+        nodes[count] = narrow(n);
+        count += 1;
+    }
+    if let Kid::Here(n) = top {
+        nodes[count] = narrow(n);
+        count += 1;
+    }
+    let root = narrow_link(link_of(sub));
     Outcome {
         nodes,
-        count: all.count,
+        count,
         root,
         entries,
         answer,
@@ -75,7 +86,7 @@ pub fn finish(c: Climbed, entries: u16, answer: Answer) -> Outcome
 // The node that an operation of the map wants next.
 pub fn map_wanted(b: Bottom, key: u32, root: Link, held: Held) -> Wanted
     requires { ⌜ Walks root held × (b .wanted ≡ Done → Ready key root held b) ⌝ }
-    ensures { λ r. ⌜ toWanted r ≡ wantedOf (fromBottom key root held b) ⌝ }
+    ensures { λ r. ⌜ toWanted r ≡ byteWanted (wantedOf (fromBottom key root held b)) ⌝ }
 {
     let wanted = b.wanted;
     if let Wanted::Fetch(w) = wanted {
@@ -91,7 +102,7 @@ pub fn map_wanted(b: Bottom, key: u32, root: Link, held: Held) -> Wanted
 // The step of an operation of the map.
 pub fn map_step(b: Bottom, key: u32, entries: u16, root: Link, held: Held) -> Outcome
     requires { ⌜ Walks root held × (b .wanted ≡ Done → Ready key root held b) ⌝ }
-    ensures { λ r. ⌜ (toOutcome r ≡ outcomeOf (toLink root) entries (fromBottom key root held b)) × InPlaces r ⌝ }
+    ensures { λ r. ⌜ (toOutcome r ≡ byteOutcome (outcomeOf (toLink root) entries (fromBottom key root held b))) × InPlaces r ⌝ }
 {
     let wanted = b.wanted;
     if let Wanted::Fetch(_) = wanted {

@@ -80,7 +80,7 @@ pub struct Lowest {
 // The next larger key's node below the fetched node `found`, at which `want` was wanted: once to the right, then to the
 // left as far as there are nodes.
 pub fn next_larger(want: Want, found: usize, held: Held) -> Lowest
-    requires { ⌜ HeldFrom 100 held 0 × (found < held .count) ⌝ }
+    requires { ⌜ HeldFrom 255 held 0 × (found < held .count) ⌝ }
     ensures { λ r. ⌜ LowersTo held found (map.below (map.stepAt (toWant want) (heldAt held found) false)) (heldAt held found .right .height) r ⌝ }
 {
     let n = held.nodes[found];

@@ -3,7 +3,7 @@ use super::Bound;
 use super::From;
 use super::Step;
 use super::Want;
-use super::rotation::child_link;
+use super::sides::child_link;
 use slots::Link;
 use slots::Node;
 ghost use mathlib.Core.Path.{_≡_};

@@ -7,7 +7,6 @@ use slots::Node;
 use steps::Answer;
 use steps::FETCHES;
 use steps::Held;
-use steps::Kid;
 use steps::Op;
 use steps::Want;
 use steps::Wanted;
@@ -17,12 +16,7 @@ use steps::fetched::stack_test;
 use steps::operation::step;
 use steps::operation::wanted;
 ghost use mathlib.Core.Path.{_≡_};
-ghost use mathlib.Core.Bool.{true};
-ghost use mathlib.Core.List.{[], _∷_, _++_};
 ghost use Prim.Native.Nat.{_≤_, _<_, _+_};
-ghost use Rattle.steps.specs.Method.{toNode, nodesOf};
-ghost use Rattle.steps.specs.Heights.{Low};
-ghost use Rattle.steps_main.specs.Gather.{Takes, Gathers};
 
 // As many entries as a store of size 4 has at most.
 const LIMIT: u16 = 15;
@@ -33,10 +27,16 @@ pub struct Done {
     pub answer: Answer,
 }
 
+// A wanted node, if it was to be had.
+enum Had {
+    Node(Node),
+    Nothing,
+}
+
 // The memory without a wanted node, and that node, if it is there and passes its tests.
 struct Taken {
     memory: Memory,
-    node: Kid,
+    node: Had,
 }
 
 // The nodes still in memory and those that the call holds.
@@ -46,9 +46,7 @@ struct Gathered {
 }
 
 // The fetch tests of the structure that the operation is of.
-fn passes_test(op: Op, want: Want, n: Node) -> bool
-    ensures { λ r. ⌜ (r ≡ true → want .link .height ≤ 100 → Low 100 (toNode n)) ⌝ }
-{
+fn passes_test(op: Op, want: Want, n: Node) -> bool {
     if let Op::Pop = op {
         return stack_test(want, n);
     }
@@ -57,7 +55,7 @@ fn passes_test(op: Op, want: Want, n: Node) -> bool
 
 fn take(op: Op, want: Want, memory: Memory) -> Taken
     requires { ⌜ memory .count ≤ 16 ⌝ }
-    ensures { λ r. ⌜ Takes want r ⌝ }
+    ensures { λ r. ⌜ r .memory .count ≤ 16 ⌝ }
 {
     let link = want.link;
     let i = find(memory, link);
@@ -66,18 +64,18 @@ fn take(op: Op, want: Want, memory: Memory) -> Taken
         if passes_test(op, want, n) {
             return Taken {
                 memory: without(memory, i),
-                node: Kid::Here(n),
+                node: Had::Node(n),
             };
         }
     }
     Taken {
         memory,
-        node: Kid::Away,
+        node: Had::Nothing,
     }
 }
 
 fn nothing_held() -> Held
-    ensures { λ r. ⌜ (r .count ≡ 0) × (nodesOf r ≡ []) ⌝ }
+    ensures { λ r. ⌜ r .count ≡ 0 ⌝ }
 {
     let none = blank_node();
     let nodes = [none; FETCHES];
@@ -86,7 +84,7 @@ fn nothing_held() -> Held
 
 fn hold(held: Held, n: Node) -> Held
     requires { ⌜ held .count < 33 ⌝ }
-    ensures { λ r. ⌜ (r .count ≡ held .count + 1) × (nodesOf r ≡ nodesOf held ++ (toNode n ∷ [])) ⌝ }
+    ensures { λ r. ⌜ r .count ≡ held .count + 1 ⌝ }
 {
     let mut h = held;
     let at = h.count;
@@ -97,8 +95,8 @@ fn hold(held: Held, n: Node) -> Held
 
 // The wanted nodes one after the other, until none is wanted or one is not to be had.
 fn gather(op: Op, tag: u16, memory: Memory) -> Gathered
-    requires { ⌜ (memory .count ≤ 16) × (memory .root .height ≤ 100) ⌝ }
-    ensures { λ r. ⌜ Gathers (memory .root) r ⌝ }
+    requires { ⌜ memory .count ≤ 16 ⌝ }
+    ensures { λ r. ⌜ (r .held .count ≤ 33) × (r .memory .count ≤ 16) ⌝ }
 {
     let root = memory.root;
     let entries = memory.entries;
@@ -112,7 +110,7 @@ fn gather(op: Op, tag: u16, memory: Memory) -> Gathered
         let t = take(op, want, m);
         let node = t.node;
         m = t.memory;
-        let Kid::Here(n) = node else {
+        let Had::Node(n) = node else {
             return Gathered { memory: m, held };
         };
         held = hold(held, n);
@@ -120,18 +118,12 @@ fn gather(op: Op, tag: u16, memory: Memory) -> Gathered
     Gathered { memory: m, held }
 }
 
-// A call. Heights above 100 do not occur: they would ask for more nodes than there are.
+// A call.
 pub fn call(memory: Memory, op: Op, tag: u16) -> Done
     requires { ⌜ memory .count ≤ 16 ⌝ }
     ensures { λ r. ⌜ r .memory .count ≤ 16 ⌝ }
 {
     let root = memory.root;
-    if root.height > 100 {
-        return Done {
-            memory,
-            answer: Answer::Absent,
-        };
-    }
     let gathered = gather(op, tag, memory);
     let held = gathered.held;
     let o = step(op, LIMIT, memory.entries, root, tag, held);

@@ -3,6 +3,7 @@
 use libc::STDIN_FILENO;
 use libc::STDOUT_FILENO;
 use state::State;
+use state::fetching::rounds_of;
 use state::opening::open;
 use store::Reply;
 use tickets::TICKET_LENGTH;
@@ -16,7 +17,6 @@ use walk_lines::MOST_LEAVES;
 use walk_lines::input::arrived;
 use walk_lines::input::read_tape;
 use walk_lines::input::record_length;
-use walk_lines::input::rounds;
 use walk_lines::input::tree_lent;
 use walk_lines::line::line;
 use walk_lines::line::short_line;
@@ -28,7 +28,8 @@ ghost use Rattle.state.specs.Fit.{largestSize};
 ghost use Rattle.state.specs.Ticket.{ticketLength};
 ghost use Rattle.store.specs.Store.{called};
 ghost use Rattle.walk_lines.specs.Lines.{mostLeaves, longestLine};
-ghost use Rattle.walk_lines.specs.Input.{mostRounds, roundsOf, tapeNumber, recordLength, ticketIn, tapeIn};
+ghost use Rattle.state.specs.Fetching.{mostRounds, roundsOf};
+ghost use Rattle.walk_lines.specs.Input.{tapeNumber, recordLength, ticketIn, tapeIn};
 ghost use Rattle.walk_lines.specs.Walk.{callIn, Printed};
 
 // What a call of the input leaves: the state, and the length of its line.
@@ -129,7 +130,7 @@ fn read_call(state: State, tree: &mut [u8], fetches: usize, wanted: usize) -> Re
 fn read_calls(opened: State, tree: &mut [u8])
     requires { ⌜ (1 ≤ opened .size) × (opened .size ≤ largestSize) ⌝ }
 {
-    let fetches = rounds(opened.structure, opened.size);
+    let fetches = rounds_of(opened.structure, opened.size);
     let wanted = record_length(opened.structure, opened.size);
     let mut state = opened;
     let mut turns = u64::MAX;

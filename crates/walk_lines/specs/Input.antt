@@ -6,19 +6,11 @@ use lib.ListN.{take, drop}
 use Rattle.basics.specs.Choice.{pick}
 use Rattle.slots.specs.LittleEndian.{value}
 use Rattle.slots.specs.Tree.{treeLength}
-use Rattle.method.specs.Rounds.{rounds}
 use Rattle.state.specs.Fit.{inRange, largestSize}
-use Rattle.state.specs.Ticket.{ticketLength, structureOf}
+use Rattle.state.specs.Ticket.{ticketLength}
+use Rattle.state.specs.Fetching.{roundsOf, mostRounds}
 use Rattle.walk_lines.specs.declared.Arrived.{Arrived}
 use Rattle.walk_lines.specs.declared.Arrived.the-variants.{Whole, End, Short}
-
--- F for a structure byte and a size byte.
-abbrev pub roundsOf : ℕ → ℕ → ℕ
-roundsOf structure size = rounds (structureOf structure) size
-
--- F is greatest for a map of the largest size.
-abbrev pub mostRounds : ℕ
-mostRounds = 33
 
 -- A tape number has two bytes.
 abbrev pub tapeNumber : ℕ

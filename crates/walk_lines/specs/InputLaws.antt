@@ -1,5 +1,5 @@
--- Laws of the input's parts: the rounds of a call and the tree that is lent are bounded, a good opening has a size of 1 to 8, and
--- the tape is read number by number.
+-- Laws of the input's parts: the tree that is lent is bounded, a good opening has a size of 1 to 8, and the tape is read number
+-- by number.
 use mathlib.Core.Path.{_≡_, refl, ap}
 use mathlib.Core.Bool.{Bool, true, false}
 use mathlib.Core.List.{List, [], _∷_, _++_}
@@ -10,19 +10,13 @@ use lib.Dec.{eqb}
 use lib.ListN.{length, getD, take, drop, set}
 use lib.Pow.{pow-mono}
 use lib.Seq.{drop-cons, drop-drop, take-suc-set}
-use Rattle.balance.specs.Least.{least}
-use Rattle.balance.specs.Shape.{shaped}
-use Rattle.balance.specs.Greatest.{tallest, greatest}
-use Rattle.balance.specs.GreatestLaws.{greatest-mono}
 use Rattle.slots.specs.LittleEndian.{value}
 use Rattle.slots.specs.Tree.{treeLength}
-use Rattle.method.specs.Answer.{Structure, map, stack}
-use Rattle.method.specs.Rounds.{rounds}
 use Rattle.state.specs.Fit.{inRange, largestStructure, largestSize}
 use Rattle.state.specs.FitLaws.{in-range-true}
 use Rattle.state.specs.Opening.{opened}
 use Rattle.state.specs.Ticket.{ticketLength}
-use Rattle.walk_lines.specs.Input.{mostRounds, numbersIn, tapeIn, treeLent, largestTree}
+use Rattle.walk_lines.specs.Input.{numbersIn, tapeIn, treeLent, largestTree}
 
 -- ---- opening
 pub lent-most : (size : ℕ) → treeLent size ≤ largestTree
@@ -45,24 +39,6 @@ open-size structure size tree unmarked =
     go true false l a b d = let e : _≡_ {A = ℕ} 12 0 = rw (a, b) at unmarked in let z : ⊥ = omega arith in absurd z
     go true true false a b d = let e : _≡_ {A = ℕ} 3 0 = rw (a, b, d) at unmarked in let z : ⊥ = omega arith in absurd z
     go true true true a b d = rw (a, b, d) (in-range-true size largestSize b)
-
--- ---- rounds
-greatest-eight : greatest 8 ≡ 11
-unfolding least shaped tallest greatest
-greatest-eight = refl
-
-pub rounds-most : (st : Structure) (k : ℕ) → k ≤ largestSize → rounds st k ≤ mostRounds
-unfolding rounds
-rounds-most map k h = omega (arith, greatest-mono h, greatest-eight)
-rounds-most stack k h = omega arith
-
-pub rounds-map : (k : ℕ) → rounds map k ≡ 3 * greatest k
-unfolding rounds
-rounds-map k = refl
-
-pub rounds-stack : (k : ℕ) → rounds stack k ≡ 1
-unfolding rounds
-rounds-stack k = refl
 
 -- ---- the tape
 pub value-two : (s : List ℕ) (at : ℕ) → at + 2 ≤ length s → value (take 2 (drop at s)) ≡ getD s at 0 + 256 * getD s (at + 1) 0

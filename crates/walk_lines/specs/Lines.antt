@@ -10,7 +10,7 @@ use Rattle.steps.specs.declared.Answer.{Answer}
 use Rattle.steps.specs.declared.Answer.the-variants.{Found, Absent, Replaced, New, Removed, Pushed, Popped, Empty, Full}
 use Rattle.store.specs.declared.Reply.{Reply}
 use Rattle.store.specs.declared.Reply.the-variants.{Answered, Refused}
-use Rattle.walk_lines.specs.Input.{mostRounds}
+use Rattle.state.specs.Fetching.{mostRounds}
 
 -- A text's letters by their numbers.
 abbrev pub ascii : String → List ℕ

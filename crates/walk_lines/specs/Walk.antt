@@ -12,7 +12,8 @@ use Rattle.store.specs.Store.{Ended, called}
 use Rattle.walk_lines.specs.declared.Arrived.{Arrived}
 use Rattle.walk_lines.specs.declared.Arrived.the-variants.{Whole, End, Short}
 use Rattle.walk_lines.specs.Lines.{lineOf, shortLine}
-use Rattle.walk_lines.specs.Input.{roundsOf, recordLength, ticketIn, tapeIn, arrivedOf, treeLent}
+use Rattle.state.specs.Fetching.{roundsOf}
+use Rattle.walk_lines.specs.Input.{recordLength, ticketIn, tapeIn, arrivedOf, treeLent}
 
 -- The call that stands first in the input, with a trace buffer of 2F numbers.
 abbrev pub callIn : State → (tree input : List ℕ) → Ended

@@ -19,7 +19,8 @@ use Rattle.state.specs.Ticket.{ticketLength, opIn, structureOf}
 use Rattle.store.specs.declared.Reply.{Reply}
 use Rattle.store.specs.Store.{Ended, called, callWith}
 use Rattle.walk_lines.specs.Lines.{lineOf, mostLeaves}
-use Rattle.walk_lines.specs.Input.{roundsOf, ticketIn, tapeIn}
+use Rattle.state.specs.Fetching.{roundsOf}
+use Rattle.walk_lines.specs.Input.{ticketIn, tapeIn}
 use Rattle.walk_lines.specs.Walk.{callIn, callLine, Printed}
 
 pub record Kept (s : State) (e : Ended) : Type 0 where

@@ -1,8 +1,8 @@
 // The parts of the walk program's input.
 use super::Arrived;
-use balance::greatest_height;
 use slots::tree::tree_length;
 use state::LARGEST_SIZE;
+use state::fetching::rounds_of;
 use state::fit::in_range;
 use tickets::TICKET_LENGTH;
 ghost use mathlib.Core.Path.{_≡_};
@@ -10,7 +10,7 @@ ghost use Prim.Native.Nat.{_+_, _*_, _≤_};
 ghost use lib.ListN.{length};
 ghost use Rattle.state.specs.Fit.{largestSize};
 ghost use Rattle.state.specs.Ticket.{ticketLength};
-ghost use Rattle.walk_lines.specs.Input.{mostRounds, roundsOf, recordLength, longestRecord, tapeNumber, tapeIn, arrivedOf, treeLent, largestTree};
+ghost use Rattle.walk_lines.specs.Input.{recordLength, longestRecord, tapeNumber, tapeIn, arrivedOf, treeLent, largestTree};
 
 // How a part of the input came of which so many bytes were wanted.
 pub fn arrived(got: usize, wanted: usize) -> Arrived
@@ -35,23 +35,12 @@ pub fn tree_lent(size: u8) -> usize
     0
 }
 
-// F: the fetch rounds of a call, and as many put rounds.
-pub fn rounds(structure: u8, size: u8) -> usize
-    requires { ⌜ (1 ≤ size) × (size ≤ largestSize) ⌝ }
-    ensures { λ r. ⌜ (r ≡ roundsOf structure size) × (r ≤ mostRounds) ⌝ }
-{
-    if structure == 1 {
-        return 3 * greatest_height(size as usize) as usize;
-    }
-    1
-}
-
 // The bytes of one call.
 pub fn record_length(structure: u8, size: u8) -> usize
     requires { ⌜ (1 ≤ size) × (size ≤ largestSize) ⌝ }
     ensures { λ r. ⌜ (r ≡ recordLength structure size) × (r ≤ longestRecord) ⌝ }
 {
-    TICKET_LENGTH + 2 * (2 * rounds(structure, size) + 1)
+    TICKET_LENGTH + 2 * (2 * rounds_of(structure, size) + 1)
 }
 
 // The tape numbers of a call, which follow its ticket.

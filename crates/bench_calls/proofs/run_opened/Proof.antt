@@ -7,8 +7,8 @@ use borrow.Author.Needs.{needs}
 use Rattle.bench_calls.proofs.run_opened.Statement.{statement}
 use Rattle.bench_calls.proofs.run_opened.Tie as tie
 
-rounds-requires : tie.Need-rounds-requires
-rounds-requires c κs = search needs
+rounds-of-requires : tie.Need-rounds-of-requires
+rounds-of-requires c κs = search needs
 
 mul-leaves : tie.Need-mul-leaves
 mul-leaves c = search needs
@@ -24,7 +24,7 @@ array-borrow-prefix-tape c = search needs
 
 slice-aggregate-run-2 : tie.Need-slice-aggregate-run-2
 slice-aggregate-run-2 c =
-    let f = c .before .before .before .rounds in
+    let f = c .before .before .before .rounds-of in
     sym (fresh-length (2 * f .result + 1) 67 (omega (arith, f .ensures .1)))
 
 array-borrow-prefix-trace : tie.Need-array-borrow-prefix-trace
@@ -32,7 +32,7 @@ array-borrow-prefix-trace c = search needs
 
 slice-aggregate-run-3 : tie.Need-slice-aggregate-run-3
 slice-aggregate-run-3 c =
-    let f = c .before .before .before .before .rounds in
+    let f = c .before .before .before .before .rounds-of in
     sym (fresh-length (2 * f .result) 66 (omega (arith, f .ensures .1)))
 
 run-requires : tie.Need-run-requires
@@ -48,7 +48,7 @@ pub run-opened-spec : {M : Type 1} → statement M
 run-opened-spec =
     tie.close
     (tie.spec
-    rounds-requires
+    rounds-of-requires
     mul-leaves
     add-draws
     slice-aggregate-run

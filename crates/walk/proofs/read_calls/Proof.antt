@@ -2,7 +2,8 @@
 use mathlib.Core.Path.{_≡_, _∙_}
 use Prim.Native.Nat.{_≤_}
 use lib.ListN.{length}
-use Rattle.walk_lines.specs.Input.{roundsOf, recordLength}
+use Rattle.state.specs.Fetching.{roundsOf}
+use Rattle.walk_lines.specs.Input.{recordLength}
 use borrow.Author.Needs.{needs}
 use Rattle.walk.proofs.read_calls.Statement.{statement}
 use Rattle.walk.proofs.read_calls.Tie as tie
@@ -14,8 +15,8 @@ Inv-loop tree₀ fetches wanted state₀ turns₀ tree state turns =
 abbrev μ-loop : tie.MeasureT-loop
 μ-loop tree₀ fetches wanted state₀ turns₀ tree state turns = turns
 
-rounds-requires : tie.Need-rounds-requires Inv-loop μ-loop
-rounds-requires c κs = search needs
+rounds-of-requires : tie.Need-rounds-of-requires Inv-loop μ-loop
+rounds-of-requires c κs = search needs
 
 record-length-requires : tie.Need-record-length-requires Inv-loop μ-loop
 record-length-requires c κs = search needs
@@ -57,7 +58,7 @@ read-calls-spec =
     (tie.spec
     Inv-loop
     μ-loop
-    rounds-requires
+    rounds-of-requires
     record-length-requires
     loop-holds
     read-call-requires

@@ -9,8 +9,8 @@ use Rattle.phases.proofs.put.put_rounds.Tie as tie
 use Rattle.phases.proofs.put.put_rounds.Reads as reads
 use Rattle.phases.proofs.put.put_rounds.Lts as lts
 use Rattle.call_rounds.proofs.ascends.Reads as ascends-reads
-use Rattle.phases.proofs.idle.draw_at.Reads as draw-at-reads
-use Rattle.phases.proofs.idle.idle_rounds.Reads as idle-rounds-reads
+use Rattle.idle_rounds.proofs.idle.draw_at.Reads as draw-at-reads
+use Rattle.idle_rounds.proofs.idle.idle_rounds.Reads as idle-rounds-reads
 
 -- src/put.rt:28:17
 add-first : tie.Need-add-first

@@ -1,5 +1,6 @@
 use native.Mathlib.Nat.{sub-zero}
 use mathlib.Core.Path.{_≡_, refl, sym, _∙_, ap}
+use mathlib.Core.Bool.{true}
 use mathlib.Core.Option.{none, some}
 use Prim.Native.Nat.{ℕ, _-_, _^_, _≤_, _<_}
 use lib.ListN.{length, take, length-set}
@@ -10,7 +11,7 @@ use Rattle.steps.specs.declared.Held.{Held}
 use Rattle.steps.specs.declared.Want.{Want}
 use Rattle.steps.specs.Method.{toWant, toWanted, nodesOf, wantedIn}
 use Rattle.call_rounds.specs.OneRound.{Wanted}
-use Rattle.phases.specs.IdleLaws.{draw-leaf}
+use Rattle.idle_rounds.specs.IdleLaws.{draw-leaf}
 use Rattle.phases.specs.declared.wanting.Job.{Job}
 use Rattle.phases.specs.Wanting.{programOf, Walked}
 use Rattle.phases.specs.WantingLaws.{walked-begins, walked-few, walked-between, walked-low, want-ready, at-most}
@@ -22,9 +23,8 @@ use Rattle.phases.proofs.wanting.want_rounds.Tie as tie
 use Rattle.phases.proofs.wanting.want_rounds.Reads as reads
 use Rattle.phases.proofs.wanting.want_rounds.Lts as lts
 use Rattle.call_rounds.proofs.want_round.Reads as want-round-reads
-use Rattle.phases.proofs.idle.draw_at.Reads as draw-at-reads
+use Rattle.idle_rounds.proofs.idle.draw_at.Reads as draw-at-reads
 use Rattle.phases.proofs.wanting.came_to.Reads as came-to-reads
-use Rattle.phases.proofs.wanting.hold.Reads as hold-reads
 use Rattle.phases.proofs.wanting.none_held.Reads as none-held-reads
 use Rattle.steps.proofs.operation.wanted.Reads as wanted-reads
 
@@ -63,13 +63,13 @@ module _ (c : tie.At-loop Inv-loop μ-loop) where
   most = at-most job draw is-leaf (start .pre .0)
 
 -- ---- where none is wanted
-none-wanted : (c : tie.After-enum-told Inv-loop μ-loop) → wantedIn (after (programOf (job (c .before .before .before .before .before .before))) (nodesOf (c .before .before .before .before .before .before .loop .held))) ≡ none
+none-wanted : (c : tie.After-enum-told Inv-loop μ-loop) → wantedIn (after (programOf (job (c .before .before .before .before .before))) (nodesOf (c .before .before .before .before .before .loop .held))) ≡ none
 none-wanted c = sym (c .before .before .wanted .ensures) ∙ ap toWanted (c .enum-told .given .1)
 
 -- ---- once a node is wanted
 module _ (c : tie.After-link Inv-loop μ-loop) where
   abbrev looped : tie.At-loop Inv-loop μ-loop
-  looped = c .before .before .before .before .before .before .before .before
+  looped = c .before .before .before .before .before .before .before
 
   abbrev want : Want
   want = c .before .before .next .given .0 .0
@@ -92,220 +92,232 @@ module _ (c : tie.After-want-round Inv-loop μ-loop) where
       (take (looped linked .loop .held .count) (looped linked .loop .keys)) (c .want-round .last .1 .1 .0) (c .want-round .last .1 .1 .1 .1 .0) (c .want-round .last .1 .1 .1 .1 .1 .0) (c .want-round .result)
   round = rw (sub-zero (looped linked .loop .held .count)) at (c .want-round .ensures)
 
--- src/wanting.rt:106:9
+-- ---- once the new tag is drawn
+module _ (c : tie.After-draw-at Inv-loop μ-loop) where
+  abbrev rounded : tie.After-want-round Inv-loop μ-loop
+  rounded = c .before .before .before .before .before .before
+
+  abbrev took : tie.After-link Inv-loop μ-loop
+  took = linked rounded
+
+  abbrev held : Held
+  held = looped took .loop .held
+
+  place : held .count < 33
+  place = omega (arith, more took, most (looped took))
+
+  taken : rounded .want-round .result .taken ≡ true
+  taken = not-false (rounded .want-round .result .taken) (c .before .before .if2 .left)
+
+-- src/wanting.rt:98:20
 none-held-requires : tie.Need-none-held-requires Inv-loop μ-loop
 none-held-requires c κs = search needs
 
--- src/wanting.rt:109:5
+-- src/wanting.rt:101:5
 loop-holds : tie.Need-loop-holds Inv-loop μ-loop
 loop-holds c =
     let s = c .before .before .before .before .before .before in
     walked-begins (s .args .job) (drawOf (s .args .job .size) (s .args .tape .now)) (s .pre .0) (s .args .trace .now) (c .none-held .result) _ (s .args .keys .now)
     (c .none-held .ensures .0) (c .none-held .ensures .1) refl (s .pre .1 .0)
 
--- src/wanting.rt:111:13
+-- src/wanting.rt:103:13
 wanted-requires : tie.Need-wanted-requires Inv-loop μ-loop
 wanted-requires c κs =
-    let l = c .before .before .before in
-    walked-low (job l) (draw l) (is-leaf l) (start l .pre .0) (start l .args .trace .now) (l .loop .inv)
+    let l = c .before .before in
+    walked-low (job l) (draw l) (is-leaf l) (start l .pre .0) (start l .args .trace .now) (l .loop .inv) .few
 
--- src/wanting.rt:112:27
+-- src/wanting.rt:104:27
 enum-known-next : tie.Need-enum-known-next Inv-loop μ-loop
 enum-known-next c = search needs
 
--- src/wanting.rt:113:34
+-- src/wanting.rt:105:28
 enum-told : tie.Need-enum-told Inv-loop μ-loop
 enum-told c = search needs
 
--- src/wanting.rt:113:13
+-- src/wanting.rt:105:13
 came-to-requires : tie.Need-came-to-requires Inv-loop μ-loop
 came-to-requires c κs = search needs
 
--- src/wanting.rt:113:13
+-- src/wanting.rt:105:13
 same-length : tie.Need-same-length Inv-loop μ-loop
-same-length c = tree-kept (c .before .before .before .before .before .before .before)
+same-length c = tree-kept (c .before .before .before .before .before .before)
 
--- src/wanting.rt:113:13
+-- src/wanting.rt:105:13
 same-length-2 : tie.Need-same-length-2 Inv-loop μ-loop
-same-length-2 c = keys-kept (c .before .before .before .before .before .before .before)
+same-length-2 c = keys-kept (c .before .before .before .before .before .before)
 
--- src/wanting.rt:113:13
+-- src/wanting.rt:105:13
 same-length-3 : tie.Need-same-length-3 Inv-loop μ-loop
-same-length-3 c = c .before .before .before .before .before .before .before .loop .inv .trace-sized
+same-length-3 c = c .before .before .before .before .before .before .loop .inv .trace-sized
 
--- src/wanting.rt:113:13
+-- src/wanting.rt:105:13
 returns : tie.Need-returns Inv-loop μ-loop
 returns c =
-    let l = c .before .before .before .before .before .before .before in
+    let l = c .before .before .before .before .before .before in
     walks-on (c .came-to .ensures) (l .loop .inv) (none-wanted (c .before))
 
--- src/wanting.rt:117:9
+-- src/wanting.rt:109:9
 mul-trace : tie.Need-mul-trace Inv-loop μ-loop
 mul-trace c = omega (arith, few (looped c))
 
--- src/wanting.rt:117:9
+-- src/wanting.rt:109:9
 slice-write-trace : tie.Need-slice-write-trace Inv-loop μ-loop
 slice-write-trace c = omega (arith, room c, looped c .loop .inv .trace-sized)
 
--- src/wanting.rt:118:80
+-- src/wanting.rt:118:13
 sub-want-round : tie.Need-sub-want-round Inv-loop μ-loop
 sub-want-round c = search needs
 
--- src/wanting.rt:118:80
+-- src/wanting.rt:118:13
 part-want-round-start : tie.Need-part-want-round-start Inv-loop μ-loop
 part-want-round-start c = search needs
 
--- src/wanting.rt:118:80
+-- src/wanting.rt:118:13
 part-want-round-end : tie.Need-part-want-round-end Inv-loop μ-loop
 part-want-round-end c =
     let l = looped (c .before .before .before .before) in
     omega (arith, few l, l .loop .inv .keys-sized)
 
--- src/wanting.rt:118:13
+-- src/wanting.rt:110:13
 want-round-requires : tie.Need-want-round-requires Inv-loop μ-loop
 want-round-requires c κs =
     let k = c .before .before .before .before .before in
     let l = looped k in
     rw (sub-zero (l .loop .held .count)) (want-ready (job l) (draw l) (is-leaf l) (start l .pre .0) (start l .args .trace .now) (l .loop .inv) (want k) (asked k))
 
--- src/wanting.rt:120:59
+-- src/wanting.rt:121:59
 add-came-to : tie.Need-add-came-to Inv-loop μ-loop
-add-came-to c = omega (arith, few (c .before .before .before .before .before .before .before .before .before .before .before .before .before .before .before .before .before .before))
+add-came-to c = omega (arith, few (looped (linked (c .before .before .before .before))))
 
--- src/wanting.rt:120:13
+-- src/wanting.rt:121:13
 came-to-requires-2 : tie.Need-came-to-requires-2 Inv-loop μ-loop
 came-to-requires-2 c κs = search needs
 
--- src/wanting.rt:120:13
+-- src/wanting.rt:121:13
 same-length-4 : tie.Need-same-length-4 Inv-loop μ-loop
-same-length-4 c = search (needs, tree-kept (c .before .before .before .before .before .before .before .before .before .before .before .before .before .before .before .before .before .before .before))
+same-length-4 c = search (needs, tree-kept (looped (linked (c .before .before .before .before .before))))
 
--- src/wanting.rt:120:13
+-- src/wanting.rt:121:13
 same-length-5 : tie.Need-same-length-5 Inv-loop μ-loop
-same-length-5 c = keys-kept (c .before .before .before .before .before .before .before .before .before .before .before .before .before .before .before .before .before .before .before)
+same-length-5 c = keys-kept (looped (linked (c .before .before .before .before .before)))
 
--- src/wanting.rt:120:13
+-- src/wanting.rt:121:13
 same-length-6 : tie.Need-same-length-6 Inv-loop μ-loop
-same-length-6 c =
-    let k = c .before .before .before .before .before .before .before .before .before .before .before in
-    let l = looped k in
-    simp length-set (l .loop .inv .trace-sized)
+same-length-6 c = simp length-set (looped (linked (c .before .before .before .before .before)) .loop .inv .trace-sized)
 
--- src/wanting.rt:120:13
+-- src/wanting.rt:121:13
 returns-2 : tie.Need-returns-2 Inv-loop μ-loop
 returns-2 c =
-    let k = c .before .before .before .before .before .before .before .before .before .before .before in
-    let l = looped k in
     let a = c .before .before .before .before .before in
-    let x = a .want-round in
-    walks-damaged (job l) (draw l) (is-leaf l) (start l .pre .0) (start l .args .trace .now) (l .loop .inv) (want k) (asked k) (more k) (round a) (room k) (c .came-to2 .ensures) (not-true (x .result .taken) (c .before .if2 .taken))
+    let k = linked a in
+    let l = looped k in
+    walks-damaged (job l) (draw l) (is-leaf l) (start l .pre .0) (start l .args .trace .now) (l .loop .inv) (want k) (asked k) (more k) (round a) (room k) (c .came-to2 .ensures)
+    (not-true (a .want-round .result .taken) (c .before .if2 .taken))
 
--- src/wanting.rt:123:33
+-- src/wanting.rt:124:20
 draw-at-requires : tie.Need-draw-at-requires Inv-loop μ-loop
 draw-at-requires c κs =
-    let k = c .before .before .before .before .before .before .before .before .before .before .before in
+    let k = linked (c .before .before .before .before .before) in
     let l = looped k in
     (omega (arith, more k, start l .pre .1 .1 .0), start l .pre .0 .small)
 
--- src/wanting.rt:123:33
-cast-hold : tie.Need-cast-hold Inv-loop μ-loop
-cast-hold c = omega (arith, c .draw-at .ensures .1 .1)
+-- src/wanting.rt:124:20
+cast-node : tie.Need-cast-node Inv-loop μ-loop
+cast-node c = omega (arith, c .draw-at .ensures .1 .1)
 
--- src/wanting.rt:123:9
-hold-requires : tie.Need-hold-requires Inv-loop μ-loop
-hold-requires c κs = omega (arith, more (c .before .before .before .before .before .before .before .before .before .before .before .before), most (looped (c .before .before .before .before .before .before .before .before .before .before .before .before)))
+-- src/wanting.rt:125:9
+mul-node : tie.Need-mul-node Inv-loop μ-loop
+mul-node c = omega (arith, place c)
 
--- src/wanting.rt:124:9
+-- src/wanting.rt:125:9
+element-set-from-node : tie.Need-element-set-from-node Inv-loop μ-loop
+element-set-from-node c = omega (arith, place c)
+
+-- src/wanting.rt:126:22
+add-held : tie.Need-add-held Inv-loop μ-loop
+add-held c = omega (arith, place c)
+
+-- src/wanting.rt:127:9
 mul-came : tie.Need-mul-came Inv-loop μ-loop
-mul-came c = omega (arith, few (looped (c .before .before .before .before .before .before .before .before .before .before .before .before .before)))
+mul-came c = omega (arith, place c)
 
--- src/wanting.rt:124:9
+-- src/wanting.rt:127:9
 array-set-from-came : tie.Need-array-set-from-came Inv-loop μ-loop
-array-set-from-came c = omega (arith, more (c .before .before .before .before .before .before .before .before .before .before .before .before .before), most (looped (c .before .before .before .before .before .before .before .before .before .before .before .before .before)))
+array-set-from-came c = omega (arith, place c)
 
--- src/wanting.rt:125:9
+-- src/wanting.rt:128:9
 mul-keys : tie.Need-mul-keys Inv-loop μ-loop
-mul-keys c = omega (arith, few (looped (c .before .before .before .before .before .before .before .before .before .before .before .before .before)))
+mul-keys c = omega (arith, place c)
 
--- src/wanting.rt:125:9
+-- src/wanting.rt:128:9
 slice-write-keys : tie.Need-slice-write-keys Inv-loop μ-loop
-slice-write-keys c =
-    let k = c .before .before .before .before .before .before .before .before .before .before .before .before .before in
-    omega (arith, more k, most (looped k), looped k .loop .inv .keys-sized)
+slice-write-keys c = omega (arith, place c, looped (took c) .loop .inv .keys-sized)
 
--- src/wanting.rt:127:59
+-- src/wanting.rt:130:59
 add-came-to-2 : tie.Need-add-came-to-2 Inv-loop μ-loop
-add-came-to-2 c = omega (arith, few (c .before .before .before .before .before .before .before .before .before .before .before .before .before .before .before .before .before .before .before .before .before .before .before))
+add-came-to-2 c = omega (arith, place (c .before .before))
 
--- src/wanting.rt:127:13
+-- src/wanting.rt:130:13
 came-to-requires-3 : tie.Need-came-to-requires-3 Inv-loop μ-loop
 came-to-requires-3 c κs = search needs
 
--- src/wanting.rt:127:13
+-- src/wanting.rt:130:13
 same-length-7 : tie.Need-same-length-7 Inv-loop μ-loop
-same-length-7 c = search (needs, tree-kept (c .before .before .before .before .before .before .before .before .before .before .before .before .before .before .before .before .before .before .before .before .before .before .before .before))
+same-length-7 c = search (needs, tree-kept (looped (took (c .before .before .before))))
 
--- src/wanting.rt:127:13
+-- src/wanting.rt:130:13
 same-length-8 : tie.Need-same-length-8 Inv-loop μ-loop
 same-length-8 c =
-    let k = c .before .before .before .before .before .before .before .before .before .before .before .before .before .before .before .before in
-    let l = looped k in
-    length-set (l .loop .keys) (l .loop .held .count) (c .before .before .before .before .before .before .before .before .before .before .want-round .result .node .key) ∙ keys-kept l
+    let d = c .before .before .before in
+    let l = looped (took d) in
+    length-set (l .loop .keys) (l .loop .held .count) (rounded d .want-round .result .node .key) ∙ keys-kept l
 
--- src/wanting.rt:127:13
+-- src/wanting.rt:130:13
 same-length-9 : tie.Need-same-length-9 Inv-loop μ-loop
-same-length-9 c =
-    let k = c .before .before .before .before .before .before .before .before .before .before .before .before .before .before .before .before in
-    let l = looped k in
-    simp length-set (l .loop .inv .trace-sized)
+same-length-9 c = simp length-set (looped (took (c .before .before .before)) .loop .inv .trace-sized)
 
--- src/wanting.rt:127:13
+-- src/wanting.rt:130:13
 returns-3 : tie.Need-returns-3 Inv-loop μ-loop
 returns-3 c =
-    let k = c .before .before .before .before .before .before .before .before .before .before .before .before .before .before .before .before in
+    let d = c .before .before .before in
+    let k = took d in
     let l = looped k in
-    let a = c .before .before .before .before .before .before .before .before .before .before in
-    let x = a .want-round in
-    walks-overflow (job l) (draw l) (is-leaf l) (start l .pre .0) (start l .args .trace .now) (l .loop .inv) (want k) (asked k) (more k) (round a) (room k) (c .before .before .before .hold .ensures) (c .before .before .before .before .draw-at .ensures .0) (not-false (x .result .taken) (c .before .before .before .before .before .before .if2 .left))
+    walks-overflow (job l) (draw l) (is-leaf l) (start l .pre .0) (start l .args .trace .now) (l .loop .inv) (want k) (asked k) (more k) (round (rounded d)) (room k) refl (d .draw-at .ensures .0) (taken d)
     (c .came-to3 .ensures) (λ e. omega (arith, e, c .before .if3 .taken))
 
--- src/wanting.rt:109:5
+-- src/wanting.rt:101:5
 loop-less : tie.Need-loop-less Inv-loop μ-loop
-loop-less c =
-    let k = c .before .before .before .before .before .before .before .before .before .before .before .before .before .before .before in
-    let e = ap (λ (h : Held). h .count) (c .before .before .hold .ensures) in
-    omega (arith, e, more k)
+loop-less c = omega (arith, more (took (c .before .before)))
 
--- src/wanting.rt:109:5
+-- src/wanting.rt:101:5
 loop-again : tie.Need-loop-again Inv-loop μ-loop
 loop-again c =
-    let k = c .before .before .before .before .before .before .before .before .before .before .before .before .before .before .before in
+    let d = c .before .before in
+    let k = took d in
     let l = looped k in
-    let a = c .before .before .before .before .before .before .before .before .before in
-    let x = a .want-round in
-    walked-next (job l) (draw l) (is-leaf l) (start l .pre .0) (start l .args .trace .now) (l .loop .inv) (want k) (asked k) (more k) (round a) (room k) (c .before .before .hold .ensures) (c .before .before .before .draw-at .ensures .0) (not-false (x .result .taken) (c .before .before .before .before .before .if2 .left))
+    walked-next (job l) (draw l) (is-leaf l) (start l .pre .0) (start l .args .trace .now) (l .loop .inv) (want k) (asked k) (more k) (round (rounded d)) (room k) refl (d .draw-at .ensures .0) (taken d)
     (omega (arith, c .if3 .left))
 
--- src/wanting.rt:131:5
+-- src/wanting.rt:134:5
 came-to-requires-4 : tie.Need-came-to-requires-4 Inv-loop μ-loop
 came-to-requires-4 c κs = search needs
 
--- src/wanting.rt:91:1
+-- src/wanting.rt:83:1
 same-length-10 : tie.Need-same-length-10 Inv-loop μ-loop
-same-length-10 c = tree-kept (c .before .before .before .before)
+same-length-10 c = tree-kept (c .before .before .before)
 
--- src/wanting.rt:91:1
+-- src/wanting.rt:83:1
 same-length-11 : tie.Need-same-length-11 Inv-loop μ-loop
-same-length-11 c = keys-kept (c .before .before .before .before)
+same-length-11 c = keys-kept (c .before .before .before)
 
--- src/wanting.rt:91:1
+-- src/wanting.rt:83:1
 same-length-12 : tie.Need-same-length-12 Inv-loop μ-loop
-same-length-12 c = c .before .before .before .before .loop .inv .trace-sized
+same-length-12 c = c .before .before .before .loop .inv .trace-sized
 
--- src/wanting.rt:91:1
+-- src/wanting.rt:83:1
 returns-4 : tie.Need-returns-4 Inv-loop μ-loop
 returns-4 c =
-    let l = c .before .before .before .before in
+    let l = c .before .before .before in
     walks-on (c .came-to4 .ensures) (l .loop .inv) (walked-all (job l) (draw l) (is-leaf l) (start l .pre .0) (start l .args .trace .now) (l .loop .inv) (omega (arith, c .before .if1 .left)))
 
 pub want-rounds-spec : {M : Type 1} → statement M
@@ -337,8 +349,10 @@ want-rounds-spec =
     same-length-6
     returns-2
     draw-at-requires
-    cast-hold
-    hold-requires
+    cast-node
+    mul-node
+    element-set-from-node
+    add-held
     mul-came
     array-set-from-came
     mul-keys

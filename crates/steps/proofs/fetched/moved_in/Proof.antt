@@ -6,8 +6,8 @@ use Rattle.steps.proofs.fetched.moved_in.Statement.{statement}
 use Rattle.steps.proofs.fetched.moved_in.Tie as tie
 use Rattle.steps.proofs.fetched.moved_in.Reads as reads
 use Rattle.steps.proofs.fetched.moved_in.Lts as lts
-use Rattle.steps.proofs.rotation.child_link.Reads as child-link-reads
-use Rattle.steps.proofs.rotation.with_child.Reads as with-child-reads
+use Rattle.steps.proofs.sides.child_link.Reads as child-link-reads
+use Rattle.steps.proofs.sides.with_child.Reads as with-child-reads
 
 -- src/fetched.rt:87:23
 enum-told : tie.Need-enum-told

@@ -1,7 +1,14 @@
-use Rattle.steps.specs.Method.{toLink}
+use mathlib.Core.Path.{_≡_}
+use Prim.Native.Nat.{_≤_}
+use Rattle.steps.specs.Method.{toLink, toOp, nodesOf, wantedIn}
+use Rattle.steps.specs.Widths.{byteWanted}
+use Rattle.steps.specs.WidthLaws.{wanted-fits}
+use Rattle.method.specs.Prog.{after}
+use Rattle.method.specs.Call.{program}
+use Rattle.steps.specs.Heights.{Lows}
 use Rattle.steps.specs.Walk.{Walks}
 use Rattle.steps.specs.OutcomeLaws.{walks-of}
-use Rattle.steps.proofs.Places.{unmapped}
+use Rattle.steps.proofs.Places.{unmapped, byte-owned, lows-owned}
 use Rattle.steps.specs.OperationLaws.{program-get, program-put, program-remove, program-push, program-pop, wanted-by, wanted-up, push-wants-none}
 use borrow.Author.Needs.{needs}
 use Rattle.steps.proofs.operation.wanted.Statement.{statement}
@@ -14,84 +21,78 @@ use Rattle.steps.proofs.down.remove.Reads as remove-reads
 use Rattle.steps.proofs.stack.pop_wanted.Reads as pop-wanted-reads
 use Rattle.steps.proofs.up.map_wanted.Reads as map-wanted-reads
 
+-- What owning the held nodes and the root link tells.
+low : (s : tie.Start) → Lows 255 (nodesOf (s .args .held))
+low s = lows-owned (s .args .held .count) (s .args .held .nodes) _ (s .good .1 .1 .1 .1 .1 .0 .1 .1 .0 .1 .1)
+
+root-low : (s : tie.Start) → s .args .root .height ≤ 255
+root-low s = byte-owned (s .args .root) _ (s .good .1 .1 .1 .0)
+
 walks : (s : tie.Start) → Walks (s .args .root) (s .args .held)
 walks s =
     walks-of (s .args .root) (s .args .held) (s .pre)
-    (unmapped _ (s .args .held .nodes) (s .good .1 .1 .1 .1 .1 .0 .1 .1 .0 .1 .0 .1))
+    (unmapped _ (s .args .held .nodes) (s .good .1 .1 .1 .1 .1 .0 .1 .1 .0 .1 .0 .1)) (low s) (root-low s)
 
--- src/operation.rt:28:17
+fits : (s : tie.Start) → let a = s .args in let p = after (program 0 (toOp (a .op)) (a .tag) (a .limit) (a .entries) (toLink (a .root))) (nodesOf (a .held)) in
+    byteWanted (wantedIn p) ≡ wantedIn p
+fits s = let a = s .args in wanted-fits (toOp (a .op)) (a .tag) (a .limit) (a .entries) (toLink (a .root)) (nodesOf (a .held)) (root-low s) (low s)
+
 enum-known-op : tie.Need-enum-known-op
 enum-known-op c = search needs
 
--- src/operation.rt:28:36
 get-requires : tie.Need-get-requires
 get-requires c κs = walks (c .before .before .before)
 
--- src/operation.rt:28:25
 map-wanted-requires : tie.Need-map-wanted-requires
 map-wanted-requires c κs = (walks (c .before .before .before .before), c .get .ensures .ready)
 
--- src/operation.rt:29:17
 enum-known-op-2 : tie.Need-enum-known-op-2
 enum-known-op-2 c = search needs
 
--- src/operation.rt:29:43
 put-requires : tie.Need-put-requires
 put-requires c κs = walks (c .before .before .before)
 
--- src/operation.rt:29:32
 map-wanted-requires-2 : tie.Need-map-wanted-requires-2
 map-wanted-requires-2 c κs = (walks (c .before .before .before .before), c .put .ensures .ready)
 
--- src/operation.rt:30:20
 enum-known-op-3 : tie.Need-enum-known-op-3
 enum-known-op-3 c = search needs
 
--- src/operation.rt:30:39
 remove-requires : tie.Need-remove-requires
 remove-requires c κs = walks (c .before .before .before)
 
--- src/operation.rt:30:28
 map-wanted-requires-3 : tie.Need-map-wanted-requires-3
 map-wanted-requires-3 c κs = (walks (c .before .before .before .before), c .remove .ensures .ready)
 
--- src/operation.rt:31:24
 enum-told : tie.Need-enum-told
 enum-told c = search needs
 
--- src/operation.rt:32:20
 enum-told-2 : tie.Need-enum-told-2
 enum-told-2 c = search needs
 
--- src/operation.rt:32:20
 pop-wanted-requires : tie.Need-pop-wanted-requires
 pop-wanted-requires c κs = walks (c .before .before) .held
 
--- src/operation.rt:23:1
 returns : tie.Need-returns
 returns c =
     let a = c .before .before .before .before .before .args in
-    wanted-up (program-get (a .op) (a .tag) (a .limit) (a .entries) (toLink (a .root)) (c .before .before .before .op .given .1)) (a .held) _ (a .root) (c .before .get .result) (c .before .get .ensures) (c .map-wanted .ensures)
+    wanted-up (program-get (a .op) (a .tag) (a .limit) (a .entries) (toLink (a .root)) (c .before .before .before .op .given .1)) (a .held) _ (a .root) (c .before .get .result) (c .before .get .ensures) (fits (c .before .before .before .before .before)) (c .map-wanted .ensures)
 
--- src/operation.rt:23:1
 returns-2 : tie.Need-returns-2
 returns-2 c =
     let a = c .before .before .before .before .before .args in
-    wanted-up (program-put (a .op) (a .tag) (a .limit) (a .entries) (toLink (a .root)) (c .before .before .before .op2 .given .1)) (a .held) _ (a .root) (c .before .put .result) (c .before .put .ensures) (c .map-wanted2 .ensures)
+    wanted-up (program-put (a .op) (a .tag) (a .limit) (a .entries) (toLink (a .root)) (c .before .before .before .op2 .given .1)) (a .held) _ (a .root) (c .before .put .result) (c .before .put .ensures) (fits (c .before .before .before .before .before)) (c .map-wanted2 .ensures)
 
--- src/operation.rt:23:1
 returns-3 : tie.Need-returns-3
 returns-3 c =
     let a = c .before .before .before .before .before .args in
-    wanted-up (program-remove (a .op) (a .tag) (a .limit) (a .entries) (toLink (a .root)) (c .before .before .before .op3 .given .1)) (a .held) _ (a .root) (c .before .remove .result) (c .before .remove .ensures) (c .map-wanted3 .ensures)
+    wanted-up (program-remove (a .op) (a .tag) (a .limit) (a .entries) (toLink (a .root)) (c .before .before .before .op3 .given .1)) (a .held) _ (a .root) (c .before .remove .result) (c .before .remove .ensures) (fits (c .before .before .before .before .before)) (c .map-wanted3 .ensures)
 
--- src/operation.rt:23:1
 returns-4 : tie.Need-returns-4
 returns-4 c =
     let a = c .before .before .args in
     wanted-by (program-push (a .op) (a .tag) (a .limit) (a .entries) (toLink (a .root)) (c .enum-told .given .1)) (a .held) (push-wants-none _ (a .tag) (a .entries) (a .limit) (toLink (a .root)) (a .held))
 
--- src/operation.rt:23:1
 returns-5 : tie.Need-returns-5
 returns-5 c =
     let a = c .before .before .before .args in

@@ -8,41 +8,38 @@ use Rattle.steps.proofs.raise.open_kid.Statement.{statement}
 use Rattle.steps.proofs.raise.open_kid.Tie as tie
 use Rattle.steps.proofs.raise.open_kid.Reads as reads
 use Rattle.steps.proofs.raise.open_kid.Lts as lts
+use Rattle.steps.proofs.widths.widen.Reads as widen-reads
 
--- src/raise.rt:40:22
 enum-known-kid : tie.Need-enum-known-kid
 enum-known-kid c = search needs
 
--- src/raise.rt:41:9
 returns : tie.Need-returns
 returns c =
     let s = c .before .before .before in
     let e = c .before .kid .given .1 in
     rw e (opens-here (s .args .t2) (s .args .next) (s .pre .0) (c .before .kid .given .0 .0)
-    (subst (λ (k : Kid). LowKid 250 (toKid k)) e (s .pre .1)))
+    (subst (λ (k : Kid). LowKid 65530 (toKid k)) e (s .pre .1)))
 
 enum-told : tie.Need-enum-told
 enum-told c = search needs
 
--- src/raise.rt:47:17
-mul-n : tie.Need-mul-n
-mul-n c = search needs
+mul-widen : tie.Need-mul-widen
+mul-widen c = search needs
 
--- src/raise.rt:47:17
-element-copy-out-n : tie.Need-element-copy-out-n
-element-copy-out-n c = search needs
+element-copy-out-widen : tie.Need-element-copy-out-widen
+element-copy-out-widen c = search needs
 
--- src/raise.rt:50:19
+widen-requires : tie.Need-widen-requires
+widen-requires c κs = search needs
+
 add-t10 : tie.Need-add-t10
 add-t10 c = search needs
 
--- src/raise.rt:48:9
 returns-2 : tie.Need-returns-2
 returns-2 c =
-    let s = c .before .before .before .before in
-    rw (c .before .before .enum-told .given .1) (opens-next (s .args .t2) (s .args .next) (s .pre .0) (c .before .if1 .taken))
+    let s = c .before .before .before .before .before in
+    rw (c .before .before .before .enum-told .given .1, c .widen .ensures) (opens-next (s .args .t2) (s .args .next) (s .pre .0) (c .before .before .if1 .taken))
 
--- src/raise.rt:36:1
 returns-3 : tie.Need-returns-3
 returns-3 c =
     let s = c .before .before .before in
@@ -55,8 +52,9 @@ open-kid-spec =
     enum-known-kid
     returns
     enum-told
-    mul-n
-    element-copy-out-n
+    mul-widen
+    element-copy-out-widen
+    widen-requires
     add-t10
     returns-2
     returns-3)

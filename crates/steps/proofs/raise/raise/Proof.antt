@@ -13,7 +13,7 @@ use Rattle.steps.proofs.raise.raise.Statement.{statement}
 use Rattle.steps.proofs.raise.raise.Tie as tie
 use Rattle.steps.proofs.raise.raise.Reads as reads
 use Rattle.steps.proofs.raise.raise.Lts as lts
-use Rattle.steps.proofs.balance.is_tall.Reads as is-tall-reads
+use Rattle.steps.proofs.lean.is_tall.Reads as is-tall-reads
 use Rattle.steps.proofs.raise.others_of.Reads as others-of-reads
 use Rattle.steps.proofs.raise.rest.Reads as rest-reads
 use Rattle.steps.proofs.raise.turn.Reads as turn-reads
@@ -22,7 +22,7 @@ use Rattle.steps.proofs.subtree.place.Reads as place-reads
 
 -- src/raise.rt:195:9
 place-requires : tie.Need-place-requires
-place-requires c κs = low-sub-more 250 254 (omega arith) (toSub (c .args .b)) (c .pre .1 .1)
+place-requires c κs = low-sub-more 65530 65534 (omega arith) (toSub (c .args .b)) (c .pre .1 .1)
 
 -- src/raise.rt:196:8
 is-tall-requires : tie.Need-is-tall-requires
@@ -44,9 +44,9 @@ turn-requires c κs =
     let b = toSub (s .args .b) in (
       s .pre .0,
       (
-        subst (λ (n : Node ℕ). Low 253 n) (sym (c .before .before .before .before .place .ensures))
-            (low-more (placed p b) (low-placed 250 p b (s .pre .1 .0) (s .pre .1 .1)) (omega arith)),
-        rw (c .before .near-on .ensures) (low-near 250 p b true (s .pre .1 .0) (s .pre .1 .1)),
+        subst (λ (n : Node ℕ). Low 65533 n) (sym (c .before .before .before .before .place .ensures))
+            (low-more (placed p b) (low-placed 65530 p b (s .pre .1 .0) (s .pre .1 .1)) (omega arith)),
+        rw (c .before .near-on .ensures) (low-near 65530 p b true (s .pre .1 .0) (s .pre .1 .1)),
       ),
     )
 
@@ -77,9 +77,9 @@ turn-requires-2 c κs =
     let b = toSub (s .args .b) in (
       s .pre .0,
       (
-        subst (λ (n : Node ℕ). Low 253 n) (sym (c .before .before .before .before .before .before .place .ensures))
-            (low-more (placed p b) (low-placed 250 p b (s .pre .1 .0) (s .pre .1 .1)) (omega arith)),
-        rw (c .before .near-on2 .ensures) (low-near 250 p b false (s .pre .1 .0) (s .pre .1 .1)),
+        subst (λ (n : Node ℕ). Low 65533 n) (sym (c .before .before .before .before .before .before .place .ensures))
+            (low-more (placed p b) (low-placed 65530 p b (s .pre .1 .0) (s .pre .1 .1)) (omega arith)),
+        rw (c .before .near-on2 .ensures) (low-near 65530 p b false (s .pre .1 .0) (s .pre .1 .1)),
       ),
     )
 

@@ -15,7 +15,7 @@ use Rattle.steps.proofs.subtree.top_of.Reads as top-of-reads
 
 -- src/raise.rt:171:9
 place-requires : tie.Need-place-requires
-place-requires c κs = low-sub-more 250 254 (omega arith) (toSub (c .args .b)) (c .pre)
+place-requires c κs = low-sub-more 65530 65534 (omega arith) (toSub (c .args .b)) (c .pre)
 
 -- src/raise.rt:172:9
 top-of-requires : tie.Need-top-of-requires

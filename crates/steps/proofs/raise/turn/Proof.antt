@@ -1,8 +1,7 @@
-use mathlib.Core.Path.{subst, _∙_, ap}
+use mathlib.Core.Path.{subst, ap}
 use native.Mathlib.Omega.{arith}
-use Rattle.method.specs.Map.{beside}
 use Rattle.steps.specs.declared.Kid.{Kid}
-use Rattle.steps.specs.Method.{toNode, toKid, toSub, toStep}
+use Rattle.steps.specs.Method.{toWideNode, toKid, toSub, toStep}
 use Rattle.steps.specs.Heights.{LowKid}
 use Rattle.steps.specs.HeightLaws.{low-more, low-top}
 use Rattle.steps.specs.RaiseLaws.{raises-missing, raises-turn}
@@ -11,44 +10,32 @@ use Rattle.steps.proofs.raise.turn.Statement.{statement}
 use Rattle.steps.proofs.raise.turn.Tie as tie
 use Rattle.steps.proofs.raise.turn.Reads as reads
 use Rattle.steps.proofs.raise.turn.Lts as lts
+use Rattle.steps.proofs.raise.child_want.Reads as child-want-reads
 use Rattle.steps.proofs.raise.missing.Reads as missing-reads
 use Rattle.steps.proofs.raise.open_kid.Reads as open-kid-reads
 use Rattle.steps.proofs.raise.turn_over.Reads as turn-over-reads
-use Rattle.steps.proofs.rotation.child_link.Reads as child-link-reads
 use Rattle.steps.proofs.subtree.top_of.Reads as top-of-reads
-use Rattle.steps.proofs.wants.beside.Reads as beside-reads
 
--- src/raise.rt:157:9
 top-of-requires : tie.Need-top-of-requires
 top-of-requires c κs = search needs
 
--- src/raise.rt:158:9
 open-kid-requires : tie.Need-open-kid-requires
 open-kid-requires c κs =
     let s = c .before in
-    (s .pre .0, rw (c .top-of .ensures) (low-top 250 (toSub (s .args .near)) (s .pre .1 .1)))
+    (s .pre .0, rw (c .top-of .ensures) (low-top 65530 (toSub (s .args .near)) (s .pre .1 .1)))
 
--- src/raise.rt:161:46
 enum-told : tie.Need-enum-told
 enum-told c = search needs
 
--- src/raise.rt:161:46
-child-link-requires : tie.Need-child-link-requires
-child-link-requires c κs = search needs
+child-want-requires : tie.Need-child-want-requires
+child-want-requires c κs = search needs
 
--- src/raise.rt:161:30
-beside-requires : tie.Need-beside-requires
-beside-requires c κs = search needs
-
--- src/raise.rt:161:22
 missing-requires : tie.Need-missing-requires
 missing-requires c κs = search needs
 
--- src/raise.rt:162:19
 enum-known-opened : tie.Need-enum-known-opened
 enum-known-opened c = search needs
 
--- src/raise.rt:162:25
 turn-over-requires : tie.Need-turn-over-requires
 turn-over-requires c κs =
     let s = c .before .before .before .before .before in
@@ -58,30 +45,27 @@ turn-over-requires c κs =
       (
         s .pre .1 .0,
         (
-          low-more (toNode (c .before .opened .given .0 .0))
-              (subst (λ (k : Kid). LowKid 250 (toKid k)) (c .before .opened .given .1) (o .low)) (omega arith),
+          low-more (toWideNode (c .before .opened .given .0 .0))
+              (subst (λ (k : Kid). LowKid 65530 (toKid k)) (c .before .opened .given .1) (o .low)) (omega arith),
           s .pre .1 .1,
         ),
       ),
     )
 
--- src/raise.rt:153:1
 returns : tie.Need-returns
 returns c =
-    let s = c .before .before .before .before .before .before .before in
+    let s = c .before .before .before .before .before .before in
     let a = s .args in
-    raises-missing (toStep (a .p)) (a .left) (toNode (a .n)) (toSub (a .near)) (a .others) (a .held) (a .next)
-    (c .before .before .before .before .before .open-kid .result) (rw (← c .before .before .before .before .before .before .top-of .ensures) (c .before .before .before .before .before .open-kid .ensures))
-    (ap toKid (c .before .before .before .enum-told .given .1))
-    (c .before .beside .ensures ∙ ap (beside (toStep (a .p)) (a .left)) (c .before .before .child-link .ensures))
+    raises-missing (toStep (a .p)) (a .left) (toWideNode (a .n)) (toSub (a .near)) (a .others) (a .held) (a .next)
+    (c .before .before .before .before .open-kid .result) (rw (← c .before .before .before .before .before .top-of .ensures) (c .before .before .before .before .open-kid .ensures))
+    (ap toKid (c .before .before .enum-told .given .1)) (c .before .child-want .ensures)
     (c .missing .ensures .0) (c .missing .ensures .1) (s .pre .0 .within)
 
--- src/raise.rt:153:1
 returns-2 : tie.Need-returns-2
 returns-2 c =
     let s = c .before .before .before .before .before .before in
     let a = s .args in
-    raises-turn (toStep (a .p)) (a .left) (toNode (a .n)) (toSub (a .near)) (a .others) (a .held) (a .next)
+    raises-turn (toStep (a .p)) (a .left) (toWideNode (a .n)) (toSub (a .near)) (a .others) (a .held) (a .next)
     (c .before .before .before .before .open-kid .result) (rw (← c .before .before .before .before .before .top-of .ensures) (c .before .before .before .before .open-kid .ensures))
     (ap toKid (c .before .before .opened .given .1)) (c .turn-over .ensures)
 
@@ -92,8 +76,7 @@ turn-spec =
     top-of-requires
     open-kid-requires
     enum-told
-    child-link-requires
-    beside-requires
+    child-want-requires
     missing-requires
     enum-known-opened
     turn-over-requires

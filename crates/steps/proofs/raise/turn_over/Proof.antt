@@ -1,88 +1,61 @@
 use mathlib.Core.Path.{subst, sym, _∙_, ap}
 use mathlib.Core.Bool.{not}
 use native.Mathlib.Omega.{arith}
-use Rattle.method.specs.Map.{below, beside}
 use Rattle.steps.specs.declared.Kid.{Kid}
-use Rattle.steps.specs.Method.{toNode, toKid, toSub, toStep}
+use Rattle.steps.specs.Method.{toWideNode, toKid, toSub, toStep}
 use Rattle.steps.specs.Heights.{LowKid}
 use Rattle.steps.specs.HeightLaws.{low-more, low-kid}
-use Rattle.steps.specs.RaiseLaws.{inward-is, raises-single, raises-inward, raises-double}
+use Rattle.steps.specs.RaiseLaws.{raises-single, raises-inward, raises-double}
 use borrow.Author.Needs.{needs}
 use Rattle.steps.proofs.raise.turn_over.Statement.{statement}
 use Rattle.steps.proofs.raise.turn_over.Tie as tie
 use Rattle.steps.proofs.raise.turn_over.Reads as reads
 use Rattle.steps.proofs.raise.turn_over.Lts as lts
-use Rattle.steps.proofs.balance.leans_out.Reads as leans-out-reads
+use Rattle.steps.proofs.lean.leans_out.Reads as leans-out-reads
+use Rattle.steps.proofs.raise.inner_want.Reads as inner-want-reads
 use Rattle.steps.proofs.raise.missing.Reads as missing-reads
 use Rattle.steps.proofs.raise.open_kid.Reads as open-kid-reads
-use Rattle.steps.proofs.rotation.child_link.Reads as child-link-reads
 use Rattle.steps.proofs.rotation.double.Reads as double-reads
 use Rattle.steps.proofs.rotation.single.Reads as single-reads
 use Rattle.steps.proofs.subtree.kid_of.Reads as kid-of-reads
-use Rattle.steps.proofs.wants.below.Reads as below-reads
-use Rattle.steps.proofs.wants.beside.Reads as beside-reads
-use Rattle.steps.proofs.wants.step_at.Reads as step-at-reads
 
--- src/raise.rt:123:9
 kid-of-requires : tie.Need-kid-of-requires
 kid-of-requires c κs = search needs
 
--- src/raise.rt:124:9
 kid-of-requires-2 : tie.Need-kid-of-requires-2
 kid-of-requires-2 c κs = search needs
 
--- src/raise.rt:125:8
 leans-out-requires : tie.Need-leans-out-requires
 leans-out-requires c κs = search needs
 
--- src/raise.rt:126:13
 single-requires : tie.Need-single-requires
 single-requires c κs = search needs
 
--- src/raise.rt:127:9
 returns : tie.Need-returns
 returns c =
     let s = c .before .before .before .before .before in
     let a = s .args in
-    raises-single (toStep (a .p)) (a .left) (toNode (a .n)) (toNode (a .c)) (toSub (a .near)) (a .others) (a .held) (a .next)
+    raises-single (toStep (a .p)) (a .left) (toWideNode (a .n)) (toWideNode (a .c)) (toSub (a .near)) (a .others) (a .held) (a .next)
     (c .before .before .before .kid-of2 .ensures) (sym (c .before .before .leans-out .ensures) ∙ c .before .if1 .taken)
     (rw (← c .before .before .before .before .kid-of .ensures) (c .single .ensures)) (s .pre .0 .within)
 
--- src/raise.rt:135:9
 open-kid-requires : tie.Need-open-kid-requires
 open-kid-requires c κs =
     let s = c .before .before .before .before in
-    (s .pre .0, rw (c .before .before .kid-of2 .ensures) (low-kid 250 (not (s .args .left)) (toSub (s .args .near)) (s .pre .1 .1 .1)))
+    (s .pre .0, rw (c .before .before .kid-of2 .ensures) (low-kid 65530 (not (s .args .left)) (toSub (s .args .near)) (s .pre .1 .1 .1)))
 
--- src/raise.rt:138:60
 enum-told : tie.Need-enum-told
 enum-told c = search needs
 
--- src/raise.rt:138:60
-child-link-requires : tie.Need-child-link-requires
-child-link-requires c κs = search needs
+inner-want-requires : tie.Need-inner-want-requires
+inner-want-requires c κs = search needs
 
--- src/raise.rt:138:44
-beside-requires : tie.Need-beside-requires
-beside-requires c κs = search needs
-
--- src/raise.rt:138:36
-step-at-requires : tie.Need-step-at-requires
-step-at-requires c κs = search needs
-
--- src/raise.rt:138:30
-below-requires : tie.Need-below-requires
-below-requires c κs = search needs
-
--- src/raise.rt:138:22
 missing-requires : tie.Need-missing-requires
 missing-requires c κs = search needs
 
--- src/raise.rt:139:19
 enum-known-opened : tie.Need-enum-known-opened
 enum-known-opened c = search needs
 
--- src/raise.rt:140:17
 double-requires : tie.Need-double-requires
 double-requires c κs =
     let s = c .before .before .before .before .before .before .before .before in
@@ -90,30 +63,26 @@ double-requires c κs =
       s .pre .1 .0,
       (
         s .pre .1 .1 .0,
-        low-more (toNode (c .before .opened .given .0 .0))
-            (subst (λ (k : Kid). LowKid 250 (toKid k)) e (c .before .before .before .open-kid .ensures .low)) (omega arith),
+        low-more (toWideNode (c .before .opened .given .0 .0))
+            (subst (λ (k : Kid). LowKid 65530 (toKid k)) e (c .before .before .before .open-kid .ensures .low)) (omega arith),
       ),
     )
 
--- src/raise.rt:119:1
 returns-2 : tie.Need-returns-2
 returns-2 c =
-    let s = c .before .before .before .before .before .before .before .before .before .before .before .before in
+    let s = c .before .before .before .before .before .before .before .before .before in
     let a = s .args in
-    raises-inward (toStep (a .p)) (a .left) (toNode (a .n)) (toNode (a .c)) (toSub (a .near)) (a .others) (a .held) (a .next)
-    (c .before .before .before .before .before .before .before .open-kid .result) (rw (← c .before .before .before .before .before .before .before .before .before .before .kid-of2 .ensures) (c .before .before .before .before .before .before .before .open-kid .ensures))
-    (sym (c .before .before .before .before .before .before .before .before .before .leans-out .ensures) ∙ c .before .before .before .before .before .before .before .before .if1 .left)
-    (ap toKid (c .before .before .before .before .before .enum-told .given .1))
-    (inward-is (toStep (a .p)) (a .left) (toNode (a .n)) (toNode (a .c)) (c .before .before .before .before .child-link .ensures) (c .before .before .before .beside .ensures)
-    (c .before .before .step-at .ensures) (c .before .below .ensures))
+    raises-inward (toStep (a .p)) (a .left) (toWideNode (a .n)) (toWideNode (a .c)) (toSub (a .near)) (a .others) (a .held) (a .next)
+    (c .before .before .before .before .open-kid .result) (rw (← c .before .before .before .before .before .before .before .kid-of2 .ensures) (c .before .before .before .before .open-kid .ensures))
+    (sym (c .before .before .before .before .before .before .leans-out .ensures) ∙ c .before .before .before .before .before .if1 .left)
+    (ap toKid (c .before .before .enum-told .given .1)) (c .before .inner-want .ensures)
     (c .missing .ensures .0) (c .missing .ensures .1) (s .pre .0 .within)
 
--- src/raise.rt:119:1
 returns-3 : tie.Need-returns-3
 returns-3 c =
     let s = c .before .before .before .before .before .before .before .before .before in
     let a = s .args in
-    raises-double (toStep (a .p)) (a .left) (toNode (a .n)) (toNode (a .c)) (toSub (a .near)) (a .others) (a .held) (a .next)
+    raises-double (toStep (a .p)) (a .left) (toWideNode (a .n)) (toWideNode (a .c)) (toSub (a .near)) (a .others) (a .held) (a .next)
     (c .before .before .before .before .open-kid .result) (rw (← c .before .before .before .before .before .before .before .kid-of2 .ensures) (c .before .before .before .before .open-kid .ensures))
     (sym (c .before .before .before .before .before .before .leans-out .ensures) ∙ c .before .before .before .before .before .if1 .left)
     (ap toKid (c .before .before .opened .given .1)) (c .double .ensures) (c .before .before .before .before .before .before .before .before .kid-of .ensures)
@@ -129,10 +98,7 @@ turn-over-spec =
     returns
     open-kid-requires
     enum-told
-    child-link-requires
-    beside-requires
-    step-at-requires
-    below-requires
+    inner-want-requires
     missing-requires
     enum-known-opened
     double-requires

@@ -3,7 +3,7 @@ use mathlib.Core.Bool.{not}
 use Prim.Native.Nat.{ℕ}
 use native.Mathlib.Omega.{arith}
 use Rattle.method.specs.Map.{Rotated}
-use Rattle.steps.specs.Method.{toNode}
+use Rattle.steps.specs.Method.{toWideNode}
 use Rattle.steps.specs.Heights.{Low}
 use Rattle.steps.specs.HeightLaws.{low-more, low-up}
 use Rattle.steps.specs.RotationLaws.{double-is}
@@ -23,9 +23,9 @@ rotate-requires c κs = search needs
 rotate-requires-2 : tie.Need-rotate-requires-2
 rotate-requires-2 c κs =
     let s = c .before .before .before in (
-      low-more (toNode (s .args .n)) (s .pre .0) (omega arith),
-      subst (λ (r : Rotated ℕ). Low 254 (r .up)) (sym (c .before .before .rotate .ensures))
-          (low-up (not (s .args .left)) (toNode (s .args .c)) (toNode (s .args .inner)) (s .pre .1 .0) (s .pre .1 .1)),
+      low-more (toWideNode (s .args .n)) (s .pre .0) (omega arith),
+      subst (λ (r : Rotated ℕ). Low 65534 (r .up)) (sym (c .before .before .rotate .ensures))
+          (low-up (not (s .args .left)) (toWideNode (s .args .c)) (toWideNode (s .args .inner)) (s .pre .1 .0) (s .pre .1 .1)),
     )
 
 -- src/rotation.rt:110:5
@@ -36,7 +36,7 @@ seated-requires c κs = search needs
 returns : tie.Need-returns
 returns c =
     let a = c .before .before .before .before .before .before .before .args in
-    double-is (a .left) (toNode (a .n)) (toNode (a .c)) (toNode (a .inner))
+    double-is (a .left) (toWideNode (a .n)) (toWideNode (a .c)) (toWideNode (a .inner))
     (c .before .before .before .before .before .before .rotate .ensures) (c .before .before .before .rotate2 .ensures)
     (c .seated .ensures)
 

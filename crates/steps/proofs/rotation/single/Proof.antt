@@ -1,4 +1,4 @@
-use Rattle.steps.specs.Method.{toNode, toKid}
+use Rattle.steps.specs.Method.{toWideNode, toKid}
 use Rattle.steps.specs.RotationLaws.{single-is}
 use borrow.Author.Needs.{needs}
 use Rattle.steps.proofs.rotation.single.Statement.{statement}
@@ -20,7 +20,7 @@ seated-requires c κs = search needs
 returns : tie.Need-returns
 returns c =
     let a = c .before .before .before .before .args in
-    single-is (a .left) (toNode (a .n)) (toNode (a .c)) (toKid (a .outer)) (c .before .before .before .rotate .ensures)
+    single-is (a .left) (toWideNode (a .n)) (toWideNode (a .c)) (toKid (a .outer)) (c .before .before .before .rotate .ensures)
     (c .seated .ensures)
 
 pub single-spec : {M : Type 1} → statement M

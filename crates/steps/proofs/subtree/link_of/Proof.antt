@@ -19,7 +19,7 @@ enum-known-b-2 c = search needs
 
 -- src/subtree.rt:21:30
 link-to-requires : tie.Need-link-to-requires
-link-to-requires c κs = subst (λ (b : Sub). LowSub 254 (toSub b)) (c .before .b2 .given .1) (c .before .before .before .pre) .0
+link-to-requires c κs = subst (λ (b : Sub). LowSub 65534 (toSub b)) (c .before .b2 .given .1) (c .before .before .before .pre) .0
 
 -- src/subtree.rt:15:1
 returns : tie.Need-returns

@@ -30,7 +30,7 @@ loop-holds : tie.Need-loop-holds Inv-loop μ-loop
 loop-holds c =
     let s = c .before in
     descend-start (s .args .key) (s .args .t3) (toWant (c .start .result)) (s .args .root .height) (s .pre .held)
-    (subst (λ (w : Want ℕ). w .link .height ≤ 100) (sym (c .start .ensures)) (s .pre .root-low))
+    (subst (λ (w : Want ℕ). w .link .height ≤ 255) (sym (c .start .ensures)) (s .pre .root-low))
 
 -- src/walk.rt:37:13
 returns : tie.Need-returns Inv-loop μ-loop

@@ -3,7 +3,7 @@ use Rattle.steps.proofs.wants.below.Statement.{statement}
 use Rattle.steps.proofs.wants.below.Tie as tie
 use Rattle.steps.proofs.wants.below.Reads as reads
 use Rattle.steps.proofs.wants.below.Lts as lts
-use Rattle.steps.proofs.rotation.child_link.Reads as child-link-reads
+use Rattle.steps.proofs.sides.child_link.Reads as child-link-reads
 use Rattle.steps.proofs.wants.beside.Reads as beside-reads
 
 -- src/wants.rt:67:9

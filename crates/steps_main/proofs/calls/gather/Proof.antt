@@ -1,10 +1,6 @@
-use borrow.Author.Needs.{needs}
 use Prim.Native.Nat.{_-_, _≤_}
-use Rattle.steps.specs.Outcome.{LowHeld}
-use Rattle.steps_main.specs.GatherLaws.{none-held, one-more-held}
-use mathlib.Core.Path.{sym, _∙_, ap}
-use Rattle.steps.specs.Method.{toLink, toOp, toWanted, nodesOf}
-use Rattle.steps.specs.WantLaws.{wanted-low}
+use borrow.Author.Needs.{needs}
+use native.Mathlib.Omega.{arith}
 use Rattle.steps_main.proofs.calls.gather.Statement.{statement}
 use Rattle.steps_main.proofs.calls.gather.Tie as tie
 use Rattle.steps_main.proofs.calls.gather.Reads as reads
@@ -15,75 +11,64 @@ use Rattle.steps_main.proofs.calls.nothing_held.Reads as nothing-held-r
 use Rattle.steps_main.proofs.calls.take.Reads as take-reads
 
 abbrev Inv-loop : tie.InvT-loop
-Inv-loop op tag root entries m₀ held₀ m held = LowHeld root held × (m .count ≤ 16)
+Inv-loop op tag root entries m₀ held₀ m held = (held .count ≤ 33) × (m .count ≤ 16)
 
 abbrev μ-loop : tie.MeasureT-loop
 μ-loop op tag root entries m₀ held₀ m held = 33 - held .count
 
--- src/calls.rt:107:9
+-- src/calls.rt:104:9
 nothing-held-requires : tie.Need-nothing-held-requires Inv-loop μ-loop
 nothing-held-requires c κs = search needs
 
--- src/calls.rt:108:5
+-- src/calls.rt:105:5
 loop-holds : tie.Need-loop-holds Inv-loop μ-loop
-loop-holds c = (none-held (c .before .before .args .memory .root) (c .before .before .pre .1) (c .nothing-held .ensures .0) (c .nothing-held .ensures .1), c .before .before .pre .0)
+loop-holds c = search needs
 
--- src/calls.rt:109:13
+-- src/calls.rt:106:13
 wanted-requires : tie.Need-wanted-requires Inv-loop μ-loop
 wanted-requires c κs = search needs
 
--- src/calls.rt:110:27
+-- src/calls.rt:107:27
 enum-known-next : tie.Need-enum-known-next Inv-loop μ-loop
 enum-known-next c = search needs
 
--- src/calls.rt:111:13
+-- src/calls.rt:108:13
 enum-told : tie.Need-enum-told Inv-loop μ-loop
 enum-told c = search needs
 
--- src/calls.rt:111:13
+-- src/calls.rt:108:13
 returns : tie.Need-returns Inv-loop μ-loop
 returns c = search needs
 
--- src/calls.rt:113:13
+-- src/calls.rt:110:13
 take-requires : tie.Need-take-requires Inv-loop μ-loop
 take-requires c κs = search needs
 
--- src/calls.rt:116:23
+-- src/calls.rt:113:23
 enum-known-node : tie.Need-enum-known-node Inv-loop μ-loop
 enum-known-node c = search needs
 
--- src/calls.rt:117:13
+-- src/calls.rt:114:13
 enum-told-2 : tie.Need-enum-told-2 Inv-loop μ-loop
 enum-told-2 c = search needs
 
--- src/calls.rt:117:13
+-- src/calls.rt:114:13
 returns-2 : tie.Need-returns-2 Inv-loop μ-loop
 returns-2 c = search needs
 
--- src/calls.rt:119:9
+-- src/calls.rt:116:9
 hold-requires : tie.Need-hold-requires Inv-loop μ-loop
 hold-requires c κs = search needs
 
--- src/calls.rt:108:5
+-- src/calls.rt:105:5
 loop-less : tie.Need-loop-less Inv-loop μ-loop
 loop-less c = search needs
 
--- src/calls.rt:108:5
+-- src/calls.rt:105:5
 loop-again : tie.Need-loop-again Inv-loop μ-loop
-loop-again c =
-    let take = c .before .before .before .before .before in
-    let next = take .before .before in
-    let test = next .before .before .before in
-    let now = test .before .before in
-    let s = now .before .before .before in
-    let a = s .args in
-    let root = a .memory .root in (
-      one-more-held root (now .loop .held) (c .before .before .node .given .0 .0) (now .loop .inv .0) (test .if1 .taken) (c .hold .ensures .0) (c .hold .ensures .1)
-          (take .take .ensures .low _ (c .before .before .node .given .1) (wanted-low (toOp (a .op)) (a .tag) 15 (a .memory .entries) (toLink root) (nodesOf (now .loop .held)) 100 (s .pre .1) (now .loop .inv .0 .low) (sym (next .before .before .wanted .ensures) ∙ ap toWanted (next .next .given .1)))),
-      take .take .ensures .room,
-    )
+loop-again c = search needs
 
--- src/calls.rt:100:1
+-- src/calls.rt:97:1
 returns-3 : tie.Need-returns-3 Inv-loop μ-loop
 returns-3 c = search needs
 

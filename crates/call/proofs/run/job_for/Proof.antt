@@ -1,0 +1,41 @@
+use Prim.Native.Nat.{_^_, _≤_}
+use lib.Pow.{pow-mono}
+use native.Mathlib.Omega.{arith}
+use borrow.Author.Needs.{needs}
+use Rattle.call.proofs.run.job_for.Statement.{statement}
+use Rattle.call.proofs.run.job_for.Tie as tie
+use Rattle.call.proofs.run.job_for.Reads as reads
+use Rattle.call.proofs.run.job_for.Lts as lts
+use Rattle.idle_rounds.proofs.idle.draw_at.Reads as draw-at-reads
+use Rattle.slots.proofs.tree.leaves.Reads as leaves-reads
+
+-- src/run.rt:49:18
+leaves-requires : tie.Need-leaves-requires
+leaves-requires c κs = search needs
+
+-- src/run.rt:49:18
+sub-limit : tie.Need-sub-limit
+sub-limit c = search needs
+
+-- src/run.rt:49:17
+cast-limit : tie.Need-cast-limit
+cast-limit c =
+    let s = c .before .before in
+    let most : 2 ^ s .args .size ≤ 2 ^ 8 = pow-mono (s .pre .0) in
+    omega (arith, most, c .leaves .ensures)
+
+-- src/run.rt:50:15
+draw-at-requires : tie.Need-draw-at-requires
+draw-at-requires c κs = search needs
+
+-- src/run.rt:50:15
+cast-tag : tie.Need-cast-tag
+cast-tag c = search needs
+
+-- src/run.rt:37:1
+returns : tie.Need-returns
+returns c = rw (c .before .leaves .ensures .0, c .draw-at .ensures .0)
+
+pub job-for-spec : {M : Type 1} → statement M
+job-for-spec =
+    tie.close (tie.spec leaves-requires sub-limit cast-limit draw-at-requires cast-tag returns)

@@ -1,0 +1,40 @@
+-- Rounds that want none, one after the other: the fetch rounds that are left once the walk is done, and the put rounds.
+use mathlib.Core.Path.{_≡_}
+use mathlib.Core.Bool.{true}
+use mathlib.Core.List.{List, [], _∷_, _++_, map}
+use Prim.Native.Nat.{ℕ, _+_, _-_, _≤_}
+use lib.ListN.{length}
+use lib.Seq.{sets}
+use Rattle.basics.specs.Distinct.{All}
+use Rattle.method.specs.Prog.{done}
+use Rattle.method.specs.Map.{Outcome}
+use Rattle.method.specs.Call.{drawsFrom}
+use Rattle.round_laws.specs.Whole.{IsTree}
+use Rattle.calls.specs.Fetch.{Held}
+use Rattle.calls.specs.Call.{putRounds}
+use Rattle.leaf_laws.specs.Proper.{ProperLeaf}
+use Rattle.waiting.specs.Waiting.{waitingIn}
+use Rattle.call_rounds.specs.OneRound.{going, endedWith, Rests}
+use Rattle.idle_rounds.specs.declared.idle.Idle.{Idle}
+
+-- A store between two rounds: the tree is one of that size, and the waiting nodes are proper and have room.
+pub record Between (k n : ℕ) (words scratch tree held : List ℕ) : Type 0 where
+  pub small : k ≤ 8
+  pub is-tree : IsTree k tree
+  pub rests : Rests n words scratch held
+  pub proper : All (ProperLeaf k) (waitingIn n words)
+  pub few : n + length held ≤ 65
+
+abbrev pub keysHeld : List Held → List ℕ
+keysHeld hs = map (λ (h : Held). h .node .key) hs
+
+-- The rounds from draw `first` on came to mark and waiting nodes as said, for any nodes that are held under these keys, any leaves
+-- revealed before and any outcome; each revealed its draw, in the trace from place `at` on.
+pub record IdledAll (k n : ℕ) (draw : ℕ → ℕ) (count first at : ℕ) (words tree trace held words′ scratch′ tree′ trace′ : List ℕ) (r : Idle) : Type 0 where
+  pub rounds : (hs : List Held) (ls : List ℕ) (o : Outcome ℕ) → keysHeld hs ≡ held
+      → putRounds k draw count first o (going n words tree hs ls)
+      ≡ endedWith (r .mark) (going (r .waiting) words′ tree′ hs (ls ++ drawsFrom draw (r .shown) first)) (done o)
+  pub revealed : trace′ ≡ sets trace at (drawsFrom draw (r .shown) first)
+  pub rests : Rests (r .waiting) words′ scratch′ held
+  pub no-more : r .shown ≤ count
+  pub all-shown : r .mark ≡ 0 → r .shown ≡ count

@@ -1,0 +1,71 @@
+// Rounds that want none: each reveals its draw.
+use buckets::WORDS;
+use call_rounds::idle_round;
+use slots::tree::leaves;
+ghost use mathlib.Core.Path.{_≡_};
+ghost use Prim.Native.Nat.{_+_, _^_, _<_, _≤_};
+ghost use lib.ListN.{length};
+ghost use Rattle.calls.specs.Call.{drawOf};
+ghost use Rattle.idle_rounds.specs.Idle.{Between, IdledAll};
+
+// How rounds that want none ended: mark 0, or 8 damage or 9 overflow, how many nodes wait then, and how many leaves these rounds
+// revealed.
+pub struct Idle {
+    pub mark: u8,
+    pub waiting: usize,
+    pub shown: usize,
+}
+
+fn wide(x: u16) -> usize
+    ensures { λ r. ⌜ r ≡ x ⌝ }
+{
+    x as usize
+}
+
+// A draw of the tape: the remainder of its number by the number of leaves.
+pub fn draw_at(tape: &[u16], d: usize, size: usize) -> usize
+    requires { ⌜ (d < length (now tape)) × (size ≤ 8) ⌝ }
+    ensures { λ r. ⌜ (r ≡ drawOf size (now (tape .entry)) d) × ((r < 2 ^ size) × (r < 256)) ⌝ }
+{
+    wide(tape[d]) % leaves(size)
+}
+
+// So many rounds that want none, from draw `first` on; the leaves go to the trace from place `at` on.
+pub fn idle_rounds(
+    w: &mut [u64; WORDS],
+    n: usize,
+    s: &mut [u64; WORDS],
+    tree: &mut [u8],
+    size: usize,
+    held: &[u32],
+    tape: &[u16],
+    first: usize,
+    count: usize,
+    trace: &mut [u16],
+    at: usize,
+) -> Idle
+    requires { ⌜ (Between size n (now w) (now s) (now tree) (now held)) × ((first + count ≤ length (now tape)) × (at + count ≤ length (now trace))) ⌝ }
+    ensures { λ r. ⌜ IdledAll size n (drawOf size (now (tape .entry))) count first at (now (w .entry)) (now (tree .entry)) (now (trace .entry)) (now (held .entry)) (now (w .exit)) (now (s .exit)) (now (tree .exit)) (now (trace .exit)) r ⌝ }
+{
+    let mut waiting = n;
+    let mut i = 0;
+    while i < count {
+        let leaf = draw_at(tape, first + i, size);
+        trace[at + i] = leaf as u16;
+        let r = idle_round(w, waiting, s, tree, size, leaf, held);
+        if r.mark != 0 {
+            return Idle {
+                mark: r.mark,
+                waiting: r.waiting,
+                shown: i + 1,
+            };
+        }
+        waiting = r.waiting;
+        i += 1;
+    }
+    Idle {
+        mark: 0,
+        waiting,
+        shown: count,
+    }
+}

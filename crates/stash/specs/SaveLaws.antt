@@ -1,0 +1,193 @@
+-- One place after another: saved over the places that a fit state has.
+use mathlib.Core.Path.{_≡_, refl, sym, _∙_, ap, ap₂}
+use mathlib.Core.Bool.{true, not, _&&_, and-eq-true-iff}
+use mathlib.Core.List.{List, [], _∷_, _++_, map}
+use Prim.Native.Nat.{ℕ, zero, suc, _+_, _-_, _^_, _≤_, _<_}
+use native.Mathlib.Numerals.{add-one}
+use native.Mathlib.Omega.{arith}
+use borrow.Author.Tests.{not-true, eqb-true, leb-true}
+use lib.Dec.{eqb, leb}
+use lib.ListN.{length, take, drop, getD, set, replicate, length-map, length-append, length-replicate, length-drop, getD-replicate, take-append-drop, drop-of-length-le, List·getD-append, List·getD-map}
+use lib.Seq.{take-suc, drop-cons, drop-drop, drop-append-add, set-at, append-snoc, getD-append-add, getD-take, length-take-le}
+use Rattle.slots.specs.Slot.{fieldsIn, nodeOf, slotBytes}
+use Rattle.slots.specs.declared.Slot.{Slot}
+use Rattle.slots.specs.declared.Link.{Link}
+use Rattle.slots.specs.declared.Node as node
+use Rattle.method.specs.Node.{Node}
+use Rattle.rounds.specs.Round.{limit}
+use Rattle.leaf_nodes.specs.Convert.{fromNode, fromLink}
+use Rattle.calls.specs.Fetch.{Left}
+use Rattle.buckets.specs.Words.{slotsOf, zeroSlot}
+use Rattle.waiting.specs.Waiting.{nodeIn, waitingIn, Holds}
+use Rattle.waiting.specs.WaitingLaws.{waiting-length}
+use Rattle.state.specs.declared.Place.{Place}
+use Rattle.state.specs.declared.State.{State}
+use Rattle.state.specs.Fit.{largestStructure, largestSize, inRange, zeroLink, zeroNode, zeroPlace, allOf, placeGood, keysIn, places, noLink, noPlace, placesFrom, used, unused, placesFit, fits}
+use Rattle.basics.specs.Ascending.{ascending}
+use Rattle.store.specs.Store.{placed, stateLeft}
+use Rattle.stash.specs.Stash.{saved}
+
+-- ---- the unused places of a fit state
+zero-link : (l : Link) → zeroLink l ≡ true → l ≡ noLink
+zero-link l e =
+    let a = and-eq-true-iff (eqb (l .height) 0) (eqb (l .key) 0 && eqb (l .tag) 0) .0 e in
+    let b = and-eq-true-iff (eqb (l .key) 0) (eqb (l .tag) 0) .0 (a .1) in
+    let height = eqb-true (l .height) 0 (a .0) in
+    let key = eqb-true (l .key) 0 (b .0) in
+    let tag = eqb-true (l .tag) 0 (b .1) in
+    let same : _≡_ {A = Link} (record { height = l .height; key = l .key; tag = l .tag }) noLink = cc in
+    same
+
+zero-place : (p : Place) → zeroPlace p ≡ true → p ≡ noPlace
+zero-place p e =
+    let a = and-eq-true-iff (not (p .full)) (zeroNode (p .node)) .0 e in
+    let b = and-eq-true-iff (eqb (p .node .key) 0) _ .0 (a .1) in
+    let d = and-eq-true-iff (eqb (p .node .value) 0) _ .0 (b .1) in
+    let f = and-eq-true-iff (eqb (p .node .tag) 0) _ .0 (d .1) in
+    let g = and-eq-true-iff (zeroLink (p .node .left)) (zeroLink (p .node .right)) .0 (f .1) in
+    let full = not-true (p .full) (a .0) in
+    let key = eqb-true (p .node .key) 0 (b .0) in
+    let value = eqb-true (p .node .value) 0 (d .0) in
+    let tag = eqb-true (p .node .tag) 0 (f .0) in
+    let left = zero-link (p .node .left) (g .0) in
+    let right = zero-link (p .node .right) (g .1) in
+    let n = p .node in
+    let same : _≡_ {A = Place} (record { full = p .full; node = record { key = n .key; value = n .value; tag = n .tag; left = n .left; right = n .right } }) noPlace = cc in
+    same
+
+all-zero : (ps : List Place) → allOf zeroPlace ps ≡ true → ps ≡ replicate (length ps) noPlace
+unfolding allOf
+all-zero [] e = refl
+all-zero (p ∷ ps) e =
+    let both = and-eq-true-iff (zeroPlace p) (allOf zeroPlace ps) .0 e in
+    ap₂ (λ (q : Place) (qs : List Place). q ∷ qs) (zero-place p (both .0)) (all-zero ps (both .1))
+
+places-rest : (n i : ℕ) (ps : List Place) → length ps ≡ i + n → placesFrom n i ps ≡ drop i ps
+unfolding placesFrom
+places-rest zero i ps h = sym (drop-of-length-le ps {i = i} (omega arith))
+places-rest (suc n) i ps h =
+    ap (λ (qs : List Place). getD ps i noPlace ∷ qs) (places-rest n (suc i) ps (omega arith))
+    ∙ sym (drop-cons ps i noPlace (omega arith))
+
+drop-replicate : {A : Type 0} (m n : ℕ) (a : A) → drop m (replicate n a) ≡ replicate (n - m) a
+drop-replicate zero n a = let e : n - 0 ≡ n = omega arith in rw e
+drop-replicate (suc m) zero a = let e : 0 - suc m ≡ 0 = omega arith in rw e
+drop-replicate (suc m) (suc n) a = let e : suc n - suc m ≡ n - m = omega arith in rw e (drop-replicate m n a)
+
+-- What a fit state says of its places.
+pub record Places (s : State) : Type 0 where
+  pub few : s .count ≤ limit
+  pub blank : allOf zeroPlace (unused s) ≡ true
+
+pub fit-places : (s : State) → fits s ≡ true → Places s
+unfolding fits
+fit-places s e =
+    let a = and-eq-true-iff (inRange (s .structure) largestStructure) _ .0 e in
+    let b = and-eq-true-iff (inRange (s .size) largestSize) _ .0 (a .1) in
+    let c = and-eq-true-iff (leb (s .entries) (2 ^ s .size - 1)) _ .0 (b .1) in
+    let d = and-eq-true-iff (leb (s .count) limit) _ .0 (c .1) in
+    let f = and-eq-true-iff (placesFit s) _ .0 (d .1) in
+    let g = and-eq-true-iff (allOf (placeGood (s .size)) (used s)) _ .0 (f .0) in
+    record {
+      few = leb-true (s .count) limit (d .0);
+      blank = and-eq-true-iff (ascending (keysIn (used s))) _ .0 (g .1) .1;
+    }
+
+-- From the count on they are blank.
+blank-from : (s : State) (i : ℕ) → Places s → length (s .places) ≡ places → s .count ≤ i → i ≤ places → drop i (s .places) ≡ replicate (places - i) noPlace
+blank-from s i p sized h few =
+    let c = s .count in
+    let d = i - c in
+    let here : unused s ≡ drop c (s .places) = places-rest (places - c) c (s .places) (omega arith) in
+    let many : length (drop c (s .places)) ≡ places - c = length-drop c (s .places) ∙ omega arith in
+    let e : c + d ≡ i = omega arith in
+    let f : places - c - d ≡ places - i = omega arith in
+    sym (drop-drop d c (s .places) ∙ ap (λ (k : ℕ). drop k (s .places)) e)
+    ∙ ap (drop d) (sym here ∙ all-zero (unused s) (p .blank) ∙ ap (λ (k : ℕ). replicate k noPlace) (ap length here ∙ many))
+    ∙ drop-replicate d (places - c) noPlace
+    ∙ ap (λ (k : ℕ). replicate k noPlace) f
+
+-- ---- the places that are saved
+abbrev holding : Node ℕ → Place
+holding n = record { full = true; node = fromNode n }
+
+-- A state with other places.
+abbrev pub withPlaces : State → List Place → State
+withPlaces s ps =
+    record {
+      mark = s .mark;
+      structure = s .structure;
+      size = s .size;
+      entries = s .entries;
+      root = s .root;
+      count = s .count;
+      places = ps;
+    }
+
+-- The first i places as they are saved, and the others as they were.
+abbrev pub savedTo : (i n : ℕ) (words : List ℕ) → State → State
+savedTo i n words s = withPlaces s (take i (placed (waitingIn n words)) ++ drop i (s .places))
+
+module _ (n : ℕ) (words : List ℕ) (h : Holds n words) where
+  abbrev nodes : List (Node ℕ)
+  nodes = waitingIn n words
+
+  many : length (map holding nodes) ≡ n
+  many = length-map nodes holding ∙ waiting-length h
+
+  pub placed-count : length (placed nodes) ≡ places
+  placed-count = simp (length-append, length-replicate) (omega (arith, many, waiting-length h, h .few))
+
+  -- What stands in a place: a node, or from n on nothing.
+  holds-node : (i : ℕ) → i < n → getD (placed nodes) i (holding (nodeIn zeroSlot)) ≡ holding (nodeIn (getD (slotsOf words) i zeroSlot))
+  holds-node i b =
+      List·getD-append (map holding nodes) (replicate (places - length nodes) noPlace) (holding (nodeIn zeroSlot)) i (omega (arith, many))
+      ∙ List·getD-map holding nodes i (nodeIn zeroSlot)
+      ∙ ap holding (List·getD-map nodeIn (take n (slotsOf words)) i zeroSlot ∙ ap nodeIn (getD-take n (slotsOf words) i zeroSlot b))
+
+  holds-none : (i : ℕ) (d : Place) → n ≤ i → i < places → getD (placed nodes) i d ≡ noPlace
+  holds-none i d a b =
+      let e : i ≡ length (map holding nodes) + (i - n) = omega (arith, many) in
+      rw e (getD-append-add (map holding nodes) (replicate (places - length nodes) noPlace) (i - n) d ∙ getD-replicate (places - length nodes) (i - n) noPlace d (omega (arith, waiting-length h)))
+
+  module _ (s : State) (fit : fits s ≡ true) (sized : length (s .places) ≡ places) where
+    -- One more place is as it is saved.
+    next-place : (i : ℕ) (after : State) (p d : Place) → i < places → after ≡ savedTo i n words s → p ≡ getD (placed nodes) i d
+        → withPlaces after (set (after .places) i p) ≡ savedTo (i + 1) n words s
+    next-place i after p d b e q =
+        let rest = drop (suc i) (s .places) in
+        rw (e, q, add-one i, drop-cons (s .places) i d (omega arith))
+        (ap (withPlaces s)
+        (set-at (take i (placed nodes)) (getD (s .places) i d) rest (getD (placed nodes) i d) i (length-take-le i (placed nodes) (omega (arith, placed-count)))
+        ∙ sym (append-snoc (take i (placed nodes)) (getD (placed nodes) i d) rest)
+        ∙ ap (λ (ps : List Place). ps ++ rest) (sym (take-suc (placed nodes) i d (omega (arith, placed-count))))))
+
+    pub saved-node : (i : ℕ) (after : State) (x : Slot) (m : node.Node) → i < n → after ≡ savedTo i n words s → x ≡ getD (slotsOf words) i zeroSlot
+        → m ≡ nodeOf (fieldsIn (slotBytes x)) → withPlaces after (set (after .places) i (record { full = true; node = m })) ≡ savedTo (i + 1) n words s
+    saved-node i after x m b e q r =
+        next-place i after (record { full = true; node = m }) (holding (nodeIn zeroSlot)) (omega (arith, h .few)) e (rw (r, q) (sym (holds-node i b)))
+
+    pub saved-none : (i : ℕ) (after : State) (p : Place) → n ≤ i → i < places → after ≡ savedTo i n words s → p ≡ noPlace
+        → withPlaces after (set (after .places) i p) ≡ savedTo (i + 1) n words s
+    saved-none i after p a b e q = next-place i after p noPlace b e (q ∙ sym (holds-none i noPlace a b))
+
+    -- Past the nodes that wait and those that waited, nothing is left to save.
+    nothing-left : (i : ℕ) → n ≤ i → s .count ≤ i → i ≤ places → take i (placed nodes) ++ drop i (s .places) ≡ placed nodes
+    nothing-left i a b few =
+        let e : i ≡ length (map holding nodes) + (i - n) = omega (arith, many) in
+        let f : places - length nodes - (i - n) ≡ places - i = omega (arith, waiting-length h) in
+        let left : drop i (placed nodes) ≡ replicate (places - i) noPlace =
+        ap (λ (k : ℕ). drop k (placed nodes)) e
+        ∙ drop-append-add (map holding nodes) (replicate (places - length nodes) noPlace) (i - n)
+        ∙ drop-replicate (i - n) (places - length nodes) noPlace
+        ∙ ap (λ (k : ℕ). replicate k noPlace) f in
+        ap (λ (ps : List Place). take i (placed nodes) ++ ps) (blank-from s i (fit-places s fit) sized b few ∙ sym left) ∙ take-append-drop i (placed nodes)
+
+    pub saved-all : (i : ℕ) (after : State) (mark entries : ℕ) (root : Link) → after ≡ savedTo i n words s → n ≤ i → s .count ≤ i → i ≤ places
+        → _≡_ {A = State} (record { mark = mark; structure = after .structure; size = after .size; entries = entries; root = root; count = n; places = after .places })
+        (saved (s .structure) (s .size) mark entries root nodes)
+    saved-all i after mark entries root e a b few = rw (e, nothing-left i a b few, waiting-length h)
+
+-- What is saved is the state that a call leaves.
+pub saved-left : (s : State) (l : Left) → stateLeft s l ≡ saved (s .structure) (s .size) (l .mark) (l .entries) (fromLink (l .root)) (l .waiting)
+saved-left s l = refl

@@ -1,0 +1,29 @@
+-- The rounds of a call: bounded, and what they are for each structure.
+use mathlib.Core.Path.{_≡_, refl}
+use Prim.Native.Nat.{ℕ, _*_, _≤_}
+use native.Mathlib.Omega.{arith}
+use Rattle.balance.specs.Least.{least}
+use Rattle.balance.specs.Shape.{shaped}
+use Rattle.balance.specs.Greatest.{tallest, greatest}
+use Rattle.balance.specs.GreatestLaws.{greatest-mono}
+use Rattle.method.specs.Answer.{Structure, map, stack}
+use Rattle.method.specs.Rounds.{rounds}
+use Rattle.state.specs.Fit.{largestSize}
+use Rattle.state.specs.Fetching.{mostRounds}
+
+greatest-eight : greatest 8 ≡ 11
+unfolding least shaped tallest greatest
+greatest-eight = refl
+
+pub rounds-most : (st : Structure) (k : ℕ) → k ≤ largestSize → rounds st k ≤ mostRounds
+unfolding rounds
+rounds-most map k h = omega (arith, greatest-mono h, greatest-eight)
+rounds-most stack k h = omega arith
+
+pub rounds-map : (k : ℕ) → rounds map k ≡ 3 * greatest k
+unfolding rounds
+rounds-map k = refl
+
+pub rounds-stack : (k : ℕ) → rounds stack k ≡ 1
+unfolding rounds
+rounds-stack k = refl

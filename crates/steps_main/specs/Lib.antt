@@ -1,2 +1,0 @@
-pub mod Gather
-pub mod GatherLaws

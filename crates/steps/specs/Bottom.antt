@@ -7,11 +7,13 @@ use lib.ListN.{getD, drop}
 use Rattle.method.specs.Prog.{Prog, done, bind}
 use Rattle.method.specs.Map.{Outcome, Built, start, finish}
 use Rattle.slots.specs.declared.Link as link
+use Rattle.slots.specs.declared.Node as node
 use Rattle.steps.specs.declared.Want as want
 use Rattle.steps.specs.declared.Sub.the-variants.{Stub}
 use Rattle.steps.specs.declared.Answer.the-variants.{Absent, Removed}
 use Rattle.steps.specs.declared.Sub as sub
 use Rattle.steps.specs.declared.Answer as answer
+use Rattle.steps.specs.declared.WideNode.{WideNode}
 use Rattle.steps.specs.declared.Held.{Held}
 use Rattle.steps.specs.declared.Wanted.{Wanted}
 use Rattle.steps.specs.declared.Wanted.the-variants.{Done, Fetch}
@@ -56,6 +58,21 @@ bottomAt rotating b length at entries a =
       entries = entries;
       answer = a;
     }
+
+-- A new node, and a node with a new value.
+abbrev pub leafOf : (key value tag : ℕ) → WideNode
+leafOf key value tag =
+    record {
+      left = record { key = 0; tag = 0; height = 0 };
+      right = record { key = 0; tag = 0; height = 0 };
+      value = value;
+      key = key;
+      tag = tag;
+    }
+
+abbrev pub valued : ℕ → node.Node → WideNode
+valued value n =
+    record { left = wideLink (n .left); right = wideLink (n .right); value = value; key = n .key; tag = n .tag }
 
 abbrev pub pastFound : Wanted → (last found entries value : ℕ) → Held → Bottom
 pastFound Done last found entries value h =

@@ -41,31 +41,36 @@ pub struct Climbed {
     pub next: usize,
 }
 
+// The end of a climb.
+fn ended(wanted: Wanted, sub: Sub, nodes: [Node; NODES], count: usize, next: usize) -> Climbed
+    ensures { λ r. ⌜ r ≡ record { wanted = wanted; sub = sub; nodes = nodes; count = count; next = next } ⌝ }
+{
+    Climbed {
+        wanted,
+        sub,
+        nodes,
+        count,
+        next,
+    }
+}
+
 // The climb over the nodes that were passed, with rotations or without, from the subtree at the place of the change. What a
-// level is done with is stored straight into the array, which is not handed from function to function.
+// level is done with is stored straight into the array, which is handed on at the end only.
 pub fn climb(rotating: bool, path: Path, bottom: Sub, held: Held, at: usize) -> Climbed
     requires { ⌜ Climbs path bottom held at ⌝ }
     ensures { λ r. ⌜ ClimbsTo rotating path bottom held at r ⌝ }
 {
-    let none = blank_node();
-    let mut nodes = [none; NODES];
+    let mut nodes = [blank_node(); NODES];
     let mut count: usize = 0;
     let mut sub = bottom;
     let mut next = at;
     let mut i = path.count;
     while i > 0 {
         i -= 1;
-        let p = path.steps[i];
-        let r = raise_or_rest(rotating, p, sub, held, next);
+        let r = raise_or_rest(rotating, path.steps[i], sub, held, next);
         let wanted = r.wanted;
         if let Wanted::Fetch(w) = wanted {
-            return Climbed {
-                wanted: Wanted::Fetch(w),
-                sub,
-                nodes,
-                count,
-                next,
-            };
+            return ended(Wanted::Fetch(w), sub, nodes, count, next);
         }
         let aside = r.aside;
         let others = r.others;
@@ -91,11 +96,5 @@ pub fn climb(rotating: bool, path: Path, bottom: Sub, held: Held, at: usize) -> 
         sub = r.sub;
         next = r.next;
     }
-    Climbed {
-        wanted: Wanted::Done,
-        sub,
-        nodes,
-        count,
-        next,
-    }
+    ended(Wanted::Done, sub, nodes, count, next)
 }

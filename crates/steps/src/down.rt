@@ -15,14 +15,16 @@ use super::walk::next_larger;
 use super::widths::widen;
 use super::widths::widen_link;
 use slots::Link;
+use slots::Node;
 ghost use mathlib.Core.Path.{_≡_};
-ghost use Prim.Native.Nat.{_<_, pred};
-ghost use Rattle.method.specs.Node.{absent};
+ghost use mathlib.Core.Bool.{true, false};
+ghost use Prim.Native.Nat.{_+_, _<_, pred};
 ghost use Rattle.method.specs.Map.{getProg, putProg, removeProg};
-ghost use Rattle.steps.specs.Method.{toLink, toWideNode};
+ghost use Rattle.steps.specs.Method.{toLink};
+ghost use Rattle.steps.specs.Widths.{wideLink, wideNode};
 ghost use Rattle.steps.specs.Walk.{Walks};
 ghost use Rattle.steps.specs.Raise.{HeldFrom};
-ghost use Rattle.steps.specs.Bottom.{StartsUp, unfinishedAt, bottomAt, pastFound};
+ghost use Rattle.steps.specs.Bottom.{StartsUp, unfinishedAt, bottomAt, leafOf, valued, pastFound};
 
 // The node that is missing.
 fn unfinished(want: Want) -> Bottom
@@ -64,6 +66,24 @@ fn bottom_at(
     }
 }
 
+// The place where the key would be, with its link as it is.
+fn at_gap(want: Want, depth: usize, entries: u16, answer: Answer) -> Bottom
+    ensures { λ r. ⌜ r ≡ bottomAt false (Sub.Stub (wideLink (want .link))) depth depth entries answer ⌝ }
+{
+    let link = widen_link(want.link);
+    bottom_at(false, Sub::Stub(link), depth, depth, entries, answer)
+}
+
+// The node with the key, as it is.
+fn at_node(n: Node, depth: usize, entries: u16, answer: Answer) -> Bottom
+    requires { ⌜ depth < 33 ⌝ }
+    ensures { λ r. ⌜ r ≡ bottomAt false (Sub.Top (wideNode n) Kid.Away Kid.Away) depth (depth + 1) entries answer ⌝ }
+{
+    let m = widen(n);
+    let sub = Sub::Top(m, Kid::Away, Kid::Away);
+    bottom_at(false, sub, depth, depth + 1, entries, answer)
+}
+
 // The place of the next larger key's node: its right link takes that, and its entry goes to the node `found`.
 fn past_found(y: Lowest, found: usize, entries: u16, value: u64, held: Held) -> Bottom
     requires { ⌜ HeldFrom 255 held 0 × (y .wanted ≡ Wanted.Done → y .last < held .count) ⌝ }
@@ -102,33 +122,16 @@ pub fn get(key: u32, entries: u16, root: Link, held: Held) -> Bottom
     let end = d.end;
     match end {
         End::Missing => unfinished(want),
-        End::Gap => {
-            let link = widen_link(want.link);
-            bottom_at(
-                false,
-                Sub::Stub(link),
-                depth,
-                depth,
-                entries,
-                Answer::Absent,
-            )
-        }
+        End::Gap => at_gap(want, depth, entries, Answer::Absent),
         End::Hit => {
             let n = held.nodes[depth];
-            bottom_at(
-                false,
-                Sub::Top(widen(n), Kid::Away, Kid::Away),
-                depth,
-                depth + 1,
-                entries,
-                Answer::Found(n.value),
-            )
+            at_node(n, depth, entries, Answer::Found(n.value))
         }
     }
 }
 
 fn leaf(key: u32, value: u64, tag: u16) -> WideNode
-    ensures { λ r. ⌜ toWideNode r ≡ record { key = key; value = value; tag = tag; left = absent 0; right = absent 0 } ⌝ }
+    ensures { λ r. ⌜ r ≡ leafOf key value tag ⌝ }
 {
     let none = WideLink {
         key: 0,
@@ -142,6 +145,33 @@ fn leaf(key: u32, value: u64, tag: u16) -> WideNode
         key,
         tag,
     }
+}
+
+// A new node where the key would be.
+fn added(key: u32, value: u64, tag: u16, depth: usize, entries: u16) -> Bottom
+    requires { ⌜ entries < 65535 ⌝ }
+    ensures { λ r. ⌜ r ≡ bottomAt true (Sub.Top (leafOf key value tag) Kid.Away Kid.Away) depth depth (entries + 1) Answer.New ⌝ }
+{
+    let n = leaf(key, value, tag);
+    let sub = Sub::Top(n, Kid::Away, Kid::Away);
+    bottom_at(true, sub, depth, depth, entries + 1, Answer::New)
+}
+
+// The node with the key, with the new value.
+fn replaced(n: Node, value: u64, depth: usize, entries: u16) -> Bottom
+    requires { ⌜ depth < 33 ⌝ }
+    ensures { λ r. ⌜ r ≡ bottomAt false (Sub.Top (valued value n) Kid.Away Kid.Away) depth (depth + 1) entries (Answer.Replaced (n .value)) ⌝ }
+{
+    let mut m = widen(n);
+    m.value = value;
+    bottom_at(
+        false,
+        Sub::Top(m, Kid::Away, Kid::Away),
+        depth,
+        depth + 1,
+        entries,
+        Answer::Replaced(n.value),
+    )
 }
 
 // A put replaces the value of a present key, or adds a node with the new tag. The full rule comes first.
@@ -165,41 +195,16 @@ pub fn put(
         End::Missing => unfinished(want),
         End::Gap => {
             if entries < limit {
-                let n = leaf(key, value, tag);
-                return bottom_at(
-                    true,
-                    Sub::Top(n, Kid::Away, Kid::Away),
-                    depth,
-                    depth,
-                    entries + 1,
-                    Answer::New,
-                );
+                return added(key, value, tag, depth, entries);
             }
-            let link = widen_link(want.link);
-            bottom_at(false, Sub::Stub(link), depth, depth, entries, Answer::Full)
+            at_gap(want, depth, entries, Answer::Full)
         }
         End::Hit => {
             let n = held.nodes[depth];
             if entries < limit {
-                let mut m = widen(n);
-                m.value = value;
-                return bottom_at(
-                    false,
-                    Sub::Top(m, Kid::Away, Kid::Away),
-                    depth,
-                    depth + 1,
-                    entries,
-                    Answer::Replaced(n.value),
-                );
+                return replaced(n, value, depth, entries);
             }
-            bottom_at(
-                false,
-                Sub::Top(widen(n), Kid::Away, Kid::Away),
-                depth,
-                depth + 1,
-                entries,
-                Answer::Full,
-            )
+            at_node(n, depth, entries, Answer::Full)
         }
     }
 }
@@ -213,6 +218,15 @@ pub fn one_less(entries: u16) -> u16
     entries - 1
 }
 
+// The place of the node with the key: its only child's link, or an absent one, takes that.
+fn taken_out(child: Link, depth: usize, entries: u16, value: u64) -> Bottom
+    requires { ⌜ depth < 33 ⌝ }
+    ensures { λ r. ⌜ r ≡ bottomAt true (Sub.Stub (wideLink child)) depth (depth + 1) entries (Answer.Removed value) ⌝ }
+{
+    let sub = Sub::Stub(widen_link(child));
+    bottom_at(true, sub, depth, depth + 1, entries, Answer::Removed(value))
+}
+
 // A remove takes the node with the key out of the tree. One with two children leaves its place to the next larger key's node.
 pub fn remove(key: u32, entries: u16, root: Link, held: Held) -> Bottom
     requires { ⌜ Walks root held ⌝ }
@@ -224,41 +238,17 @@ pub fn remove(key: u32, entries: u16, root: Link, held: Held) -> Bottom
     let end = d.end;
     match end {
         End::Missing => unfinished(want),
-        End::Gap => {
-            let link = widen_link(want.link);
-            bottom_at(
-                false,
-                Sub::Stub(link),
-                depth,
-                depth,
-                entries,
-                Answer::Absent,
-            )
-        }
+        End::Gap => at_gap(want, depth, entries, Answer::Absent),
         End::Hit => {
             let n = held.nodes[depth];
             let left = n.left;
             let right = n.right;
             let fewer = one_less(entries);
             if left.height == 0 {
-                return bottom_at(
-                    true,
-                    Sub::Stub(widen_link(right)),
-                    depth,
-                    depth + 1,
-                    fewer,
-                    Answer::Removed(n.value),
-                );
+                return taken_out(right, depth, fewer, n.value);
             }
             if right.height == 0 {
-                return bottom_at(
-                    true,
-                    Sub::Stub(widen_link(left)),
-                    depth,
-                    depth + 1,
-                    fewer,
-                    Answer::Removed(n.value),
-                );
+                return taken_out(left, depth, fewer, n.value);
             }
             let y = next_larger(want, depth, held);
             past_found(y, depth, fewer, n.value, held)

@@ -17,6 +17,7 @@ use Rattle.steps.proofs.climb.climb.Tie as tie
 use Rattle.steps.proofs.climb.climb.Reads as reads
 use Rattle.steps.proofs.climb.climb.Lts as lts
 use Rattle.steps.proofs.climb.blank_node.Reads as blank-node-reads
+use Rattle.steps.proofs.climb.ended.Reads as ended-reads
 use Rattle.steps.proofs.raise.raise_or_rest.Reads as raise-or-rest-reads
 use Rattle.steps.proofs.widths.narrow.Reads as narrow-reads
 
@@ -136,11 +137,11 @@ loop-holds c =
 sub-i : tie.Need-sub-i Inv-loop μ-loop
 sub-i c = search needs
 
-mul-p : tie.Need-mul-p Inv-loop μ-loop
-mul-p c = search needs
+mul-raise-or-rest : tie.Need-mul-raise-or-rest Inv-loop μ-loop
+mul-raise-or-rest c = search needs
 
-element-copy-out-p : tie.Need-element-copy-out-p Inv-loop μ-loop
-element-copy-out-p c = search needs
+element-copy-out-raise-or-rest : tie.Need-element-copy-out-raise-or-rest Inv-loop μ-loop
+element-copy-out-raise-or-rest c = search needs
 
 raise-or-rest-requires : tie.Need-raise-or-rest-requires Inv-loop μ-loop
 raise-or-rest-requires c κs =
@@ -150,11 +151,16 @@ raise-or-rest-requires c κs =
 enum-known-wanted : tie.Need-enum-known-wanted Inv-loop μ-loop
 enum-known-wanted c = search needs
 
+ended-requires : tie.Need-ended-requires Inv-loop μ-loop
+ended-requires c κs = search needs
+
 returns : tie.Need-returns Inv-loop μ-loop
 returns c =
-    let a = c .before .before .before .before .before .before .before .before .args in
-    climb-missing (a .rotating) (a .t2) (a .bottom) (a .held) (a .at) (c .before .before .before .before .before .before .before .before .pre) (now-in (c .before .before .before .before .before)) (c .before .before .before .raise-or-rest .ensures)
-    (c .before .wanted .given .1)
+    let s = c .before .before .before .before .before .before .before .before .before in
+    let a = s .args in
+    rw (c .ended .ensures)
+    (climb-missing (a .rotating) (a .t2) (a .bottom) (a .held) (a .at) (s .pre) (now-in (c .before .before .before .before .before .before)) (c .before .before .before .before .raise-or-rest .ensures)
+    (c .before .before .wanted .given .1))
 
 enum-told : tie.Need-enum-told Inv-loop μ-loop
 enum-told c = search needs
@@ -248,14 +254,18 @@ loop-again-2 c =
     let m = c .before .before in
     again m _ _ (lists-none (m .match4 .nodes) (m .match4 .count) (third m .places) (c .enum-told5 .given .1) refl refl)
 
+ended-requires-2 : tie.Need-ended-requires-2 Inv-loop μ-loop
+ended-requires-2 c κs = search needs
+
 returns-2 : tie.Need-returns-2 Inv-loop μ-loop
 returns-2 c =
-    let s = c .before .before .before in
+    let s = c .before .before .before .before in
     let a = s .args in
-    let l = c .before .loop in
+    let l = c .before .before .loop in
     let e : l .i ≡ 0 = omega arith in
-    climb-end (a .rotating) (a .t2) (a .bottom) (a .held) (a .at) (s .pre)
-    (subst (λ (j : ℕ). Climbing (a .rotating) (a .t2) (a .bottom) (a .held) (a .at) (l .nodes) (l .count) (l .sub) (l .next) j) e (l .inv))
+    rw (c .ended2 .ensures)
+    (climb-end (a .rotating) (a .t2) (a .bottom) (a .held) (a .at) (s .pre)
+    (subst (λ (j : ℕ). Climbing (a .rotating) (a .t2) (a .bottom) (a .held) (a .at) (l .nodes) (l .count) (l .sub) (l .next) j) e (l .inv)))
 
 pub climb-spec : {M : Type 1} → statement M
 climb-spec =
@@ -266,10 +276,11 @@ climb-spec =
     blank-node-requires
     loop-holds
     sub-i
-    mul-p
-    element-copy-out-p
+    mul-raise-or-rest
+    element-copy-out-raise-or-rest
     raise-or-rest-requires
     enum-known-wanted
+    ended-requires
     returns
     enum-told
     enum-known-aside
@@ -300,4 +311,5 @@ climb-spec =
     loop-again
     loop-less-2
     loop-again-2
+    ended-requires-2
     returns-2)

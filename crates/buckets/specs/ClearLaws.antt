@@ -1,9 +1,9 @@
 -- Clearing only the full slots of a path is clearing the path: zero bytes that are written to an all-zero slot change nothing, and
 -- zero bytes can be written in any order.
-use mathlib.Core.Path.{_≡_, refl, sym, _∙_, ap}
+use mathlib.Core.Path.{_≡_, refl, sym, _∙_, ap, ap₂}
 use mathlib.Core.Bool.{Bool, true, false}
 use mathlib.Core.List.{List, [], _∷_, _++_, List·Memᴰ·tail, List·Memᴰ·head}
-use Prim.Native.Nat.{ℕ, zero, suc, _+_, _/_, _^_, _≤_, _<_}
+use Prim.Native.Nat.{ℕ, zero, suc, _+_, _-_, _*_, _/_, _%_, _^_, _≤_, _<_}
 use native.Mathlib.Numerals.{add-one}
 use native.Mathlib.Omega.{arith}
 use lib.Dec.{eqb}
@@ -14,14 +14,16 @@ use Rattle.basics.specs.Choice.{pick}
 use Rattle.basics.specs.Distinct.{All}
 use Rattle.slots.specs.Tree.{slotLength, bucketStart, bucketLength, treeLength, halvings, leafBucket, path}
 use Rattle.slots.specs.Slot.{allZero, slotBytes, filled, bucketBytes}
-use Rattle.slots.specs.SlotLaws.{all-zero-replicate}
+use Rattle.slots.specs.SlotLaws.{all-zero-replicate, slot-length}
 use Rattle.slots.specs.LittleEndian.{bytes}
 use Rattle.rounds.specs.Round.{withBucket}
 use Rattle.buckets.specs.Words.{zeroSlot}
 use Rattle.buckets.specs.Fill.{cleared, emptied}
 use Rattle.buckets.specs.Gather.{slotFrom, fourFrom, slotStarts, fullStarts, PathGathered}
-use Rattle.buckets.specs.GatherLaws.{Within, inside, starts-within}
-use Rattle.buckets.specs.StoreLaws.{sets-append, sets-own, with-sets}
+use Rattle.basics.specs.DistinctLaws.{all-nil, all-cons, all-append, all-getD}
+use Rattle.buckets.specs.GatherLaws.{Within, inside, starts-within, full-all}
+use Rattle.buckets.specs.StoreLaws.{sets-append, sets-own, with-sets, part-stored}
+use Rattle.buckets.specs.SettleLaws.{bucket-lent}
 
 -- ---- runs of zero bytes
 zero-bytes : slotBytes zeroSlot ≡ replicate slotLength 0
@@ -117,6 +119,54 @@ path-emptied (suc n) b tree h =
     ap (λ (m : List ℕ). cleared m (halvings n (b / 2))) e
     ∙ path-emptied n (b / 2) (emptied tree (fourFrom (bucketStart b))) (rw (emptied-length tree (fourFrom (bucketStart b))) (omega arith))
     ∙ sym (emptied-append tree (fourFrom (bucketStart b)) rest)
+
+-- ---- a slot in its bucket
+-- It starts at a multiple of a slot's length.
+abbrev pub Aligned : ℕ → Type 0
+Aligned at = at % slotLength ≡ 0
+
+four-aligned : (b : ℕ) (rest : List ℕ) → All Aligned rest → All Aligned (fourFrom (bucketStart b) ++ rest)
+four-aligned b rest more =
+    let at = bucketStart b in
+    all-append {P = Aligned} (fourFrom at) {ys = rest}
+    (all-cons {P = Aligned} {xs = (at + slotLength * 1) ∷ (at + slotLength * 2) ∷ (at + slotLength * 3) ∷ []} (omega arith)
+    (all-cons {P = Aligned} {xs = (at + slotLength * 2) ∷ (at + slotLength * 3) ∷ []} (omega arith)
+    (all-cons {P = Aligned} {xs = (at + slotLength * 3) ∷ []} (omega arith)
+    (all-cons {P = Aligned} {xs = []} (omega arith) (all-nil Aligned)))))
+    more
+
+starts-aligned : (n b : ℕ) → All Aligned (slotStarts (halvings n b))
+unfolding halvings slotStarts
+starts-aligned zero b = four-aligned b [] (all-nil Aligned)
+starts-aligned (suc n) b = four-aligned b (slotStarts (halvings n (b / 2))) (starts-aligned n (b / 2))
+
+-- Number i of those that were gathered.
+pub start-aligned : (k t : ℕ) (tree from : List ℕ) (full i : ℕ) → PathGathered k t tree from full → k ≤ 15 → i < full → Aligned (getD from i 0)
+start-aligned k t tree from full i g s h =
+    let l = length-take full from in
+    let f = ap length (g .starts) in
+    rw (← getD-take full from i 0 h, g .starts)
+    (all-getD {P = Aligned} (fullStarts tree (slotStarts (path k t))) (full-all {P = Aligned} tree (slotStarts (path k t)) (starts-aligned k (leafBucket k t))) i 0
+    (omega (arith, g .sized, g .fewer)))
+
+-- Written as number j of its bucket's part.
+pub slot-cleared : (tree part after : List ℕ) (at a n : ℕ) → at + slotLength ≤ length tree → length tree % bucketLength ≡ 0 → Aligned at
+    → a ≡ at / bucketLength * bucketLength → n ≡ bucketLength → part ≡ take n (drop a tree) → after ≡ sets part (32 * ((at - a) / slotLength)) (slotBytes zeroSlot)
+    → take a tree ++ (after ++ drop n (drop a tree)) ≡ sets tree at (slotBytes zeroSlot)
+slot-cleared tree part after at a n h m al q r p e =
+    let b = at / bucketLength + 1 in
+    let start : a ≡ bucketStart b = omega (arith, q) in
+    let off = 32 * ((at - a) / slotLength) in
+    let sum : bucketStart b + off ≡ at = omega (arith, q, al) in
+    let inside : bucketStart b + bucketLength ≤ length tree = omega (arith, q, h, m, al) in
+    let short : length (slotBytes zeroSlot) ≡ 32 = slot-length zeroSlot in
+    let stored = part-stored tree b off (slotBytes zeroSlot) inside (omega (arith, q, al, short)) in
+    let part-is : after ≡ sets (take bucketLength (drop (bucketStart b) tree)) off (slotBytes zeroSlot) =
+    e ∙ ap (λ (l : List ℕ). sets l off (slotBytes zeroSlot)) (p ∙ ap₂ (λ (x y : ℕ). take x (drop y tree)) r start) in
+    bucket-lent tree after b a n start r
+    ∙ ap (withBucket tree b) part-is
+    ∙ stored
+    ∙ ap (λ (x : ℕ). sets tree x (slotBytes zeroSlot)) sum
 
 -- ---- the loop over the full slots
 -- One more is emptied.

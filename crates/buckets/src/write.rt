@@ -15,13 +15,13 @@ use slots::Slot;
 use slots::codec::tag_of;
 use slots::words::store;
 ghost use mathlib.Core.Path.{_≡_};
-ghost use Prim.Native.Nat.{_+_, _*_, _^_, _<_, _≤_};
+ghost use Prim.Native.Nat.{_+_, _*_, _%_, _^_, _<_, _≤_};
 ghost use lib.ListN.{length, take};
 ghost use lib.Seq.{sets};
-ghost use Rattle.slots.specs.Tree.{path, pathBucket, bucketStart, treeLength};
+ghost use Rattle.slots.specs.Tree.{path, pathBucket, bucketStart, slotLength, bucketLength, treeLength};
 ghost use Rattle.slots.specs.Slot.{slotBytes};
 ghost use Rattle.rounds.specs.Round.{overflows};
-ghost use Rattle.buckets.specs.Words.{places, wordCount, levels, slotsOf, Leaves};
+ghost use Rattle.buckets.specs.Words.{places, wordCount, levels, slotsOf, zeroSlot, Leaves};
 ghost use Rattle.buckets.specs.Stash.{without};
 ghost use Rattle.buckets.specs.Gather.{PathGathered};
 ghost use Rattle.buckets.specs.Fill.{roomFrom, cleared};
@@ -42,33 +42,51 @@ fn room_from(used: &[usize; LEVELS], size: usize, from: usize) -> usize
     level
 }
 
-// The buckets of a leaf's path get zero bytes. Only the full slots are written, whose starts the read half gathered: the others
-// are zero already.
-fn clear_path(tree: &mut [u8], size: usize, leaf: usize, from: &[u32; PATH_SLOTS], full: usize)
-    requires { ⌜ (size ≤ 15) × (leaf < 2 ^ size) × (length (now tree) ≡ treeLength size) × PathGathered size leaf (now tree) (now from) full ⌝ }
-    ensures { λ _. ⌜ now (tree .exit) ≡ cleared (now (tree .entry)) (path size leaf) ⌝ }
+// The bucket writer: a slot as number j of the four-slot part of a lent tree that is a bucket.
+fn write_in(part: &mut [u8], j: usize, x: Slot)
+    requires { ⌜ (length (now part) ≡ bucketLength) × (j < 4) ⌝ }
+    ensures { λ _. ⌜ now (part .exit) ≡ sets (now (part .entry)) (32 * j) (slotBytes x) ⌝ }
 {
+    store(part, SLOT_LENGTH * j, x);
+}
+
+// The slot that starts at a byte gets zero bytes: its bucket's part of the tree is lent on.
+fn clear_slot(tree: &mut [u8], size: usize, at: usize)
+    requires { ⌜ (length (now tree) ≡ treeLength size) × (at + slotLength ≤ length (now tree)) × (at < 2 ^ 24) × (at % slotLength ≡ 0) ⌝ }
+    ensures { λ _. ⌜ now (tree .exit) ≡ sets (now (tree .entry)) at (slotBytes zeroSlot) ⌝ }
+{
+    let a = at / BUCKET_LENGTH * BUCKET_LENGTH;
+    let e = a + BUCKET_LENGTH;
     let none = Slot {
         a: 0,
         b: 0,
         c: 0,
         d: 0,
     };
+    write_in(&mut tree[a..e], (at - a) / SLOT_LENGTH, none);
+}
+
+// The buckets of a leaf's path get zero bytes. Only the full slots are written, whose starts the read half gathered: the others
+// are zero already.
+fn clear_path(tree: &mut [u8], size: usize, leaf: usize, from: &[u32; PATH_SLOTS], full: usize)
+    requires { ⌜ (size ≤ 15) × (leaf < 2 ^ size) × (length (now tree) ≡ treeLength size) × PathGathered size leaf (now tree) (now from) full ⌝ }
+    ensures { λ _. ⌜ now (tree .exit) ≡ cleared (now (tree .entry)) (path size leaf) ⌝ }
+{
     let mut i = 0;
     while i < full {
-        store(tree, from[i] as usize, none);
+        clear_slot(tree, size, from[i] as usize);
         i += 1;
     }
 }
 
-// A slot is stored as number j of the path's bucket at a level: the four-slot part of the tree is lent on.
+// A slot is stored as number j of the path's bucket at a level: the bucket's part of the tree is lent on.
 fn store_slot(tree: &mut [u8], size: usize, leaf: usize, level: usize, j: usize, x: Slot)
     requires { ⌜ (size ≤ 15) × (leaf < 2 ^ size) × (length (now tree) ≡ treeLength size) × (level ≤ size) × (j < 4) ⌝ }
     ensures { λ _. ⌜ now (tree .exit) ≡ sets (now (tree .entry)) (bucketStart (pathBucket size leaf level) + 32 * j) (slotBytes x) ⌝ }
 {
     let a = start_at(size, leaf, level);
     let e = a + BUCKET_LENGTH;
-    store(&mut tree[a..e], SLOT_LENGTH * j, x);
+    write_in(&mut tree[a..e], j, x);
 }
 
 // The path of a leaf is filled by the first m slots but number out, lowest key first. Those that find no room wait in w; how many

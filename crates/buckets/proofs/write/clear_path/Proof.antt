@@ -7,44 +7,45 @@ use Rattle.slots.specs.Slot.{slotBytes}
 use Rattle.buckets.specs.Words.{zeroSlot}
 use Rattle.buckets.specs.Fill.{emptied}
 use Rattle.buckets.specs.GatherLaws.{start-within, start-small}
-use Rattle.buckets.specs.ClearLaws.{emptied-turn, emptied-end, path-cleared}
+use Rattle.buckets.specs.ClearLaws.{emptied-turn, emptied-end, path-cleared, start-aligned}
 use borrow.Author.Needs.{needs}
 use native.Mathlib.Omega.{arith}
 use Rattle.buckets.proofs.write.clear_path.Statement.{statement}
 use Rattle.buckets.proofs.write.clear_path.Tie as tie
 
 abbrev Inv-loop : tie.InvT-loop
-Inv-loop tree₀ size leaf from full none i₀ tree i =
+Inv-loop tree₀ size leaf from full i₀ tree i =
     (i ≤ full) × (length tree ≡ length tree₀) × (emptied tree₀ (take full from) ≡ emptied tree (drop i (take full from)))
 
 abbrev μ-loop : tie.MeasureT-loop
-μ-loop tree₀ size leaf from full none i₀ tree i = full - i
+μ-loop tree₀ size leaf from full i₀ tree i = full - i
 
 loop-holds : tie.Need-loop-holds Inv-loop μ-loop
 loop-holds c = (omega arith, refl, refl)
 
-mul-store : tie.Need-mul-store Inv-loop μ-loop
-mul-store c = search needs
+mul-clear-slot : tie.Need-mul-clear-slot Inv-loop μ-loop
+mul-clear-slot c = search needs
 
-element-copy-out-store : tie.Need-element-copy-out-store Inv-loop μ-loop
-element-copy-out-store c = search needs
+element-copy-out-clear-slot : tie.Need-element-copy-out-clear-slot Inv-loop μ-loop
+element-copy-out-clear-slot c = search needs
 
-cast-store : tie.Need-cast-store Inv-loop μ-loop
-cast-store c =
+cast-clear-slot : tie.Need-cast-clear-slot Inv-loop μ-loop
+cast-clear-slot c =
     let b = c .before .before .before .before .before in
     let a = b .args in
     let g = b .pre .3 in
     let w = start-small (a .size) (a .leaf) (a .tree .now) (b .pre .1) (b .pre .2) (a .from .now) (a .full) (c .before .before .before .loop .i) (b .pre .0) (g .starts) (omega arith) (omega (arith, g .sized, g .fewer, b .pre .0)) in
     omega arith
 
-store-requires : tie.Need-store-requires Inv-loop μ-loop
-store-requires c κs =
+clear-slot-requires : tie.Need-clear-slot-requires Inv-loop μ-loop
+clear-slot-requires c κs =
     let b = c .before .before .before .before .before in
     let a = b .args in
     let g = b .pre .3 in
     let l = c .before .before .before .loop in
     let w = start-within (a .size) (a .leaf) (a .tree .now) (b .pre .1) (b .pre .2) (a .from .now) (a .full) (l .i) (g .starts) (omega arith) (omega (arith, g .sized, g .fewer, b .pre .0)) in
-    rw (l .inv .1) w
+    let v = start-small (a .size) (a .leaf) (a .tree .now) (b .pre .1) (b .pre .2) (a .from .now) (a .full) (l .i) (b .pre .0) (g .starts) (omega arith) (omega (arith, g .sized, g .fewer, b .pre .0)) in
+    (l .inv .1 ∙ b .pre .2, rw (l .inv .1) w, v, start-aligned (a .size) (a .leaf) (a .tree .now) (a .from .now) (a .full) (l .i) g (b .pre .0) (omega arith))
 
 add-i : tie.Need-add-i Inv-loop μ-loop
 add-i c = search needs
@@ -58,7 +59,7 @@ loop-again c =
     let a = b .args in
     let g = b .pre .3 in
     let l = c .before .before .before .before .before .before .loop in
-    let s = c .before .before .store in (
+    let s = c .before .before .clear-slot in (
       omega arith,
       rw (s .ensures) (length-sets (l .tree) (getD (a .from .now) (l .i) 0) (slotBytes zeroSlot)) ∙ l .inv .1,
       l .inv .2 ∙ emptied-turn (l .tree) (s .last .0) (a .from .now) (a .full) (l .i) (omega arith) (omega (arith, g .sized, g .fewer, b .pre .0)) (s .ensures),
@@ -82,10 +83,10 @@ clear-path-spec =
     Inv-loop
     μ-loop
     loop-holds
-    mul-store
-    element-copy-out-store
-    cast-store
-    store-requires
+    mul-clear-slot
+    element-copy-out-clear-slot
+    cast-clear-slot
+    clear-slot-requires
     add-i
     loop-less
     loop-again

@@ -18,20 +18,17 @@ start-at-requires c κs = search needs
 add-e : tie.Need-add-e
 add-e c = search needs
 
-sub-store : tie.Need-sub-store
-sub-store c = search needs
+sub-write-in : tie.Need-sub-write-in
+sub-write-in c = search needs
 
-part-store-start : tie.Need-part-store-start
-part-store-start c = search needs
+part-write-in-start : tie.Need-part-write-in-start
+part-write-in-start c = search needs
 
-part-store-end : tie.Need-part-store-end
-part-store-end c = search needs
+part-write-in-end : tie.Need-part-write-in-end
+part-write-in-end c = search needs
 
-mul-store : tie.Need-mul-store
-mul-store c = search needs
-
-store-requires : tie.Need-store-requires
-store-requires c κs = search needs
+write-in-requires : tie.Need-write-in-requires
+write-in-requires c κs = search needs
 
 same-length : tie.Need-same-length
 same-length c = search needs
@@ -41,7 +38,7 @@ returns c =
     let b = c .before .before .before .before .before .before in
     let a = b .args in
     let s = c .before .before .before .before .start-at in
-    let k = c .before .before .store in
+    let k = c .before .before .write-in in
     let at = pathBucket (a .size) (a .leaf) (a .level) in
     let n : s .result + 128 - s .result ≡ bucketLength = omega arith in
     let h : bucketStart at + bucketLength ≤ length (a .tree .now) = rw (← s .ensures .0, b .pre .2) (s .ensures .1) in
@@ -55,10 +52,9 @@ store-slot-spec =
     (tie.spec
     start-at-requires
     add-e
-    sub-store
-    part-store-start
-    part-store-end
-    mul-store
-    store-requires
+    sub-write-in
+    part-write-in-start
+    part-write-in-end
+    write-in-requires
     same-length
     returns)

@@ -18,6 +18,7 @@ ghost use mathlib.Core.Path.{_≡_};
 ghost use Prim.Native.Nat.{_+_, _*_, _%_, _^_, _<_, _≤_};
 ghost use lib.ListN.{length, take};
 ghost use lib.Seq.{sets};
+ghost use Rattle.basics.specs.Choice.{pick};
 ghost use Rattle.slots.specs.Tree.{path, pathBucket, bucketStart, slotLength, bucketLength, treeLength};
 ghost use Rattle.slots.specs.Slot.{slotBytes};
 ghost use Rattle.rounds.specs.Round.{overflows};
@@ -42,7 +43,7 @@ fn room_from(used: &[usize; LEVELS], size: usize, from: usize) -> usize
     level
 }
 
-// The bucket writer: a slot as number j of the four-slot part of a lent tree that is a bucket.
+// One slot of a bucket is written: number j of its four-slot part of a lent tree.
 fn write_in(part: &mut [u8], j: usize, x: Slot)
     requires { ⌜ (length (now part) ≡ bucketLength) × (j < 4) ⌝ }
     ensures { λ _. ⌜ now (part .exit) ≡ sets (now (part .entry)) (32 * j) (slotBytes x) ⌝ }
@@ -157,4 +158,15 @@ pub fn overflows(waiting: usize, held: usize) -> bool
     ensures { λ r. ⌜ r ≡ overflows waiting held ⌝ }
 {
     LIMIT < waiting + held
+}
+
+// The mark at a round's close: 9 if more nodes wait and are held than may, else 0.
+pub fn mark_at_close(waiting: usize, held: usize) -> u8
+    requires { ⌜ waiting + held < 2 ^ 64 ⌝ }
+    ensures { λ r. ⌜ r ≡ pick (overflows waiting held) 9 0 ⌝ }
+{
+    if overflows(waiting, held) {
+        return 9;
+    }
+    0
 }

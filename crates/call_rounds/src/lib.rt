@@ -4,7 +4,7 @@ use buckets::WORDS;
 use buckets::read::Wish;
 use buckets::read::look;
 use buckets::stash::get;
-use buckets::write::overflows;
+use buckets::write::mark_at_close;
 use buckets::write::settle;
 use slots::Node;
 use slots::codec::key_of;
@@ -13,8 +13,6 @@ use steps::fetched::map_test;
 use steps::fetched::stack_test;
 ghost use mathlib.Core.Path.{_≡_};
 ghost use Prim.Native.Nat.{_+_, _^_, _<_};
-ghost use Rattle.basics.specs.Choice.{pick};
-ghost use Rattle.rounds.specs.Round.{overflows};
 ghost use Rattle.method.specs.Call.{test};
 ghost use Rattle.basics.specs.Ascending.{ascending};
 ghost use Rattle.state.specs.Ticket.{structureOf};
@@ -45,17 +43,6 @@ fn passes(structure: u8, want: Want, n: Node) -> bool
         return map_test(want, n);
     }
     stack_test(want, n)
-}
-
-// The mark at a round's close: 9 if more nodes wait and are held than may, else 0.
-fn mark_at_close(waiting: usize, held: usize) -> u8
-    requires { ⌜ waiting + held < 2 ^ 64 ⌝ }
-    ensures { λ r. ⌜ r ≡ pick (overflows waiting held) 9 0 ⌝ }
-{
-    if overflows(waiting, held) {
-        return 9;
-    }
-    0
 }
 
 // A round of a leaf that wants none. The n waiting nodes are in w; s is scratch space; `held` are the keys of the held nodes.

@@ -6,7 +6,7 @@ use buckets::WORDS;
 use buckets::read::Wish;
 use buckets::read::look;
 use buckets::stash::join_slot;
-use buckets::write::overflows;
+use buckets::write::mark_at_close;
 use buckets::write::settle;
 use slots::Node;
 use slots::codec::slot_of;
@@ -17,7 +17,6 @@ ghost use mathlib.Core.Bool.{true};
 ghost use Prim.Native.Nat.{_+_, _^_, _<_};
 ghost use Rattle.basics.specs.Choice.{pick};
 ghost use Rattle.slots.specs.Slot.{slotOf};
-ghost use Rattle.rounds.specs.Round.{overflows};
 ghost use Rattle.buckets.specs.Look.{wanted};
 ghost use Rattle.single_rounds.specs.Single.{Waits, Resting, Waiting, Rounded, Rests};
 
@@ -43,17 +42,6 @@ fn taken_count(taken: bool) -> usize
 {
     if taken {
         return 1;
-    }
-    0
-}
-
-// The mark at a round's close.
-fn mark_at_close(waiting: usize, held: usize) -> u8
-    requires { ⌜ waiting + held < 2 ^ 64 ⌝ }
-    ensures { λ r. ⌜ r ≡ pick (overflows waiting held) 9 0 ⌝ }
-{
-    if overflows(waiting, held) {
-        return 9;
     }
     0
 }

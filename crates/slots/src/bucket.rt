@@ -47,7 +47,7 @@ fn slot_or_zero(slots: [Slot; 4], count: usize, j: usize) -> Slot
     }
 }
 
-// A whole bucket: the four-slot part of a lent tree gets the first count slots, and zero bytes in the others.
+// The bucket writer: the four-slot part of a lent tree gets the first count slots, and zero bytes in the others.
 pub fn write_bucket(part: &mut [u8], slots: [Slot; 4], count: usize)
     requires { ⌜ (length (now part) ≡ bucketLength) × (count ≤ 4) ⌝ }
     ensures { λ _. ⌜ now (part .exit) ≡ bucketBytes (map slotBytes (take count slots)) ⌝ }

@@ -4,11 +4,16 @@ use super::LARGEST_STRUCTURE;
 use super::Place;
 use super::State;
 use super::fit::in_range;
+use slots::BUCKET_LENGTH;
 use slots::Link;
 use slots::Node;
+use slots::Slot;
+use slots::bucket::write_bucket;
 use slots::tree::tree_length;
 ghost use mathlib.Core.Path.{_≡_};
+ghost use Prim.Native.Nat.{_<_, _%_, _^_};
 ghost use lib.ListN.{length, replicate};
+ghost use Rattle.slots.specs.Tree.{bucketLength};
 ghost use Rattle.state.specs.Fit.{noPlace};
 ghost use Rattle.state.specs.Opening.{empty, opened, Opened};
 
@@ -53,14 +58,22 @@ fn empty_state(mark: u8, structure: u8, size: u8) -> State
     }
 }
 
-// Zero bytes for all of a tree.
+// Zero bytes for all of a tree: each bucket's four-slot part is lent on to the bucket writer, which is given no slot.
 fn clear(tree: &mut [u8])
+    requires { ⌜ (length (now tree) < 2 ^ 32) × (length (now tree) % bucketLength ≡ 0) ⌝ }
     ensures { λ _. ⌜ now (tree .exit) ≡ replicate (length (now (tree .entry))) 0 ⌝ }
 {
-    let mut i = 0;
-    while i < tree.len() {
-        tree[i] = 0;
-        i += 1;
+    let none = [Slot {
+        a: 0,
+        b: 0,
+        c: 0,
+        d: 0,
+    }; 4];
+    let mut a = 0;
+    while a < tree.len() {
+        let e = a + BUCKET_LENGTH;
+        write_bucket(&mut tree[a..e], none, 0);
+        a = e;
     }
 }
 

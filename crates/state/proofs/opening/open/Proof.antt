@@ -1,8 +1,9 @@
 -- `state::opening::open` meets its contract, check by check.
 use mathlib.Core.Path.{_≡_, sym, _∙_, ap}
+use lib.ListN.{length}
 use borrow.Author.Tests.{not-true, not-false}
 use Rattle.state.specs.Opening.{Opened}
-use Rattle.state.specs.OpeningLaws.{no-structure, no-size, other-length, good-opening}
+use Rattle.state.specs.OpeningLaws.{no-structure, no-size, other-length, good-opening, whole-buckets}
 use Rattle.state.specs.FitLaws.{in-range-true}
 use native.Mathlib.Omega.{arith}
 use borrow.Author.Needs.{needs}
@@ -45,7 +46,10 @@ returns-3 c = let a = c .before .before .before .before .before .before .before 
     (c .empty-state3 .ensures ∙ sym (ap (λ (o : Opened). o .state) o), sym (ap (λ (o : Opened). o .tree) o))
 
 clear-requires : tie.Need-clear-requires
-clear-requires c κs = search needs
+clear-requires c κs =
+    let a = c .before .before .before .before .before .before .before .before .args in
+    let q = in-range-true (a .size) 8 (sym (c .before .before .before .before .in-range2 .ensures) ∙ not-false (c .before .before .before .before .in-range2 .result) (c .before .before .before .if2 .left)) in
+    whole-buckets (a .size) (length (a .tree .now)) (q .1) (c .before .if3 .left ∙ c .before .before .tree-length .ensures)
 
 empty-state-requires-4 : tie.Need-empty-state-requires-4
 empty-state-requires-4 c κs = search needs

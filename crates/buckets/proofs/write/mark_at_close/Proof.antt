@@ -1,7 +1,7 @@
--- `call_rounds::mark_at_close` meets its contract.
+-- `buckets::write::mark_at_close` meets its contract.
 use borrow.Author.Needs.{needs}
-use Rattle.call_rounds.proofs.mark_at_close.Statement.{statement}
-use Rattle.call_rounds.proofs.mark_at_close.Tie as tie
+use Rattle.buckets.proofs.write.mark_at_close.Statement.{statement}
+use Rattle.buckets.proofs.write.mark_at_close.Tie as tie
 
 overflows-requires : tie.Need-overflows-requires
 overflows-requires c κs = search needs

@@ -31,3 +31,4 @@ pub mod FetchTestLaws
 pub mod WantLaws
 pub mod GrowthLaws
 pub mod WidthLaws
+pub mod Examples

@@ -6,6 +6,7 @@ use lib.ListN.{length, getD}
 use Rattle.method.specs.Node.{Link, Node}
 use Rattle.method.specs.Prog.{Prog, done, want}
 use Rattle.method.specs.Answer.{Structure, Op, Answer}
+use Rattle.method.specs.Rounds.{spareDraw, putDraw}
 use Rattle.method.specs.Map.{Outcome}
 use Rattle.method.specs.Call.{capacity, program}
 use Rattle.rounds.specs.Round.{join}
@@ -52,14 +53,14 @@ stepped o g =
 
 -- After the fetch rounds. A program that still wants a node was longer than they are: the fetch tests rule that out for a
 -- store that fits; the definition calls it damage.
-unfoldable pub afterFetches : (size rounds : ℕ) → (draw : ℕ → ℕ) → Store → Round (Outcome ℕ) → Left
-afterFetches k F draw st (shut m g) = closing m (st .entries) (st .root) g
-afterFetches k F draw st (on g (want w c)) = closing 8 (st .entries) (st .root) g
-afterFetches k F draw st (on g (done o)) = afterPuts o (putRounds k draw F (F + 1) o (stepped o g))
+unfoldable pub afterFetches : Structure → (size rounds : ℕ) → (draw : ℕ → ℕ) → Store → Round (Outcome ℕ) → Left
+afterFetches s k F draw st (shut m g) = closing m (st .entries) (st .root) g
+afterFetches s k F draw st (on g (want w c)) = closing 8 (st .entries) (st .root) g
+afterFetches s k F draw st (on g (done o)) = afterPuts o (putRounds k draw F (putDraw s F 0) o (stepped o g))
 
--- One call with F fetch and F put rounds. Fetch round i uses draw i, a new node's tag is draw F, put round j draw F + 1 + j.
+-- One call with F fetch and F put rounds. Fetch round i uses draw i; the spare draws and those of the put rounds come after these.
 unfoldable pub bucketCall : {s : Structure} → (size rounds : ℕ) → Op s → (draw : ℕ → ℕ) → Store → Left
 bucketCall {s} k F op draw st =
-    afterFetches k F draw st
-    (fetchRounds s k draw F 0 (program 0 op (draw F) (capacity k) (st .entries) (st .root))
+    afterFetches s k F draw st
+    (fetchRounds s (st .entries) k draw F 0 (program 0 op (λ i. draw (spareDraw F i)) (capacity k) (st .entries) (st .root))
     (record { tree = st .tree; waiting = st .waiting; held = []; leaves = [] }))

@@ -112,30 +112,30 @@ module _ {A : Type 0} where
       elim (readHalf leafFormat k (g .tree) leaf none (heldKeys g) (g .waiting))
       [ none ↦ shut 8 (revealing leaf g) | some h ↦ atClose (written k leaf (h .waiting) (g .held) g) p ]
 
-  -- A round that took out the node e: the structure asks its fetch test of it before anything is written.
-  unfoldable pub tookRound : Structure → (size draw : ℕ) → Want ℕ → (Node ℕ → Prog ℕ A) → Going → List (Node ℕ) → Option (Node ℕ) → Round A
-  tookRound s k d w c g ws none = shut 8 (revealing (w .link .tag) g)
-  tookRound s k d w c g ws (some e) =
-      pick (test s w e)
+  -- A round that took out the node n: the structure, with e entries, asks its fetch test of it before anything is written.
+  unfoldable pub tookRound : Structure → (entries size draw : ℕ) → Want ℕ → (Node ℕ → Prog ℕ A) → Going → List (Node ℕ) → Option (Node ℕ) → Round A
+  tookRound s e k d w c g ws none = shut 8 (revealing (w .link .tag) g)
+  tookRound s e k d w c g ws (some n) =
+      pick (test s e w n)
       (atClose
-      (written k (w .link .tag) ws (g .held ++ (record { from = w .from; node = retag d e } ∷ [])) g)
-      (c (retag d e)))
+      (written k (w .link .tag) ws (g .held ++ (record { from = w .from; node = retag d n } ∷ [])) g)
+      (c (retag d n)))
       (shut 8 (revealing (w .link .tag) g))
 
-  unfoldable pub wantRound : Structure → (size draw : ℕ) → Want ℕ → (Node ℕ → Prog ℕ A) → Going → Round A
-  wantRound s k d w c g =
+  unfoldable pub wantRound : Structure → (entries size draw : ℕ) → Want ℕ → (Node ℕ → Prog ℕ A) → Going → Round A
+  wantRound s e k d w c g =
       elim (readHalf leafFormat k (g .tree) (w .link .tag) (some (wishFor w)) (heldKeys g) (g .waiting))
-      [ none ↦ shut 8 (revealing (w .link .tag) g) | some h ↦ tookRound s k d w c g (h .waiting) (h .taken) ]
+      [ none ↦ shut 8 (revealing (w .link .tag) g) | some h ↦ tookRound s e k d w c g (h .waiting) (h .taken) ]
 
   -- A fetch round: one that wants a node reveals the tag in the link to it; one that wants none reveals its draw.
-  unfoldable pub fetchRound : Structure → (size draw : ℕ) → Prog ℕ A → Going → Round A
-  fetchRound s k d (done a) g = idleRound k d (done a) g
-  fetchRound s k d (want w c) g = wantRound s k d w c g
+  unfoldable pub fetchRound : Structure → (entries size draw : ℕ) → Prog ℕ A → Going → Round A
+  fetchRound s e k d (done a) g = idleRound k d (done a) g
+  fetchRound s e k d (want w c) g = wantRound s e k d w c g
 
   -- n fetch rounds from round i.
-  unfoldable pub fetchRounds : Structure → (size : ℕ) → (draw : ℕ → ℕ) → (n i : ℕ) → Prog ℕ A → Going → Round A
-  fetchRounds s k draw zero i p g = on g p
-  fetchRounds s k draw (suc n) i p g = next (fetchRound s k (draw i) p g) (λ g q. fetchRounds s k draw n (suc i) q g)
+  unfoldable pub fetchRounds : Structure → (entries size : ℕ) → (draw : ℕ → ℕ) → (n i : ℕ) → Prog ℕ A → Going → Round A
+  fetchRounds s e k draw zero i p g = on g p
+  fetchRounds s e k draw (suc n) i p g = next (fetchRound s e k (draw i) p g) (λ g q. fetchRounds s e k draw n (suc i) q g)
     where
       next : Round A → (Going → Prog ℕ A → Round A) → Round A
       next (shut m g) f = shut m g

@@ -9,6 +9,7 @@ use Rattle.basics.specs.Choice.{pick}
 use Rattle.method.specs.Node.{Link, Node, absent, retag}
 use Rattle.method.specs.Prog.{Want, Prog, done, want}
 use Rattle.method.specs.Answer.{Structure, map, stack, Op, get, put, remove, push, pop, Answer}
+use Rattle.method.specs.Rounds.{spareDraw, putDraw}
 use Rattle.method.specs.Map.{Outcome, getProg, putProg, removeProg, mapTest}
 use Rattle.method.specs.Stack.{pushProg, popProg, stackTest}
 
@@ -17,18 +18,19 @@ abbrev pub capacity : ℕ → ℕ
 capacity k = 2 ^ k - 1
 
 module _ {T : Type 0} where
-  -- The program of a ticket: for an absent link's tag, the tag of a new node, the capacity, the entries and the root link.
-  unfoldable pub program : {s : Structure} (nil : T) → Op s → T → (limit entries : ℕ) → Link T → Prog T (Outcome T)
-  program nil (get key) tag limit entries l = getProg key entries l
-  program nil (put key value) tag limit entries l = putProg nil key value tag entries limit l
-  program nil (remove key) tag limit entries l = removeProg key entries l
-  program nil (push value) tag limit entries l = pushProg nil value tag entries limit l
-  program nil pop tag limit entries l = popProg entries l
+  -- The program of a ticket: for an absent link's tag, the spare draws, the capacity, the entries and the root link. A new
+  -- node's tag is the first spare draw.
+  unfoldable pub program : {s : Structure} (nil : T) → Op s → (spares : ℕ → T) → (limit entries : ℕ) → Link T → Prog T (Outcome T)
+  program nil (get key) spares limit entries l = getProg key entries l
+  program nil (put key value) spares limit entries l = putProg nil key value (spares 0) entries limit l
+  program nil (remove key) spares limit entries l = removeProg key entries l
+  program nil (push value) spares limit entries l = pushProg nil value (spares 0) entries limit l
+  program nil pop spares limit entries l = popProg entries l
 
-  -- The fetch tests of a structure.
-  unfoldable pub test : Structure → Want T → Node T → Bool
-  test map w n = mapTest w n
-  test stack w n = stackTest w n
+  -- The fetch tests of a structure, for a store that has so many entries as the call starts.
+  unfoldable pub test : Structure → (entries : ℕ) → Want T → Node T → Bool
+  test map entries w n = mapTest w n
+  test stack entries w n = stackTest w n
 
 -- The entries, the root link and the nodes.
 pub record Memory (T : Type 0) : Type 0 where
@@ -104,15 +106,15 @@ module _ {T : Type 0} where
   answered (done o) = some (o .answer)
   answered (want w k) = none
 
-  -- One call with F fetch and F put rounds. Fetch round i uses draw i, a new node's tag is draw F, and put round j uses
-  -- draw F + 1 + j.
+  -- One call with F fetch and F put rounds. Fetch round i uses draw i; which draws are spare and which one a put round uses,
+  -- see Rounds.
   unfoldable pub call : {s : Structure} (nil : T) → (rounds limit : ℕ) → Op s → (draw : ℕ → T) → Memory T → Called T
-  call nil rounds limit op draw m =
-      let f = fetches draw rounds 0 (program nil op (draw rounds) limit (m .entries) (m .root)) (m .nodes) in
+  call {s} nil rounds limit op draw m =
+      let f = fetches draw rounds 0 (program nil op (λ i. draw (spareDraw rounds i)) limit (m .entries) (m .root)) (m .nodes) in
       record {
         memory = stepped m (f .nodes) (f .prog);
         answer = answered (f .prog);
-        revealed = f .revealed ++ drawsFrom draw rounds (rounds + 1);
+        revealed = f .revealed ++ drawsFrom draw rounds (putDraw s rounds 0);
       }
 
 -- A list of calls, numbered from c: the answers, all that was revealed, and what is left.

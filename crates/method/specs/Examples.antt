@@ -13,13 +13,13 @@ use Rattle.method.specs.Prog.{bind}
 use Rattle.method.specs.Answer.{Structure, map, stack, Op, get, put, remove, push, pop, absent, new, full, pushed, popped, empty}
 use Rattle.method.specs.Map.{walk, single, double, turn, raise, climb, unwind, unwound, getStep, getProg, putStep, putProg, lowest, takeOut, removeStep, removeProg}
 use Rattle.method.specs.Stack.{pushProg, popProg}
-use Rattle.method.specs.Rounds.{rounds}
+use Rattle.method.specs.Rounds.{rounds, spare}
 use Rattle.method.specs.Call.{capacity, program, emptyMemory, takeKey, fetches, drawsFrom, stepped, answered, call, run, Ran}
 use Rattle.method.specs.Origin.{drawn, origins, names, leafOf, leafRun}
 
 -- A store of a size after some calls that each bring that tape. Where this unfolds, so does all that a call computes with.
 unfoldable pub after : {s : Structure} → (size : ℕ) → (tape : ℕ → ℕ) → List (Op s) → Ran ℕ
-unfolding walk single double turn raise climb unwind unwound getStep getProg putStep putProg lowest takeOut removeStep removeProg pushProg popProg program emptyMemory takeKey fetches drawsFrom stepped answered call run bind least shaped tallest greatest rounds origins leafOf leafRun
+unfolding walk single double turn raise climb unwind unwound getStep getProg putStep putProg lowest takeOut removeStep removeProg pushProg popProg program emptyMemory takeKey fetches drawsFrom stepped answered call run bind least shaped tallest greatest rounds spare origins leafOf leafRun
 after {s} size tape ops = run 0 (rounds s size) (capacity size) (λ c. tape) 1 ops (emptyMemory 0)
 
 abbrev zeros : ℕ → ℕ

@@ -9,7 +9,7 @@ use Rattle.basics.specs.Choice.{pick}
 use Rattle.slots.specs.Tree.{treeLength}
 use Rattle.method.specs.Node.{Node}
 use Rattle.method.specs.Answer.{Structure, Op, Answer, found, absent, replaced, new, removed, pushed, popped, empty, full}
-use Rattle.method.specs.Rounds.{rounds}
+use Rattle.method.specs.Rounds.{rounds, draws}
 use Rattle.leaf_nodes.specs.Convert.{toLink, fromLink, toNode, fromNode}
 use Rattle.calls.specs.Fetch.{Left}
 use Rattle.calls.specs.Call as bucket
@@ -90,7 +90,7 @@ ending s trace l =
 unfoldable pub callWith : (st : Structure) → State → (tree tape trace : List ℕ) → Option (Op st) → Ended
 callWith st s tree tape trace none = refusing 5 s tree trace
 callWith st s tree tape trace (some op) =
-    pick (ltb (length tape) (2 * rounds st (s .size) + 1)) (refusing 6 s tree trace)
+    pick (ltb (length tape) (draws st (s .size))) (refusing 6 s tree trace)
     (pick (ltb (length trace) (2 * rounds st (s .size))) (refusing 7 s tree trace)
     (ending s trace (bucketCall (s .size) (rounds st (s .size)) op (drawOf (s .size) tape) (storeOf s tree))))
 

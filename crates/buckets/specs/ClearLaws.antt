@@ -17,7 +17,7 @@ use Rattle.slots.specs.Slot.{allZero, slotBytes, filled, bucketBytes}
 use Rattle.slots.specs.SlotLaws.{all-zero-replicate, slot-length}
 use Rattle.slots.specs.LittleEndian.{bytes}
 use Rattle.rounds.specs.Round.{withBucket}
-use Rattle.buckets.specs.Words.{zeroSlot}
+use Rattle.slots.specs.Row.{zeroSlot}
 use Rattle.buckets.specs.Fill.{cleared, emptied}
 use Rattle.buckets.specs.Gather.{slotFrom, fourFrom, slotStarts, fullStarts, PathGathered}
 use Rattle.basics.specs.DistinctLaws.{all-nil, all-cons, all-append, all-getD}

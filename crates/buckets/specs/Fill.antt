@@ -13,7 +13,7 @@ use Rattle.slots.specs.Tree.{passes}
 use Rattle.slots.specs.Slot.{slotBytes, bucketBytes}
 use Rattle.rounds.specs.Format.{Format}
 use Rattle.rounds.specs.Round.{choose, withBucket}
-use Rattle.buckets.specs.Words.{zeroSlot}
+use Rattle.slots.specs.Row.{zeroSlot}
 
 -- The level from which on two leaves' paths are one: the length in digits of the number in which the leaves differ.
 abbrev pub meeting : ℕ → ℕ → ℕ

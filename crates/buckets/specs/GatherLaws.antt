@@ -19,7 +19,7 @@ use Rattle.slots.specs.declared.Slot.{Slot}
 use Rattle.rounds.specs.Format.{Read, full, empty, bad}
 use Rattle.rounds.specs.Round.{keysOf, insert, readBucket, readBuckets}
 use Rattle.rounds.specs.Nodes.{wordsFormat, wordsOf, readingOf}
-use Rattle.buckets.specs.Words.{slotsOf}
+use Rattle.slots.specs.Row.{slotsOf}
 use Rattle.buckets.specs.Stash.{joinReadings}
 use Rattle.buckets.specs.PathLaws.{path-level, path-end}
 use Rattle.buckets.specs.Joined.{ReadingsJoined}

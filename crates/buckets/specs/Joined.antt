@@ -11,7 +11,8 @@ use Rattle.slots.specs.declared.Slot.{Slot}
 use Rattle.rounds.specs.Format.{Read}
 use Rattle.rounds.specs.Round.{keysOf, insert}
 use Rattle.rounds.specs.Nodes.{wordsFormat}
-use Rattle.buckets.specs.Words.{wordCount, slotsOf, Leaves}
+use Rattle.buckets.specs.Words.{wordCount, Leaves}
+use Rattle.slots.specs.Row.{slotsOf}
 use Rattle.buckets.specs.Stash.{joinReadings}
 use Rattle.buckets.specs.declared.read.Joined.{Joined}
 use Rattle.buckets.specs.declared.read.Gathered.{Gathered}

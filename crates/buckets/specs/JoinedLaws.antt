@@ -14,7 +14,8 @@ use Rattle.slots.specs.declared.Slot.{Slot}
 use Rattle.rounds.specs.Format.{Read}
 use Rattle.rounds.specs.Round.{keysOf, readBucket, readBuckets}
 use Rattle.rounds.specs.Nodes.{wordsFormat}
-use Rattle.buckets.specs.Words.{wordCount, slotsOf, Leaves}
+use Rattle.buckets.specs.Words.{wordCount, Leaves}
+use Rattle.slots.specs.Row.{slotsOf}
 use Rattle.basics.specs.Ascending.{ascending}
 use Rattle.buckets.specs.Stash.{joinReadings}
 use Rattle.buckets.specs.StashLaws.{Ascending, ascending-holds}

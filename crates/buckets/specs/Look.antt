@@ -12,7 +12,8 @@ use Rattle.slots.specs.declared.Slot.{Slot}
 use Rattle.rounds.specs.Round.{Hand, keysOf, noneTwice, readHalf}
 use Rattle.rounds.specs.Round as round
 use Rattle.rounds.specs.Nodes.{wordsFormat}
-use Rattle.buckets.specs.Words.{places, wordCount, slotsOf, zeroSlot, Leaves}
+use Rattle.buckets.specs.Words.{places, wordCount, Leaves}
+use Rattle.slots.specs.Row.{slotsOf, zeroSlot}
 use Rattle.basics.specs.Ascending.{ascending}
 use Rattle.buckets.specs.Stash.{without}
 use Rattle.buckets.specs.declared.read.Looked.{Looked}

@@ -13,7 +13,8 @@ use Rattle.slots.specs.declared.Slot.{Slot}
 use Rattle.slots.specs.declared.Node.{Node as NodeOf}
 use Rattle.rounds.specs.Round.{keysOf, noneTwice, readBuckets, readHalf, granted, grantedFrom}
 use Rattle.rounds.specs.Nodes.{wordsFormat}
-use Rattle.buckets.specs.Words.{places, slotsOf, zeroSlot, Leaves}
+use Rattle.buckets.specs.Words.{places, Leaves}
+use Rattle.slots.specs.Row.{slotsOf, zeroSlot}
 use Rattle.buckets.specs.WordsLaws.{slots-count, words-tag}
 use Rattle.buckets.specs.Stash.{position}
 use Rattle.buckets.specs.Joined.{outcome, ReadingsJoined}

@@ -8,7 +8,8 @@ use Rattle.slots.specs.Tree.{treeLength}
 use Rattle.slots.specs.declared.Slot.{Slot}
 use Rattle.rounds.specs.Round.{writeHalf}
 use Rattle.rounds.specs.Nodes.{wordsFormat}
-use Rattle.buckets.specs.Words.{places, wordCount, slotsOf, Leaves}
+use Rattle.buckets.specs.Words.{places, wordCount, Leaves}
+use Rattle.slots.specs.Row.{slotsOf}
 use Rattle.buckets.specs.Look.{removed}
 
 -- The path of a leaf was filled by some slots, at most m, and those that are left are the first r.

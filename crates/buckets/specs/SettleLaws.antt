@@ -18,7 +18,8 @@ use Rattle.slots.specs.Slot.{slotBytes, fieldsIn}
 use Rattle.slots.specs.declared.Slot.{Slot}
 use Rattle.rounds.specs.Round.{Written, withBucket, writeHalf}
 use Rattle.rounds.specs.Nodes.{wordsFormat}
-use Rattle.buckets.specs.Words.{places, wordCount, levels, slotsOf, zeroSlot, Leaves}
+use Rattle.buckets.specs.Words.{places, wordCount, levels, Leaves}
+use Rattle.slots.specs.Row.{slotsOf, zeroSlot}
 use Rattle.buckets.specs.WordsLaws.{slots-count, words-tag}
 use Rattle.buckets.specs.Stash.{without}
 use Rattle.buckets.specs.PartLaws.{Part, part-whole, part-without, part-holds}

@@ -1,6 +1,6 @@
 -- Waiting slots as words: four to a slot, in 101 places.
 use Prim.Native.Nat.{ℕ, _*_, _^_, _<_}
-use mathlib.Core.List.{List, [], _∷_}
+use mathlib.Core.List.{List}
 use Rattle.basics.specs.Distinct.{All}
 use Rattle.slots.specs.declared.Slot.{Slot}
 use Rattle.rounds.specs.Nodes.{wordsFormat}
@@ -18,18 +18,6 @@ levels = 16
 
 abbrev pub pathSlots : ℕ
 pathSlots = 4 * levels
-
--- The slots that words hold.
-unfoldable pub slotsOf : List ℕ → List Slot
-slotsOf [] = []
-slotsOf (a ∷ []) = []
-slotsOf (a ∷ b ∷ []) = []
-slotsOf (a ∷ b ∷ c ∷ []) = []
-slotsOf (a ∷ b ∷ c ∷ d ∷ ws) = record { a = a; b = b; c = c; d = d } ∷ slotsOf ws
-
--- What an unused place holds.
-abbrev pub zeroSlot : Slot
-zeroSlot = record { a = 0; b = 0; c = 0; d = 0 }
 
 -- Every slot's own tag is a leaf of a tree of size k.
 abbrev pub Leaves : ℕ → List Slot → Type 0

@@ -12,7 +12,7 @@ use Rattle.slots.specs.Slot.{fieldsIn, slotBytes, nodeOf}
 use Rattle.slots.specs.declared.Slot.{Slot}
 use Rattle.method.specs.Node.{Node}
 use Rattle.basics.specs.Ascending.{ascending, ascendingFrom}
-use Rattle.buckets.specs.Words.{slotsOf, zeroSlot}
+use Rattle.slots.specs.Row.{slotsOf, zeroSlot}
 use Rattle.buckets.specs.WordsLaws.{slots-count}
 use Rattle.waiting.specs.Waiting.{nodeIn, Holds}
 use Rattle.call_rounds.specs.OneRound.{keysWaiting}

@@ -20,7 +20,8 @@ use Rattle.rounds.specs.Nodes.{wordsFormat}
 use Rattle.round_laws.specs.Same.{mapWritten}
 use Rattle.round_laws.specs.Sorted.{Ascending, ascending-round}
 use Rattle.leaf_nodes.specs.Leaf.{leafFormat}
-use Rattle.buckets.specs.Words.{places, slotsOf}
+use Rattle.buckets.specs.Words.{places}
+use Rattle.slots.specs.Row.{slotsOf}
 use Rattle.buckets.specs.Look.{removed, LookedFor}
 use Rattle.buckets.specs.Settle.{Joint, Settled}
 use Rattle.buckets.specs.JoinLaws.{none-twice-perm}

@@ -28,7 +28,7 @@ use Rattle.round_laws.specs.ReadHalf.{found, hand-perm}
 use Rattle.round_laws.specs.Same.{mapHand}
 use Rattle.leaf_nodes.specs.Leaf.{leafFormat}
 use Rattle.leaf_nodes.specs.Convert.{toNode}
-use Rattle.buckets.specs.Words.{slotsOf, zeroSlot}
+use Rattle.slots.specs.Row.{slotsOf, zeroSlot}
 use Rattle.buckets.specs.Look.{wishOf, wanted, removed, handOf, LookedFor}
 use Rattle.buckets.specs.declared.read.Looked.{Looked}
 use Rattle.buckets.specs.declared.read.Wish.{Wish}

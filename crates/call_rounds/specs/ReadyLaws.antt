@@ -14,7 +14,8 @@ use Rattle.rounds.specs.Round.{keysOf, noneTwice}
 use Rattle.rounds.specs.Nodes.{wordsFormat}
 use Rattle.basics.specs.Ascending.{ascending}
 use Rattle.leaf_nodes.specs.Leaf.{leafFormat}
-use Rattle.buckets.specs.Words.{slotsOf, Leaves}
+use Rattle.buckets.specs.Words.{Leaves}
+use Rattle.slots.specs.Row.{slotsOf}
 use Rattle.buckets.specs.Look.{Fit}
 use Rattle.waiting.specs.Waiting.{wordsFor, InWidths, waitingIn}
 use Rattle.waiting.specs.WaitingLaws.{leaf-carried}

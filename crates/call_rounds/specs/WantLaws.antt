@@ -17,7 +17,8 @@ use Rattle.method.specs.Call.{test}
 use Rattle.rounds.specs.Round.{Hand, readHalf, overflows}
 use Rattle.leaf_nodes.specs.Leaf.{leafFormat}
 use Rattle.leaf_nodes.specs.Convert.{toNode}
-use Rattle.buckets.specs.Words.{places, slotsOf, zeroSlot}
+use Rattle.buckets.specs.Words.{places}
+use Rattle.slots.specs.Row.{slotsOf, zeroSlot}
 use Rattle.buckets.specs.Look.{removed, LookedFor}
 use Rattle.buckets.specs.Settle.{Settled}
 use Rattle.buckets.specs.KeepLaws.{takenKeys}

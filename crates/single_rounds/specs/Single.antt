@@ -12,7 +12,8 @@ use Rattle.slots.specs.declared.Slot.{Slot}
 use Rattle.rounds.specs.Round as round
 use Rattle.rounds.specs.Round.{Hand, keysOf, insert, readHalf, writeHalf, overflows}
 use Rattle.rounds.specs.Nodes.{wordsFormat}
-use Rattle.buckets.specs.Words.{wordCount, slotsOf, Leaves}
+use Rattle.buckets.specs.Words.{wordCount, Leaves}
+use Rattle.slots.specs.Row.{slotsOf}
 use Rattle.basics.specs.Ascending.{ascending}
 use Rattle.buckets.specs.Look.{wishOf}
 use Rattle.buckets.specs.declared.read.Wish.{Wish}

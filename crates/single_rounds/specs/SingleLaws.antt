@@ -16,7 +16,8 @@ use Rattle.slots.specs.Slot.{fieldsIn, slotBytes, nodeOf}
 use Rattle.slots.specs.declared.Slot.{Slot}
 use Rattle.rounds.specs.Round.{Hand, Written, keysOf, noneTwice, insert, writeHalf, overflows}
 use Rattle.rounds.specs.Nodes.{wordsFormat}
-use Rattle.buckets.specs.Words.{wordCount, slotsOf, zeroSlot, Leaves}
+use Rattle.buckets.specs.Words.{wordCount, Leaves}
+use Rattle.slots.specs.Row.{slotsOf, zeroSlot}
 use Rattle.basics.specs.Ascending.{ascending}
 use Rattle.buckets.specs.StashLaws.{Above, Ascending, ascending-holds, ascending-test, insert-ascending}
 use Rattle.buckets.specs.Joined.{SlotJoined}

@@ -5,6 +5,8 @@ pub mod LayoutLaws
 pub mod Slot
 pub mod Tree
 pub mod TreeLaws
+pub mod Row
+pub mod RowLaws
 pub mod SlotLaws
 pub mod ReadLaws
 pub mod BucketLaws

@@ -14,6 +14,13 @@ use Rattle.slots.specs.declared.Slot.{Slot}
 use Rattle.slots.specs.declared.Reading.{Reading}
 use Rattle.slots.specs.declared.Reading.the-variants.{Full, Empty, Bad}
 
+-- No link, and a node that is all zero: what an unused place holds.
+abbrev pub noLink : Link
+noLink = record { height = 0; key = 0; tag = 0 }
+
+abbrev pub noNode : Node
+noNode = record { key = 0; value = 0; tag = 0; left = noLink; right = noLink }
+
 -- The fields of a slot, in the order of the bytes, and their widths: this is the layout's one place.
 pub record Fields : Type 0 where
   pub flag : ℕ

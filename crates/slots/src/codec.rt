@@ -7,7 +7,32 @@ use super::tree::leaves;
 use super::tree::passes_bucket;
 ghost use mathlib.Core.Path.{_≡_};
 ghost use Prim.Native.Nat.{_≤_};
-ghost use Rattle.slots.specs.Slot.{slotBytes, slotOf, fieldsIn, nodeOf, encode, allZero, linkGood, wellFormed, readSlot};
+ghost use Rattle.slots.specs.Slot.{noLink, noNode, slotBytes, slotOf, fieldsIn, nodeOf, encode, allZero, linkGood, wellFormed, readSlot};
+
+// No link.
+pub fn no_link() -> Link
+    ensures { λ r. ⌜ r ≡ noLink ⌝ }
+{
+    Link {
+        height: 0,
+        key: 0,
+        tag: 0,
+    }
+}
+
+// A node that is all zero: what an unused place holds.
+pub fn no_node() -> Node
+    ensures { λ r. ⌜ r ≡ noNode ⌝ }
+{
+    let none = no_link();
+    Node {
+        key: 0,
+        value: 0,
+        tag: 0,
+        left: none,
+        right: none,
+    }
+}
 
 // The key of a slot's node.
 pub fn key_of(x: Slot) -> u32

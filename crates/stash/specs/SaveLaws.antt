@@ -17,7 +17,7 @@ use Rattle.method.specs.Node.{Node}
 use Rattle.rounds.specs.Round.{limit}
 use Rattle.leaf_nodes.specs.Convert.{fromNode, fromLink}
 use Rattle.calls.specs.Fetch.{Left}
-use Rattle.buckets.specs.Words.{slotsOf, zeroSlot}
+use Rattle.slots.specs.Row.{slotsOf, zeroSlot}
 use Rattle.waiting.specs.Waiting.{nodeIn, waitingIn, Holds}
 use Rattle.waiting.specs.WaitingLaws.{waiting-length}
 use Rattle.state.specs.declared.Place.{Place}

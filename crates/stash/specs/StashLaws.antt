@@ -18,7 +18,8 @@ use Rattle.rounds.specs.Nodes.{wordsFormat}
 use Rattle.round_laws.specs.Lists.{insert-perm}
 use Rattle.leaf_nodes.specs.Convert.{toNode}
 use Rattle.leaf_nodes.specs.Leaf.{leafFormat}
-use Rattle.buckets.specs.Words.{places, wordCount, slotsOf}
+use Rattle.buckets.specs.Words.{places, wordCount}
+use Rattle.slots.specs.Row.{slotsOf}
 use Rattle.buckets.specs.WordsLaws.{slots-count}
 use Rattle.waiting.specs.Waiting.{wordsFor, nodeIn, InWidths, waitingIn, Holds}
 use Rattle.waiting.specs.WaitingLaws.{waiting-are, holds-them, insert-words}

@@ -6,7 +6,7 @@ use Rattle.slots.specs.LittleEndian.{value, bytes}
 use Rattle.slots.specs.Layout.{fields, pack}
 use Rattle.slots.specs.Slot.{fieldsIn, fieldsOf, nodeOf, slotBytes, slotOf, encode}
 use Rattle.method.specs.Node.{Node, absent}
-use Rattle.buckets.specs.Words.{slotsOf}
+use Rattle.slots.specs.Row.{slotsOf}
 use Rattle.waiting.specs.Waiting.{wordsFor, waitingIn}
 
 abbrev pushed : Node ℕ

@@ -9,7 +9,8 @@ use Rattle.slots.specs.SlotLaws.{Ranged}
 use Rattle.slots.specs.declared.Slot.{Slot}
 use Rattle.method.specs.Node.{Node}
 use Rattle.leaf_nodes.specs.Convert.{toNode, fromNode}
-use Rattle.buckets.specs.Words.{places, wordCount, slotsOf}
+use Rattle.buckets.specs.Words.{places, wordCount}
+use Rattle.slots.specs.Row.{slotsOf}
 
 -- The words of a node, and the node that words hold.
 abbrev pub wordsFor : Node ℕ → Slot

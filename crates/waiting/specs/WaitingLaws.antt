@@ -21,7 +21,8 @@ use Rattle.round_laws.specs.NodeLaws.{reading-full, read-ranged}
 use Rattle.round_laws.specs.Same.{mapRead, mapHand, mapWritten, Carries, insert-carried, read-half-carried, write-half-carried}
 use Rattle.leaf_nodes.specs.Convert.{toNode, fromNode}
 use Rattle.leaf_nodes.specs.Leaf.{readLeaf, leafFormat}
-use Rattle.buckets.specs.Words.{places, wordCount, slotsOf}
+use Rattle.buckets.specs.Words.{places, wordCount}
+use Rattle.slots.specs.Row.{slotsOf}
 use Rattle.buckets.specs.WordsLaws.{slots-count}
 use Rattle.waiting.specs.Waiting.{wordsFor, nodeIn, InWidths, waitingIn, Holds}
 

@@ -11,7 +11,8 @@ use Rattle.slots.specs.Tree.{among}
 use Rattle.rounds.specs.Round.{keysOf}
 use Rattle.rounds.specs.Nodes.{wordsFormat}
 use Rattle.slots.specs.declared.Slot.{Slot}
-use Rattle.buckets.specs.Words.{slotsOf, Leaves}
+use Rattle.buckets.specs.Words.{Leaves}
+use Rattle.slots.specs.Row.{slotsOf}
 use Rattle.buckets.specs.JoinLaws.{reading-empty, reading-bad, reading-held, reading-waiting, reading-new, insert-all}
 use Rattle.buckets.specs.ReadingLaws.{full-reading, full-key, full-tag, empty-reading, bad-reading}
 use Rattle.buckets.specs.JoinedLaws.{damaged, joined-to}

@@ -11,7 +11,7 @@ use Rattle.slots.specs.declared.Slot.{Slot}
 use Rattle.rounds.specs.Format.{Read}
 use Rattle.rounds.specs.Round.{keysOf}
 use Rattle.rounds.specs.Nodes.{wordsFormat}
-use Rattle.buckets.specs.Words.{slotsOf}
+use Rattle.slots.specs.Row.{slotsOf}
 use Rattle.buckets.specs.StashLaws.{ascending-test}
 use Rattle.buckets.specs.JoinedLaws.{Joining, joining-start, joining-turn, joining-damage, joining-end}
 use Rattle.buckets.specs.Gather.{bucketOf, readFrom}

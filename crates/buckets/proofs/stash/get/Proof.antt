@@ -1,4 +1,4 @@
-use Rattle.buckets.specs.WordsLaws.{slot-got}
+use Rattle.slots.specs.RowLaws.{slot-got}
 use native.Mathlib.Omega.{arith}
 use borrow.Author.Needs.{needs}
 use Rattle.buckets.proofs.stash.get.Statement.{statement}

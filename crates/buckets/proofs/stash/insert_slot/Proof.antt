@@ -3,7 +3,7 @@ use mathlib.Core.Path.{_≡_, sym, _∙_, ap}
 use Prim.Native.Nat.{ℕ, _+_}
 use lib.ListN.{take}
 use Rattle.rounds.specs.Nodes.{wordsFormat}
-use Rattle.buckets.specs.Words.{slotsOf}
+use Rattle.slots.specs.Row.{slotsOf}
 use Rattle.buckets.specs.WordsLaws.{slots-count, words-key}
 use Rattle.buckets.specs.Stash.{upperBound}
 use Rattle.buckets.specs.StashLaws.{upper-first, insert-upper-stored}

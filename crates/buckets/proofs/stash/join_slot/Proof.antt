@@ -4,7 +4,8 @@ use lib.ListN.{length, take, getD}
 use Prim.Native.Nat.{ℕ, _+_, _-_, _<_}
 use Rattle.rounds.specs.Round.{keysOf}
 use Rattle.rounds.specs.Nodes.{wordsFormat}
-use Rattle.buckets.specs.Words.{wordCount, slotsOf, zeroSlot}
+use Rattle.buckets.specs.Words.{wordCount}
+use Rattle.slots.specs.Row.{slotsOf, zeroSlot}
 use Rattle.buckets.specs.WordsLaws.{slots-count, words-key, key-got}
 use Rattle.buckets.specs.StashLaws.{ascending-holds, Rising, rising-start, rising-first, rising-placed, rising-twice, rising-turn}
 use borrow.Author.Needs.{needs}

@@ -1,6 +1,6 @@
 use mathlib.Core.Path.{_∙_}
 use Prim.Native.Nat.{_*_}
-use Rattle.buckets.specs.WordsLaws.{slot-put, stored-length}
+use Rattle.slots.specs.RowLaws.{slot-put, stored-length}
 use native.Mathlib.Omega.{arith}
 use borrow.Author.Needs.{needs}
 use Rattle.buckets.proofs.stash.put.Statement.{statement}

@@ -2,7 +2,8 @@
 use mathlib.Core.Path.{_≡_, _∙_, ap}
 use Prim.Native.Nat.{_+_, _≤_}
 use lib.ListN.{length, take, set}
-use Rattle.buckets.specs.Words.{wordCount, slotsOf, zeroSlot}
+use Rattle.buckets.specs.Words.{wordCount}
+use Rattle.slots.specs.Row.{slotsOf, zeroSlot}
 use Rattle.buckets.specs.WordsLaws.{slots-count}
 use Rattle.buckets.specs.PlaceLaws.{shifted, shifted-none, shifted-more}
 use borrow.Author.Needs.{needs}

@@ -4,7 +4,7 @@ use Prim.Native.Nat.{_-_, _≤_}
 use lib.ListN.{length, take, drop, getD}
 use lib.Seq.{length-sets}
 use Rattle.slots.specs.Slot.{slotBytes}
-use Rattle.buckets.specs.Words.{zeroSlot}
+use Rattle.slots.specs.Row.{zeroSlot}
 use Rattle.buckets.specs.Fill.{emptied}
 use Rattle.buckets.specs.GatherLaws.{start-within, start-small}
 use Rattle.buckets.specs.ClearLaws.{emptied-turn, emptied-end, path-cleared, start-aligned}

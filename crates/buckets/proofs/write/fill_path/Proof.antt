@@ -8,7 +8,7 @@ use lib.Pow.{pow-mono}
 use Rattle.slots.specs.Tree.{path, treeLength}
 use Rattle.slots.specs.declared.Slot.{Slot}
 use Rattle.rounds.specs.Nodes.{wordsFormat}
-use Rattle.buckets.specs.Words.{slotsOf}
+use Rattle.slots.specs.Row.{slotsOf}
 use Rattle.buckets.specs.WordsLaws.{slots-count, words-tag}
 use Rattle.buckets.specs.Stash.{without}
 use Rattle.buckets.specs.SettleLaws.{Placing, placing-start, without-none, without-same, tag-leaf, found-level, turn-room, turn-stored, turn-left, placing-length, path-filled}

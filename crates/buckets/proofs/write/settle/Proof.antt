@@ -3,7 +3,7 @@ use mathlib.Core.Path.{_≡_, sym, _∙_, ap}
 use mathlib.Core.Logic.{⊎-elim}
 use mathlib.Core.Bool.{Bool}
 use lib.ListN.{take}
-use Rattle.buckets.specs.Words.{slotsOf}
+use Rattle.slots.specs.Row.{slotsOf}
 use Rattle.buckets.specs.Stash.{without}
 use Rattle.buckets.specs.Look.{removed}
 use Rattle.buckets.specs.SettleLaws.{without-past, settled}

@@ -2,7 +2,7 @@
 use mathlib.Core.Path.{_≡_, refl, _∙_, ap}
 use Prim.Native.Nat.{_-_, _≤_}
 use lib.ListN.{set}
-use Rattle.buckets.specs.Words.{slotsOf}
+use Rattle.slots.specs.Row.{slotsOf}
 use Rattle.stash.specs.StashLaws.{LoadedTo, loaded-none, loaded-more, loaded-all}
 use borrow.Author.Needs.{needs}
 use native.Mathlib.Omega.{arith}

@@ -1,0 +1,3 @@
+pub mod Method
+pub mod Resume
+pub mod ResumeLaws

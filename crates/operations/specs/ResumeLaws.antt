@@ -1,0 +1,55 @@
+-- Laws of programs on the nodes fetched so far: a program and what follows it.
+use mathlib.Core.Path.{_≡_, refl}
+use mathlib.Core.Bool.{Bool, true, false}
+use mathlib.Core.List.{List, [], _∷_}
+use Rattle.basics.specs.Choice.{pick}
+use Rattle.method.specs.Node.{Node}
+use Rattle.method.specs.Prog.{Want, Prog, done, want, bind}
+use Rattle.operations.specs.Resume.{Resumed, missing, finished, resume, Ends, follow}
+
+module _ {T A : Type 0} where
+  pub resume-done : (a : A) (ns : List (Node T)) → resume (done a) ns ≡ finished a ns
+  unfolding resume
+  resume-done a ns = refl
+
+  pub resume-want : (w : Want T) (k : Node T → Prog T A) (n : Node T) (ns : List (Node T)) → resume (want w k) (n ∷ ns) ≡ resume (k n) ns
+  unfolding resume
+  resume-want w k n ns = refl
+
+  pub resume-missing : (w : Want T) (k : Node T → Prog T A) → resume (want w k) [] ≡ missing w
+  unfolding resume
+  resume-missing w k = refl
+
+  pub ends-done : (P : A → List (Node T) → Type 0) (a : A) (ns : List (Node T)) → P a ns → Ends P (resume (done a) ns)
+  unfolding resume
+  ends-done P a ns h = h
+
+  pub ends-more : {P Q : A → List (Node T) → Type 0} → ((a : A) (ns : List (Node T)) → P a ns → Q a ns) → (r : Resumed T A) → Ends P r → Ends Q r
+  ends-more f (missing w) h = tt
+  ends-more f (finished a ns) h = f a ns h
+
+  pub ends-pick : (P : A → List (Node T) → Type 0) (t : Bool) (p q : Prog T A) (ns : List (Node T))
+      → Ends P (resume p ns) → Ends P (resume q ns) → Ends P (resume (pick t p q) ns)
+  ends-pick P true p q ns h k = h
+  ends-pick P false p q ns h k = k
+
+module _ {T A B : Type 0} where
+  pub resume-bind : (p : Prog T A) (f : A → Prog T B) (ns : List (Node T))
+      → resume (bind p f) ns ≡ follow (resume p ns) (λ a rest. resume (f a) rest)
+  unfolding resume bind
+  resume-bind (done a) f ns = refl
+  resume-bind (want w k) f [] = refl
+  resume-bind (want w k) f (n ∷ ns) = resume-bind (k n) f ns
+
+  pub resume-map : (p : Prog T A) (f : A → B) (ns : List (Node T))
+      → resume (bind p (λ a. done (f a))) ns ≡ follow (resume p ns) (λ a rest. finished (f a) rest)
+  unfolding resume
+  resume-map p f ns = resume-bind p (λ a. done (f a)) ns
+
+  pub ends-bind : (Q : B → List (Node T) → Type 0) (p : Prog T A) (f : A → Prog T B) (ns : List (Node T))
+      → Ends (λ a rest. Ends Q (resume (f a) rest)) (resume p ns) → Ends Q (resume (bind p f) ns)
+  ends-bind Q p f ns h = rw (resume-bind p f ns) (go (resume p ns) h)
+    where
+      go : (r : Resumed T A) → Ends (λ a rest. Ends Q (resume (f a) rest)) r → Ends Q (follow r (λ a rest. resume (f a) rest))
+      go (missing w) h = tt
+      go (finished a rest) h = h

@@ -1,6 +1,8 @@
 -- A row of slots as words: four to a slot.
 use Prim.Native.Nat.{ℕ}
-use mathlib.Core.List.{List, [], _∷_}
+use mathlib.Core.List.{List, [], _∷_, map}
+use Rattle.slots.specs.Slot.{fieldsIn, nodeOf, slotBytes}
+use Rattle.slots.specs.declared.Node.{Node}
 use Rattle.slots.specs.declared.Slot.{Slot}
 
 -- The slots that words hold.
@@ -14,3 +16,10 @@ slotsOf (a ∷ b ∷ c ∷ d ∷ ws) = record { a = a; b = b; c = c; d = d } ∷
 -- What an unused place holds.
 abbrev pub zeroSlot : Slot
 zeroSlot = record { a = 0; b = 0; c = 0; d = 0 }
+
+-- The node that a slot's words hold, and the nodes that a row's do.
+abbrev pub nodeFrom : Slot → Node
+nodeFrom x = nodeOf (fieldsIn (slotBytes x))
+
+abbrev pub nodesFrom : List ℕ → List Node
+nodesFrom ws = map nodeFrom (slotsOf ws)

@@ -1,11 +1,16 @@
 -- Words and the slots that they hold: their number, one slot's four words, and four stores as one.
-use mathlib.Core.Path.{_≡_, refl, ap}
+use mathlib.Core.Path.{_≡_, refl, sym, _∙_, ap}
 use Prim.Native.Nat.{ℕ, zero, suc, _+_, _*_, _<_}
 use native.Mathlib.Omega.{arith}
-use mathlib.Core.List.{List, [], _∷_}
-use lib.ListN.{length, getD, set, length-set}
+use mathlib.Core.List.{List, [], _∷_, map}
+use lib.ListN.{length, getD, set, length-set, length-map, List·getD-map}
+use Rattle.slots.specs.declared.Node.{Node}
 use Rattle.slots.specs.declared.Slot.{Slot}
-use Rattle.slots.specs.Row.{slotsOf, zeroSlot}
+use Rattle.slots.specs.Layout.{fields}
+use Rattle.slots.specs.LittleEndian.{value, bytes}
+use Rattle.slots.specs.Slot.{noNode, fieldsIn, nodeOf, slotBytes, slotOf}
+use Rattle.slots.specs.SlotLaws.{Ranged, node-fields, fields-encoded, slot-encoded}
+use Rattle.slots.specs.Row.{slotsOf, zeroSlot, nodeFrom, nodesFrom}
 
 pub slots-length : (n : ℕ) (ws : List ℕ) → length ws ≡ 4 * n → length (slotsOf ws) ≡ n
 unfolding slotsOf
@@ -56,3 +61,35 @@ slot-put (suc i) (a ∷ b ∷ c ∷ d ∷ ws) x h =
 
 pub stored-length : (ws : List ℕ) (j : ℕ) (x : Slot) → length (stored ws j x) ≡ length ws
 stored-length ws j x = simp length-set
+
+-- ---- the nodes of a row
+
+-- A node's words hold it.
+pub node-from-slot : (n : Node) → Ranged n → nodeFrom (slotOf n) ≡ n
+node-from-slot n r = ap nodeOf (ap fieldsIn (slot-encoded n r) ∙ fields-encoded n r) ∙ node-fields n
+
+pub zero-holds : nodeFrom zeroSlot ≡ noNode
+unfolding nodeOf fieldsIn fields value bytes slotBytes
+zero-holds = refl
+
+pub row-length : (n : ℕ) (ws : List ℕ) → length ws ≡ 4 * n → length (nodesFrom ws) ≡ n
+row-length n ws h = length-map (slotsOf ws) nodeFrom ∙ slots-length n ws h
+
+-- The node in a place.
+pub row-got : (i : ℕ) (ws : List ℕ) → 4 * i + 3 < length ws → nodeFrom (slotAt ws (4 * i)) ≡ getD (nodesFrom ws) i noNode
+row-got i ws h =
+    ap nodeFrom (slot-got i ws h)
+    ∙ sym (List·getD-map nodeFrom (slotsOf ws) i zeroSlot)
+    ∙ ap (getD (nodesFrom ws) i) zero-holds
+
+map-set : {A B : Type 0} (f : A → B) (xs : List A) (i : ℕ) (x : A) → map f (set xs i x) ≡ set (map f xs) i (f x)
+map-set f [] i x = refl
+map-set f (y ∷ xs) zero x = refl
+map-set f (y ∷ xs) (suc i) x = ap (λ (l : List _). f y ∷ l) (map-set f xs i x)
+
+-- A node stored in a place.
+pub row-put : (i : ℕ) (ws : List ℕ) (n : Node) → Ranged n → 4 * i + 3 < length ws → nodesFrom (stored ws (4 * i) (slotOf n)) ≡ set (nodesFrom ws) i n
+row-put i ws n r h =
+    ap (map nodeFrom) (slot-put i ws (slotOf n) h)
+    ∙ map-set nodeFrom (slotsOf ws) i (slotOf n)
+    ∙ ap (set (nodesFrom ws) i) (node-from-slot n r)

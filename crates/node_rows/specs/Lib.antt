@@ -1,0 +1,5 @@
+pub mod Row
+pub mod RowLaws
+pub mod Heights
+pub mod Held
+pub mod HeldLaws

@@ -1,0 +1,6 @@
+pub mod Method
+pub mod Heights
+pub mod HeightLaws
+pub mod Balance
+pub mod BalanceLaws
+pub mod FetchTestLaws

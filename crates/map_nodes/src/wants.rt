@@ -1,0 +1,71 @@
+// Steps down the tree, and the node that is wanted below each.
+use super::Step;
+use super::sides::child_link;
+use operations::Bound;
+use operations::From;
+use operations::Want;
+use slots::Link;
+use slots::Node;
+ghost use mathlib.Core.Path.{_≡_};
+ghost use Rattle.method.specs.Map as map;
+ghost use Rattle.leaf_nodes.specs.Convert.{toLink, toNode};
+ghost use Rattle.operations.specs.Method.{toWant};
+ghost use Rattle.map_nodes.specs.Method.{toStep};
+
+// The root link's node.
+pub fn start(root: Link) -> Want
+    ensures { λ r. ⌜ toWant r ≡ map.start (toLink root) ⌝ }
+{
+    Want {
+        link: root,
+        from: From::Root,
+        low: Bound::Open,
+        high: Bound::Open,
+    }
+}
+
+// The step over a node that was wanted, on to a side.
+pub fn step_at(want: Want, n: Node, left: bool) -> Step
+    ensures { λ r. ⌜ toStep r ≡ map.stepAt (toWant want) (toNode n) left ⌝ }
+{
+    let low = want.low;
+    let high = want.high;
+    Step {
+        node: n,
+        was: n.key,
+        left,
+        low,
+        high,
+    }
+}
+
+// The node behind a link on a side of a node that was passed.
+pub fn beside(p: Step, left: bool, link: Link) -> Want
+    ensures { λ r. ⌜ toWant r ≡ map.beside (toStep p) left (toLink link) ⌝ }
+{
+    let low = p.low;
+    let high = p.high;
+    if left {
+        return Want {
+            link,
+            from: From::Side(p.was, true),
+            low,
+            high: Bound::Key(p.was),
+        };
+    }
+    Want {
+        link,
+        from: From::Side(p.was, false),
+        low: Bound::Key(p.was),
+        high,
+    }
+}
+
+// The node on which a step goes on.
+pub fn below(p: Step) -> Want
+    ensures { λ r. ⌜ toWant r ≡ map.below (toStep p) ⌝ }
+{
+    let n = p.node;
+    let link = child_link(p.left, n);
+    beside(p, p.left, link)
+}

@@ -1,4 +1,5 @@
 pub mod Method
+pub mod Upward
 pub mod Heights
 pub mod HeightLaws
 pub mod Balance

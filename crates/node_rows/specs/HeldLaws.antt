@@ -10,7 +10,10 @@ use native.Mathlib.Numerals.{add-one}
 use Rattle.slots.specs.declared.Node as node
 use Rattle.slots.specs.Slot.{noNode}
 use Rattle.leaf_nodes.specs.Convert.{toNode}
-use Rattle.node_rows.specs.Held.{Held, nodesOf, heldAt}
+use Rattle.slots.specs.Row.{nodesFrom}
+use Rattle.slots.specs.RowLaws.{row-length}
+use Rattle.node_rows.specs.Row.{places, words}
+use Rattle.node_rows.specs.Held.{Held, heldIn, nodesOf, heldAt}
 use Rattle.node_rows.specs.Heights.{Low, Lows}
 
 module _ {T : Type 0} (most : ℕ) where
@@ -53,3 +56,18 @@ module _ (h : Held) where
 
     pub held-low : (most : ℕ) → Lows most (nodesOf h) → i < h .count → h .count ≤ length (h .nodes) → Low most (heldAt h i)
     held-low most low k l = subst (Lows most) (held-next k l) (lows-drop most i (nodesOf h) low) .0
+
+-- ---- a row's words
+module _ (ws : List ℕ) (sized : length ws ≡ words) where
+  pub row-places : length (nodesFrom ws) ≡ places
+  row-places = row-length places ws sized
+
+  pub held-room : (n : ℕ) → n ≤ places → n ≤ length (nodesFrom ws)
+  held-room n k = let r = row-places in omega arith
+
+  -- One more node of a row.
+  pub row-more : (more : List ℕ) (i : ℕ) (n : node.Node) → i < places → nodesFrom more ≡ set (nodesFrom ws) i n
+      → nodesOf (heldIn more (suc i)) ≡ nodesOf (heldIn ws i) ++ (toNode n ∷ [])
+  row-more more i n k e =
+      let r = row-places in
+      ap (λ (xs : List node.Node). map toNode (take (suc i) xs)) e ∙ first-more toNode (nodesFrom ws) i n (omega arith)

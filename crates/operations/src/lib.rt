@@ -1,5 +1,10 @@
 // What a ticket asks, what is answered, and what an operation wants on its way: the words that the structures share.
 use slots::Link;
+ghost use mathlib.Core.Path.{_≡_};
+ghost use Prim.Native.Nat.{pred};
+ghost use Rattle.method.specs.Map as map;
+ghost use Rattle.leaf_nodes.specs.Convert.{toLink};
+ghost use Rattle.operations.specs.Method.{toWant};
 
 // What a ticket asks.
 pub enum Op {
@@ -54,4 +59,26 @@ pub struct Outcome {
     pub root: Link,
     pub entries: u16,
     pub answer: Answer,
+}
+
+// The root link's node, as a wanted one.
+pub fn start(root: Link) -> Want
+    ensures { λ r. ⌜ toWant r ≡ map.start (toLink root) ⌝ }
+{
+    Want {
+        link: root,
+        from: From::Root,
+        low: Bound::Open,
+        high: Bound::Open,
+    }
+}
+
+// The entries, where one leaves.
+pub fn one_less(entries: u16) -> u16
+    ensures { λ r. ⌜ r ≡ pred entries ⌝ }
+{
+    if entries == 0 {
+        return 0;
+    }
+    entries - 1
 }

@@ -1,0 +1,56 @@
+use mathlib.Core.Path.{_∙_, refl}
+use native.Mathlib.Numerals.{add-one}
+use native.Mathlib.Omega.{arith}
+use Rattle.leaf_nodes.specs.Convert.{toLink, toNode}
+use Rattle.node_rows.specs.HeldLaws.{row-more}
+use Rattle.stack_steps.specs.StackLaws.{push-full, push-one}
+use native.Mathlib.Omega.{arith}
+use borrow.Author.Needs.{needs}
+use Rattle.stack_steps.proofs.push.Statement.{statement}
+use Rattle.stack_steps.proofs.push.Tie as tie
+use Rattle.stack_steps.proofs.push.Reads as reads
+use Rattle.stack_steps.proofs.push.Lts as lts
+use Rattle.node_rows.proofs.set_node.Reads as set-node-reads
+use Rattle.slots.proofs.codec.no_link.Reads as no-link-reads
+
+-- src/lib.rt:39:9
+returns : tie.Need-returns
+returns c =
+    let a = c .before .args in (
+      λ ns. rw (push-full (a .value) (a .tag) (a .entries) (a .limit) (toLink (a .root)) ns (c .if1 .taken)),
+      (omega arith, c .before .pre),
+    )
+
+-- src/lib.rt:46:16
+add-more : tie.Need-add-more
+add-more c = search needs
+
+-- src/lib.rt:47:15
+cast-key : tie.Need-cast-key
+cast-key c = search needs
+
+-- src/lib.rt:53:16
+no-link-requires : tie.Need-no-link-requires
+no-link-requires c κs = search needs
+
+-- src/lib.rt:55:5
+set-node-requires : tie.Need-set-node-requires
+set-node-requires c κs = search needs
+
+-- src/lib.rt:27:1
+returns-2 : tie.Need-returns-2
+returns-2 c =
+    let s = c .before .before .before .before in
+    let a = s .args in (
+      λ ns. rw (
+        push-one (a .value) (a .tag) (a .entries) (a .limit) (toLink (a .root)) ns (c .before .before .before .if1 .left),
+        row-more (a .made .now) (s .pre) (c .set-node .last .0) 0 _ (omega arith) (c .set-node .ensures .0),
+        c .before .before .no-link .ensures,
+        add-one (a .entries),
+      ),
+      (omega arith, c .set-node .ensures .1),
+    )
+
+pub push-spec : {M : Type 1} → statement M
+push-spec =
+    tie.close (tie.spec returns add-more cast-key no-link-requires set-node-requires returns-2)

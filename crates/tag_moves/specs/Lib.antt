@@ -1,0 +1,2 @@
+pub mod Moved
+pub mod MoveLaws

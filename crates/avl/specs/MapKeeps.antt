@@ -18,9 +18,11 @@ use Rattle.method.specs.Answer.{map, Op, get, put, remove, Answer, found, repla
 use Rattle.method.specs.Answer as answers
 use Rattle.method.specs.Plain.{Pair, Said, lookup, store, getAnswer, putAnswer, removeAnswer, plain}
 use Rattle.method.specs.Map.{top, Built, Spot, linkOf, nodesAt, start, mapTest, walk, climb, unwind, unwound, finish, getStep, getProg, putStep, putProg, removeStep, removeProg}
-use Rattle.method.specs.Call.{Memory, program}
+use Rattle.method.specs.Rounds.{spare}
+use Rattle.method.specs.Call.{Memory, program, drawsFrom}
 use Rattle.method.specs.Safe.{Safe, ends}
 use Rattle.runs.specs.SafeLaws.{safe-then, safe-pick}
+use Rattle.runs.specs.Calls.{sparesOf}
 use Rattle.runs.specs.Answers.{StepsTo}
 use Rattle.avl.specs.Search.{Entry, pairs, linkTree, nodeAt, nodesOf, Holds}
 use Rattle.avl.specs.Ascending.{Ascending, ends as none-left, ascending-search}
@@ -73,7 +75,7 @@ module _ {T : Type 0} {nil tag : T} {limit : ℕ} where
       {held ns : List (Node T)}
       → Standing nil tag Balanced contents [] [] more b held ns → contents ≡ said .contents → a ≡ said .answer
       → Ascending none none (said .contents) → entries ≡ length (said .contents) → length (said .contents) ≤ limit
-      → StepsTo (Holds nil limit) said tag (finish entries a b) held ns
+      → StepsTo (Holds nil limit) said (tag ∷ []) (finish entries a b) held ns
   finish-keeps {more = more} entries a st same ans ascends counted fits =
       record {
         contents = record {
@@ -104,7 +106,7 @@ module _ {T : Type 0} {nil tag : T} {limit : ℕ} where
         (unwind-stands nil (p .sound) (have (away l) e (away r)) [] (tag ∷ []) perm-none (p .balanced) (p .reached) stock)
 
     get-keeps : (s : Spot T) (held ns : List (Node T)) → Reached nil tag key table s held ns
-        → StepsTo (Holds nil limit) (plain limit (get key) table) tag (getStep (length table) s) held ns
+        → StepsTo (Holds nil limit) (plain limit (get key) table) (tag ∷ []) (getStep (length table) s) held ns
     unfolding getStep plain getAnswer
     get-keeps s held ns (missing p sits stock) =
         finish-keeps (length table) answers.absent (unwound-stands (missing p sits stock)) refl
@@ -134,7 +136,7 @@ module _ {T : Type 0} {nil tag : T} {limit : ℕ} where
     put-new : (value : ℕ) {fs : List (Frame T)} {held ns : List (Node T)} → length table < limit → Place table fs leaf
         → Sits key fs
         → StockAt nil tag (away leaf) fs (tag ∷ []) held ns
-        → Safe mapTest (StepsTo (Holds nil limit) (stored key value table) tag)
+        → Safe mapTest (StepsTo (Holds nil limit) (stored key value table) (tag ∷ []))
         (bind (climb (list.map (stepOf nil) fs)
         (top (record { key = key; value = value; tag = tag; left = absent nil; right = absent nil }) none none) [])
         (λ b. done (finish (suc (length table)) new b))) held ns
@@ -150,7 +152,7 @@ module _ {T : Type 0} {nil tag : T} {limit : ℕ} where
         {held ns : List (Node T)}
         → Place table fs (node l e r) → key ≡ e .key
         → StockAt nil tag (have (away l) e (away r)) fs (tag ∷ []) held ns
-        → StepsTo (Holds nil limit) (stored key value table) tag
+        → StepsTo (Holds nil limit) (stored key value table) (tag ∷ [])
         (finish (length table) (replaced (e .value))
         (unwind (list.map (stepOf nil) fs) (top (withValue value (nodeAt nil l e r)) none none) [])) held ns
     unfolding putAnswer whole further below topNode subOf height Balanced pairs unfetched tags
@@ -164,7 +166,7 @@ module _ {T : Type 0} {nil tag : T} {limit : ℕ} where
         (rw same (sym (store-length ascends p value))) (let k = store-length ascends p value in rw same (omega arith))
 
     put-keeps : (value : ℕ) (s : Spot T) (held ns : List (Node T)) → Reached nil tag key table s held ns
-        → Safe mapTest (StepsTo (Holds nil limit) (plain limit (put key value) table) tag)
+        → Safe mapTest (StepsTo (Holds nil limit) (plain limit (put key value) table) (tag ∷ []))
         (putStep nil key value tag (length table) limit s) held ns
     unfolding putStep
     put-keeps value s held ns (missing p sits stock) =
@@ -182,7 +184,7 @@ module _ {T : Type 0} {nil tag : T} {limit : ℕ} where
     -- ---- remove
 
     remove-keeps : (s : Spot T) (held ns : List (Node T)) → Reached nil tag key table s held ns
-        → Safe mapTest (StepsTo (Holds nil limit) (plain limit (remove key) table) tag) (removeStep (length table) s) held ns
+        → Safe mapTest (StepsTo (Holds nil limit) (plain limit (remove key) table) (tag ∷ [])) (removeStep (length table) s) held ns
     unfolding removeStep plain removeAnswer
     remove-keeps s held ns (missing p sits stock) =
         ends (finish-keeps (length table) answers.absent (unwound-stands (missing p sits stock))
@@ -212,15 +214,15 @@ module _ {T : Type 0} {nil tag : T} {limit : ℕ} where
         tagged = perm-refl (tag ∷ []);
       }))
 
-  -- From a memory that holds the table, a call of the map finds each node that it wants, and keeps.
-  pub map-keeps : {m : Memory T} {table : List Pair} (op : Op map) → Holds nil limit table m
-      → Safe mapTest (StepsTo (Holds nil limit) (plain limit op table) tag)
-      (program nil op tag limit (m .entries) (m .root)) [] (m .nodes)
-  unfolding program getProg putProg removeProg
-  map-keeps (get key) h =
-      rw (h .counted) (safe-then _ (start-safe key h)
-      (λ s held ns r. ends (get-keeps (holds-ascending h) (h .fits) s held ns r)))
-  map-keeps (put key value) h =
-      rw (h .counted) (safe-then _ (start-safe key h) (put-keeps (holds-ascending h) (h .fits) value))
-  map-keeps (remove key) h =
-      rw (h .counted) (safe-then _ (start-safe key h) (remove-keeps (holds-ascending h) (h .fits)))
+-- From a memory that holds the table, a call of the map finds each node that it wants, and keeps.
+pub map-keeps : {T : Type 0} {nil : T} {limit : ℕ} {m : Memory T} {table : List Pair} (op : Op map) (spares : ℕ → T) → Holds nil limit table m
+    → Safe mapTest (StepsTo (Holds nil limit) (plain limit op table) (sparesOf map spares))
+    (program nil op spares limit (m .entries) (m .root)) [] (m .nodes)
+unfolding program getProg putProg removeProg spare drawsFrom
+map-keeps (get key) spares h =
+    rw (h .counted) (safe-then _ (start-safe {tag = spares 0} key h)
+    (λ s held ns r. ends (get-keeps (holds-ascending h) (h .fits) s held ns r)))
+map-keeps (put key value) spares h =
+    rw (h .counted) (safe-then _ (start-safe key h) (put-keeps (holds-ascending h) (h .fits) value))
+map-keeps (remove key) spares h =
+    rw (h .counted) (safe-then _ (start-safe {tag = spares 0} key h) (remove-keeps (holds-ascending h) (h .fits)))

@@ -9,12 +9,12 @@ use super::stash::find;
 use super::stash::get;
 use super::stash::join_slot;
 use slots::BUCKET_LENGTH;
-use slots::Link;
 use slots::Node;
 use slots::Reading;
 use slots::SLOT_LENGTH;
 use slots::Slot;
 use slots::codec::is_zero;
+use slots::codec::no_node;
 use slots::codec::node_of;
 use slots::codec::reading;
 use slots::codec::tag_of;
@@ -63,21 +63,6 @@ pub struct Looked {
     pub at: usize,
     pub node: Node,
     pub full: usize,
-}
-
-fn no_node() -> Node {
-    let none = Link {
-        height: 0,
-        key: 0,
-        tag: 0,
-    };
-    Node {
-        key: 0,
-        value: 0,
-        tag: 0,
-        left: none,
-        right: none,
-    }
 }
 
 // Whether the call holds a node with a key.

@@ -12,6 +12,7 @@ use Rattle.rounds.specs.Round.{withBucket, noneTwice, allGood, readBucket, read
 use Rattle.method.specs.Node.{Node}
 use Rattle.method.specs.Prog.{bind}
 use Rattle.method.specs.Answer.{stack, Op, push, pop, pushed, popped}
+use Rattle.method.specs.Rounds.{spare}
 use Rattle.method.specs.Stack.{pushProg, popProg, stackTest}
 use Rattle.method.specs.Call.{program, test}
 use Rattle.leaf_nodes.specs.Leaf.{readLeaf, leafFormat}
@@ -37,13 +38,13 @@ abbrev second : Left
 second = bucketCall {s = stack} 2 1 pop (drawOf 2 (0 ∷ 1 ∷ 1 ∷ [])) (leftBy first)
 
 pub push-reveals : first .leaves ≡ 1 ∷ 3 ∷ []
-unfolding bucketCall afterFetches afterPuts putRounds fetchRounds fetchRound wantRound tookRound idleRound atClose closing movedLink movedNode withBucket noneTwice allGood readBucket readBuckets insert join takeFirst tagged granted joined grantedFrom readHalf choose evict halvings among filled encode fieldsOf pack bytes readSlot bad fieldsIn nodeOf fields value allZero readLeaf program test pushProg popProg stackTest bind
+unfolding bucketCall afterFetches afterPuts putRounds fetchRounds fetchRound wantRound tookRound idleRound atClose closing movedLink movedNode withBucket noneTwice allGood readBucket readBuckets insert join takeFirst tagged granted joined grantedFrom readHalf choose evict halvings among filled encode fieldsOf pack bytes readSlot bad fieldsIn nodeOf fields value allZero readLeaf spare program test pushProg popProg stackTest bind
 push-reveals = refl
 
 pub pop-answers : second .answer ≡ some (popped 50)
-unfolding bucketCall afterFetches afterPuts putRounds fetchRounds fetchRound wantRound tookRound idleRound atClose closing movedLink movedNode withBucket noneTwice allGood readBucket readBuckets insert join takeFirst tagged granted joined grantedFrom readHalf choose evict halvings among filled encode fieldsOf pack bytes readSlot bad fieldsIn nodeOf fields value allZero readLeaf program test pushProg popProg stackTest bind
+unfolding bucketCall afterFetches afterPuts putRounds fetchRounds fetchRound wantRound tookRound idleRound atClose closing movedLink movedNode withBucket noneTwice allGood readBucket readBuckets insert join takeFirst tagged granted joined grantedFrom readHalf choose evict halvings among filled encode fieldsOf pack bytes readSlot bad fieldsIn nodeOf fields value allZero readLeaf spare program test pushProg popProg stackTest bind
 pop-answers = refl
 
 pub pop-reveals : second .leaves ≡ 2 ∷ 1 ∷ []
-unfolding bucketCall afterFetches afterPuts putRounds fetchRounds fetchRound wantRound tookRound idleRound atClose closing movedLink movedNode withBucket noneTwice allGood readBucket readBuckets insert join takeFirst tagged granted joined grantedFrom readHalf choose evict halvings among filled encode fieldsOf pack bytes readSlot bad fieldsIn nodeOf fields value allZero readLeaf program test pushProg popProg stackTest bind
+unfolding bucketCall afterFetches afterPuts putRounds fetchRounds fetchRound wantRound tookRound idleRound atClose closing movedLink movedNode withBucket noneTwice allGood readBucket readBuckets insert join takeFirst tagged granted joined grantedFrom readHalf choose evict halvings among filled encode fieldsOf pack bytes readSlot bad fieldsIn nodeOf fields value allZero readLeaf spare program test pushProg popProg stackTest bind
 pop-reveals = refl

@@ -20,7 +20,7 @@ use Rattle.method.specs.Answer as answer
 use Rattle.method.specs.Answer.{Structure, Op}
 use Rattle.method.specs.Map.{Outcome}
 use Rattle.method.specs.Plain.{Pair}
-use Rattle.method.specs.Rounds.{rounds}
+use Rattle.method.specs.Rounds.{rounds, spareDraw, putDraw}
 use Rattle.method.specs.Safe.{Within, stops, asks}
 use Rattle.method.specs.Call.{capacity, program}
 use Rattle.runs.specs.SafeLaws.{within-more}
@@ -64,7 +64,8 @@ some-rounds answer.stack k h = omega arith
 -- What its fetch rounds come to.
 abbrev pub fetchedBy : {s : Structure} → (k F : ℕ) → Op s → (ℕ → ℕ) → Store → Round (Outcome ℕ)
 fetchedBy {s} k F op draw st =
-    fetchRounds s k draw F 0 (program 0 op (draw F) (capacity k) (st .entries) (st .root))
+    fetchRounds s (st .entries) k draw F 0
+    (program 0 op (λ i. draw (spareDraw F i)) (capacity k) (st .entries) (st .root))
     (record { tree = st .tree; waiting = st .waiting; held = []; leaves = [] })
 
 -- The entries after the step.
@@ -75,7 +76,7 @@ entriesAfter k g o = entriesWith k (g .tree) (join leafFormat (o .nodes) (g .wai
 abbrev pub FetchEnds : {s : Structure} → (k n left : ℕ) → Op s → Store → Round (Outcome ℕ) → Type 0
 FetchEnds {s} k n left op st =
     After k (st .root) (entriesBefore k st) (0 + n)
-    (Fetching s k (st .root) (Yielded k (highest s k) (keyOf op st) (valueIn op) (Answers op)) left)
+    (Fetching s (st .entries) k (st .root) (Yielded k (highest s k) (keyOf op st) (valueIn op) (Answers op)) left)
 
 -- Where a call stands after the step: the nodes of the outcome wait too, and none is held.
 pub record Stepping {s : Structure} (k F : ℕ) (op : Op s) (st : Store) (g : Going) (o : Outcome ℕ) : Type 0 where
@@ -97,7 +98,7 @@ module _ {s : Structure} (k F : ℕ) (op : Op s) (draw : ℕ → ℕ) (st : Stor
   left-shut m g e = rw e
 
   pub left-on : (g : Going) (o : Outcome ℕ) → fetchedBy k F op draw st ≡ on g (done o)
-      → bucketCall k F op draw st ≡ afterPuts o (putRounds k draw F (F + 1) o (stepped o g))
+      → bucketCall k F op draw st ≡ afterPuts o (putRounds k draw F (putDraw s F 0) o (stepped o g))
   unfolding bucketCall afterFetches
   left-on g o e = rw e
 
@@ -109,12 +110,13 @@ module _ {s : Structure} (k : ℕ) (some-size : 1 ≤ k) (small : k ≤ 16) (op 
   -- After any number of its fetch rounds a call has closed the store, or all entries are there and at most 64 nodes wait or are held.
   pub fetch-rounds : (n left : ℕ) → n + left ≡ rounds s k
       → FetchEnds k n left op st
-      (fetchRounds s k draw n 0 (program 0 op (draw (rounds s k)) (capacity k) (st .entries) (st .root))
+      (fetchRounds s (st .entries) k draw n 0
+      (program 0 op (λ i. draw (spareDraw (rounds s k) i)) (capacity k) (st .entries) (st .root))
       (record { tree = st .tree; waiting = st .waiting; held = []; leaves = [] }))
   fetch-rounds n left all-rounds =
-      let tag = draw (rounds s k) in
+      let spares : ℕ → ℕ = λ i. draw (spareDraw (rounds s k) i) in
       let most : 2 ^ k ≤ 2 ^ 16 = pow-mono small in
-      fetches-after s small draw leaves n left 0 (program 0 op tag (capacity k) (st .entries) (st .root)) _
+      fetches-after s (st .entries) small draw leaves n left 0 (program 0 op spares (capacity k) (st .entries) (st .root)) _
       (record {
         is-tree = fit .is-tree;
         waiting = fit .proper;
@@ -131,11 +133,11 @@ module _ {s : Structure} (k : ℕ) (some-size : 1 ≤ k) (small : k ≤ 16) (op 
         yields =
             yields-map (λ o given h. h .0)
             (yields-both
-            (program-yields op tag (capacity k) (st .entries) (st .root) op-fits (leaves (rounds s k)) (omega (arith, fit .entries)) root-fits)
-            (program-seeks op tag (capacity k) (st .entries) (st .root)));
+            (program-yields op spares (capacity k) (st .entries) (st .root) op-fits (λ i below. leaves (spareDraw (rounds s k) i)) (omega (arith, fit .entries)) root-fits)
+            (program-seeks op spares (capacity k) (st .entries) (st .root)));
         within =
             within-more (omega (arith, enough-rounds s k (st .root .height) (fit .low)))
-            (program-within 0 op tag (capacity k) (st .entries) (st .root));
+            (program-within 0 op spares (capacity k) (st .entries) (st .root));
       })
 
   fetched-all : FetchEnds k (rounds s k) 0 op st (fetchedBy k (rounds s k) op draw st)
@@ -183,10 +185,10 @@ module _ {s : Structure} (k : ℕ) (some-size : 1 ≤ k) (small : k ≤ 16) (op 
   -- After any number of its put rounds a call has closed the store, or all entries are there and at most 64 nodes wait.
   pub put-rounds : (g : Going) (o : Outcome ℕ) → fetchedBy k (rounds s k) op draw st ≡ on g (done o) → (n : ℕ) → 1 ≤ n
       → After k (o .root) (entriesAfter k g o) (length (g .leaves) + n) (Resting o)
-      (putRounds k draw n (rounds s k + 1) o (stepped o g))
+      (putRounds k draw n (putDraw s (rounds s k) 0) o (stepped o g))
   put-rounds g o e n at-least =
       let t = stepping g o e in
-      puts-after draw leaves o n (rounds s k + 1) (stepped o g) (t .sound) (t .few) (λ none-left. let z : ⊥ = omega arith in absurd z) refl
+      puts-after draw leaves o n (putDraw s (rounds s k) 0) (stepped o g) (t .sound) (t .few) (λ none-left. let z : ⊥ = omega arith in absurd z) refl
 
   -- The put rounds keep the entries, whether or not they close the store.
   pub put-closing : (g : Going) (o : Outcome ℕ) → fetchedBy k (rounds s k) op draw st ≡ on g (done o)

@@ -178,14 +178,14 @@ module _ {k h : ℕ} where
       (λ b given raised. ends (finished (pred entries) (answer.removed (n .value)) b remove-removed (rw same raised)))
 
 -- ---- the calls
-module _ {k h : ℕ} (tag limit entries : ℕ) (l : Link ℕ) (leaf : tag < 2 ^ k) (f : LinkFits k h l) where
+module _ {k h : ℕ} (spares : ℕ → ℕ) (limit entries : ℕ) (l : Link ℕ) (leaf : spares 0 < 2 ^ k) (f : LinkFits k h l) where
   walked : (key : ℕ) → YieldsBy k mapTest (Walked k h key) (walk key (l .height) (start l) []) []
   walked key = walk-yields key (l .height) (start l) [] (omega arith) f (record { fit = all-nil (NodeFits k h); whole = perm-refl [] })
 
   pub map-yields : (op : Op answer.map) → OpFits op
-      → YieldsBy k mapTest (Yielded k h (keyIn op entries l) (valueIn op) (Answers op)) (program 0 op tag limit entries l) []
+      → YieldsBy k mapTest (Yielded k h (keyIn op entries l) (valueIn op) (Answers op)) (program 0 op spares limit entries l) []
   unfolding program getProg putProg removeProg keyIn valueIn
   map-yields (answer.get key) fits = yields-then _ (walked key) (λ s given a. ends (getStep-yields 0 entries a))
   map-yields (answer.put key value) fits =
-      yields-then _ (walked key) (λ s given a. putStep-yields value tag entries limit (fits .0) (fits .1) leaf a)
+      yields-then _ (walked key) (λ s given a. putStep-yields value (spares 0) entries limit (fits .0) (fits .1) leaf a)
   map-yields (answer.remove key) fits = yields-then _ (walked key) (λ s given a. removeStep-yields 0 entries a)

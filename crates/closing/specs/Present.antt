@@ -118,23 +118,23 @@ module _ {k most : ℕ} {l : Link ℕ} where
   putStep-seeks key value tag entries limit (saw-node here even falls) = yields-pick (ltb entries limit) (ends tt) (ends tt)
 
 -- ---- every structure
-module _ {k : ℕ} (tag limit entries : ℕ) (l : Link ℕ) where
+module _ {k : ℕ} (spares : ℕ → ℕ) (limit entries : ℕ) (l : Link ℕ) where
   sighted : (key : ℕ) → Seeks k l (Sighted (l .height)) (walk key (l .height) (start l) []) []
   sighted key = walk-seeks key (l .height) (start l) [] at-root (all-nil (Fresh [])) (at-top (le-refl (l .height)))
 
-  map-seeks : (op : Op answer.map) → Seeks k l (λ o given. Unit {0}) (program 0 op tag limit entries l) []
+  map-seeks : (op : Op answer.map) → Seeks k l (λ o given. Unit {0}) (program 0 op spares limit entries l) []
   unfolding program getProg putProg removeProg
   map-seeks (answer.get key) = yields-then _ (sighted key) (λ s given h. ends tt)
-  map-seeks (answer.put key value) = yields-then _ (sighted key) (λ s given h. putStep-seeks key value tag entries limit h)
+  map-seeks (answer.put key value) = yields-then _ (sighted key) (λ s given h. putStep-seeks key value (spares 0) entries limit h)
   map-seeks (answer.remove key) = yields-then _ (sighted key) (λ s given h. removeStep-seeks entries h)
 
-  stack-seeks : (op : Op answer.stack) → Yields (Sought l) (Given k stackTest) (λ o given. Unit {0}) (program 0 op tag limit entries l) []
+  stack-seeks : (op : Op answer.stack) → Yields (Sought l) (Given k stackTest) (λ o given. Unit {0}) (program 0 op spares limit entries l) []
   unfolding program pushProg popProg
   stack-seeks (answer.push value) = yields-pick (ltb entries limit) (ends tt) (ends tt)
   stack-seeks answer.pop = yields-when (eqb (l .height) 0) (λ e. ends tt) (λ e. asks (at-root (eqb-false (l .height) 0 e)) (λ n got. ends tt))
 
-pub program-seeks : {s : Structure} {k : ℕ} (op : Op s) (tag limit entries : ℕ) (l : Link ℕ)
-    → Yields (Sought l) (Given k (test s)) (λ o given. Unit {0}) (program 0 op tag limit entries l) []
+pub program-seeks : {s : Structure} {k : ℕ} (op : Op s) (spares : ℕ → ℕ) (limit entries : ℕ) (l : Link ℕ)
+    → Yields (Sought l) (Given k (test s entries)) (λ o given. Unit {0}) (program 0 op spares limit entries l) []
 unfolding test
-program-seeks {s = answer.map} op tag limit entries l = map-seeks tag limit entries l op
-program-seeks {s = answer.stack} op tag limit entries l = stack-seeks tag limit entries l op
+program-seeks {s = answer.map} op spares limit entries l = map-seeks spares limit entries l op
+program-seeks {s = answer.stack} op spares limit entries l = stack-seeks spares limit entries l op

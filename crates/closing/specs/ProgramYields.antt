@@ -16,6 +16,7 @@ use Rattle.method.specs.Prog.{Want}
 use Rattle.method.specs.Answer as answer
 use Rattle.method.specs.Answer.{Structure, Op}
 use Rattle.method.specs.Stack.{pushProg, popProg, stackTest}
+use Rattle.method.specs.Rounds.{spare}
 use Rattle.method.specs.Call.{program, test}
 use Rattle.closing.specs.Fitting.{LinkFits, NodeFits, link-more, absent-fits, proper-node}
 use Rattle.closing.specs.Yields.{ends, asks, yields-pick}
@@ -43,15 +44,15 @@ popped-fits : {k b : ℕ} {w : Want ℕ} {n : Node ℕ} → 1 ≤ b → Given k 
 popped-fits {k} {b} {w} {n} le got =
     let low = stack-tested w n (got .passed) in proper-node k (got .proper) (omega arith) (omega arith)
 
-module _ {k h : ℕ} (tag limit entries : ℕ) (l : Link ℕ) (leaf : tag < 2 ^ k) (f : LinkFits k h l) where
+module _ {k h : ℕ} (spares : ℕ → ℕ) (limit entries : ℕ) (l : Link ℕ) (leaf : spares 0 < 2 ^ k) (f : LinkFits k h l) where
   none-at-hand : {b : ℕ} → AtHand k b [] [] [] []
   none-at-hand {b} = record { fit = all-nil (NodeFits k b); whole = perm-refl [] }
 
   stack-yields : suc entries < 2 ^ 32 → (op : Op answer.stack) → OpFits op
-      → YieldsBy k stackTest (Yielded k h (keyIn op entries l) (valueIn op) (Answers op)) (program 0 op tag limit entries l) []
+      → YieldsBy k stackTest (Yielded k h (keyIn op entries l) (valueIn op) (Answers op)) (program 0 op spares limit entries l) []
   unfolding program pushProg popProg keyIn valueIn takenOut added
   stack-yields small (answer.push value) fits =
-      let n : Node ℕ = record { key = suc entries; value = value; tag = tag; left = l; right = absent 0 } in
+      let n : Node ℕ = record { key = suc entries; value = value; tag = spares 0; left = l; right = absent 0 } in
       let fn : NodeFits k (mostHigh h) n =
       record { own = record { key = small; value = fits; tag = leaf }; left = link-more (omega arith) f; right = absent-fits } in
       yields-pick (ltb entries limit)
@@ -75,10 +76,12 @@ module _ {k h : ℕ} (tag limit entries : ℕ) (l : Link ℕ) (leaf : tag < 2 ^ 
       })))
 
 -- ---- every structure
--- The tag of a new node is a leaf, and the root link is in order.
-pub program-yields : {s : Structure} {k h : ℕ} (op : Op s) (tag limit entries : ℕ) (l : Link ℕ) → OpFits op → tag < 2 ^ k
-    → suc entries < 2 ^ 32 → LinkFits k h l
-    → YieldsBy k (test s) (Yielded k h (keyIn op entries l) (valueIn op) (Answers op)) (program 0 op tag limit entries l) []
-unfolding test
-program-yields {s = answer.map} op tag limit entries l fits leaf small f = map-yields tag limit entries l leaf f op fits
-program-yields {s = answer.stack} op tag limit entries l fits leaf small f = stack-yields tag limit entries l leaf f small op fits
+-- The spare draws are leaves, and the root link is in order.
+pub program-yields : {s : Structure} {k h : ℕ} (op : Op s) (spares : ℕ → ℕ) (limit entries : ℕ) (l : Link ℕ)
+    → OpFits op → ((i : ℕ) → i < spare s → spares i < 2 ^ k) → suc entries < 2 ^ 32 → LinkFits k h l
+    → YieldsBy k (test s entries) (Yielded k h (keyIn op entries l) (valueIn op) (Answers op)) (program 0 op spares limit entries l) []
+unfolding test spare
+program-yields {s = answer.map} op spares limit entries l fits leaves small f =
+    map-yields spares limit entries l (leaves 0 (omega arith)) f op fits
+program-yields {s = answer.stack} op spares limit entries l fits leaves small f =
+    stack-yields spares limit entries l (leaves 0 (omega arith)) f small op fits

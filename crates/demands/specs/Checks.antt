@@ -11,7 +11,7 @@ use borrow.Author.Tests.{eqb-true, eqb-false}
 use Rattle.basics.specs.Choice.{pick}
 use Rattle.slots.specs.Tree.{treeLength}
 use Rattle.method.specs.Answer.{Structure, Op}
-use Rattle.method.specs.Rounds.{rounds}
+use Rattle.method.specs.Rounds.{rounds, draws}
 use Rattle.calls.specs.Fetch.{Left}
 use Rattle.calls.specs.Call.{drawOf, bucketCall}
 use Rattle.state.specs.declared.State.{State}
@@ -47,7 +47,7 @@ module _ (st : Structure) (s : State) (tree ticket tape trace : List ℕ) where
     unfolding callWith
     by-kind none e = ill-brought 5 (omega arith) (omega arith) refl
     by-kind (some op) e =
-        by-room op e (ltb (length tape) (2 * rounds st (s .size) + 1)) (ltb (length trace) (2 * rounds st (s .size)))
+        by-room op e (ltb (length tape) (draws st (s .size))) (ltb (length trace) (2 * rounds st (s .size)))
 
     by-length : (same : Bool) → Verdict (pick (not same) (refusing 4 s tree trace) (callWith st s tree tape trace (opIn st ticket)))
     by-length true = by-kind (opIn st ticket) refl

@@ -9,6 +9,7 @@ use Rattle.basics.specs.Choice.{pick}
 use Rattle.method.specs.Node.{Node}
 use Rattle.method.specs.Prog.{Prog, done, want, Want}
 use Rattle.method.specs.Answer.{Structure, Op, Answer}
+use Rattle.method.specs.Rounds.{spareDraw, putDraw}
 use Rattle.method.specs.Map.{Outcome}
 use Rattle.method.specs.Call.{capacity, program, test}
 use Rattle.rounds.specs.Round.{Hand, readHalf}
@@ -44,39 +45,39 @@ module _ {A : Type 0} where
       go none e = rw (e, idleRound) (inl refl)
       go (some h) e = rw (e, idleRound) (close-marked _ p)
 
-  module _ (s : Structure) (k d : ℕ) (w : Want ℕ) (c : Node ℕ → Prog ℕ A) (g : Going) where
-    took-marked : (ws : List (Node ℕ)) (o : Option (Node ℕ)) → Marked (tookRound s k d w c g ws o)
+  module _ (s : Structure) (entries k d : ℕ) (w : Want ℕ) (c : Node ℕ → Prog ℕ A) (g : Going) where
+    took-marked : (ws : List (Node ℕ)) (o : Option (Node ℕ)) → Marked (tookRound s entries k d w c g ws o)
     unfolding tookRound
     took-marked ws none = inl refl
-    took-marked ws (some e) = go (test s w e) refl
+    took-marked ws (some e) = go (test s entries w e) refl
       where
-        go : (passed : Bool) → test s w e ≡ passed → Marked (tookRound s k d w c g ws (some e))
+        go : (passed : Bool) → test s entries w e ≡ passed → Marked (tookRound s entries k d w c g ws (some e))
         go true q = rw (q, tookRound) (close-marked _ _)
         go false q = rw (q, tookRound) (inl refl)
 
-    want-marked : Marked (wantRound s k d w c g)
+    want-marked : Marked (wantRound s entries k d w c g)
     unfolding wantRound
     want-marked = go (readHalf leafFormat k (g .tree) (w .link .tag) (some (wishFor w)) (heldKeys g) (g .waiting)) refl
       where
         go : (r : Option (Hand (Node ℕ))) → readHalf leafFormat k (g .tree) (w .link .tag) (some (wishFor w)) (heldKeys g) (g .waiting) ≡ r
-            → Marked (wantRound s k d w c g)
+            → Marked (wantRound s entries k d w c g)
         go none e = rw (e, wantRound) (inl refl)
         go (some h) e = rw (e, wantRound) (took-marked (h .waiting) (h .taken))
 
-  fetch-marked : (s : Structure) (k d : ℕ) (p : Prog ℕ A) (g : Going) → Marked (fetchRound s k d p g)
+  fetch-marked : (s : Structure) (entries k d : ℕ) (p : Prog ℕ A) (g : Going) → Marked (fetchRound s entries k d p g)
   unfolding fetchRound
-  fetch-marked s k d (done a) g = idle-marked k d (done a) g
-  fetch-marked s k d (want w c) g = want-marked s k d w c g
+  fetch-marked s entries k d (done a) g = idle-marked k d (done a) g
+  fetch-marked s entries k d (want w c) g = want-marked s entries k d w c g
 
-  fetches-marked : (s : Structure) (k : ℕ) (draw : ℕ → ℕ) (n i : ℕ) (p : Prog ℕ A) (g : Going) → Marked (fetchRounds s k draw n i p g)
+  fetches-marked : (s : Structure) (entries k : ℕ) (draw : ℕ → ℕ) (n i : ℕ) (p : Prog ℕ A) (g : Going) → Marked (fetchRounds s entries k draw n i p g)
   unfolding fetchRounds
-  fetches-marked s k draw zero i p g = tt
-  fetches-marked s k draw (suc n) i p g =
-      go (fetchRound s k (draw i) p g) refl (fetch-marked s k (draw i) p g) (λ q h. fetches-marked s k draw n (suc i) q h)
+  fetches-marked s entries k draw zero i p g = tt
+  fetches-marked s entries k draw (suc n) i p g =
+      go (fetchRound s entries k (draw i) p g) refl (fetch-marked s entries k (draw i) p g) (λ q h. fetches-marked s entries k draw n (suc i) q h)
     where
-      go : (r : Round A) → fetchRound s k (draw i) p g ≡ r → Marked r
-          → ((q : Prog ℕ A) (h : Going) → Marked (fetchRounds s k draw n (suc i) q h))
-          → Marked (fetchRounds s k draw (suc n) i p g)
+      go : (r : Round A) → fetchRound s entries k (draw i) p g ≡ r → Marked r
+          → ((q : Prog ℕ A) (h : Going) → Marked (fetchRounds s entries k draw n (suc i) q h))
+          → Marked (fetchRounds s entries k draw (suc n) i p g)
       go (on h q) e marked later = rw e (later q h)
       go (shut m h) e marked later = rw e marked
 
@@ -104,16 +105,16 @@ unfolding afterPuts closing
 puts-end o (on g p) marked = answers (o .answer) refl refl
 puts-end o (shut m g) marked = closes marked refl
 
-fetches-end : (k F : ℕ) (draw : ℕ → ℕ) (st : Store) (r : Round (Outcome ℕ)) → Marked r → Ends (afterFetches k F draw st r)
+fetches-end : (s : Structure) (k F : ℕ) (draw : ℕ → ℕ) (st : Store) (r : Round (Outcome ℕ)) → Marked r → Ends (afterFetches s k F draw st r)
 unfolding afterFetches closing
-fetches-end k F draw st (shut m g) marked = closes marked refl
-fetches-end k F draw st (on g (want w c)) marked = closes (inl refl) refl
-fetches-end k F draw st (on g (done o)) marked =
-    puts-end o (putRounds k draw F (F + 1) o (stepped o g)) (puts-marked k draw F (F + 1) o (stepped o g))
+fetches-end s k F draw st (shut m g) marked = closes marked refl
+fetches-end s k F draw st (on g (want w c)) marked = closes (inl refl) refl
+fetches-end s k F draw st (on g (done o)) marked =
+    puts-end o (putRounds k draw F (putDraw s F 0) o (stepped o g)) (puts-marked k draw F (putDraw s F 0) o (stepped o g))
 
 pub call-ends : {s : Structure} (k F : ℕ) (op : Op s) (draw : ℕ → ℕ) (st : Store) → Ends (bucketCall k F op draw st)
 unfolding bucketCall
 call-ends {s} k F op draw st =
-    fetches-end k F draw st _
-    (fetches-marked s k draw F 0 (program 0 op (draw F) (capacity k) (st .entries) (st .root))
+    fetches-end s k F draw st _
+    (fetches-marked s (st .entries) k draw F 0 (program 0 op (λ i. draw (spareDraw F i)) (capacity k) (st .entries) (st .root))
     (record { tree = st .tree; waiting = st .waiting; held = []; leaves = [] }))

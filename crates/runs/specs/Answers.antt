@@ -9,21 +9,22 @@ use Rattle.basics.specs.Distinct.{Distinct}
 use Rattle.method.specs.Node.{Node, Link}
 use Rattle.method.specs.Answer.{Structure, Op, Answer}
 use Rattle.method.specs.Plain.{Contents, Said, plain, plainContents, plainAnswers}
+use Rattle.method.specs.Rounds.{spareDraw}
 use Rattle.method.specs.Map.{Outcome}
 use Rattle.method.specs.Call.{program, test, Memory, call, run}
 use Rattle.method.specs.Safe.{Safe, Within}
 use Rattle.runs.specs.SafeLaws.{safe-map}
 use Rattle.runs.specs.Fetches.{keys, Unordered}
-use Rattle.runs.specs.Calls.{memoryOf, Retagged, Keeps, Stepped, safe-call}
+use Rattle.runs.specs.Calls.{memoryOf, sparesOf, Retagged, Keeps, Stepped, safe-call}
 
 module _ {T : Type 0} where
   -- What a step must come to, where the plain machine said that: the memory holds what the plain machine holds, the answer
-  -- is its answer, and the tags are those of the nodes fetched and the tag for a new node.
-  pub record StepsTo {s : Structure} (Holds : Contents s → Memory T → Type 0) (said : Said s) (tag : T)
+  -- is its answer, and the tags are those of the nodes fetched and the spare draws.
+  pub record StepsTo {s : Structure} (Holds : Contents s → Memory T → Type 0) (said : Said s) (spares : List T)
       (o : Outcome T) (held ns : List (Node T)) : Type 0 where
     pub contents : Holds (said .contents) (memoryOf o ns)
     pub answers : o .answer ≡ said .answer
-    pub retagged : Retagged tag held o
+    pub retagged : Retagged spares held o
 
   -- What a structure supplies: a relation between what the plain machine holds and memories under which every program is
   -- safe, takes no more than `rounds` nodes, and steps as the plain machine does.
@@ -31,10 +32,11 @@ module _ {T : Type 0} where
     pub unordered : (t : Contents s) (entries : ℕ) (root : Link T) (xs ys : List (Node T)) → Perm xs ys
         → Holds t (record { entries = entries; root = root; nodes = xs }) → Holds t (record { entries = entries; root = root; nodes = ys })
     pub distinct-keys : (t : Contents s) (m : Memory T) → Holds t m → Distinct (keys (m .nodes))
-    pub within : (t : Contents s) (m : Memory T) → Holds t m → (op : Op s) (tag : T)
-        → Within (test s) rounds (program nil op tag limit (m .entries) (m .root))
-    pub safe : (t : Contents s) (m : Memory T) → Holds t m → (op : Op s) (tag : T)
-        → Safe (test s) (StepsTo Holds (plain limit op t) tag) (program nil op tag limit (m .entries) (m .root)) [] (m .nodes)
+    pub within : (t : Contents s) (m : Memory T) → Holds t m → (op : Op s) (spares : ℕ → T)
+        → Within (test s (m .entries)) rounds (program nil op spares limit (m .entries) (m .root))
+    pub safe : (t : Contents s) (m : Memory T) → Holds t m → (op : Op s) (spares : ℕ → T)
+        → Safe (test s (m .entries)) (StepsTo Holds (plain limit op t) (sparesOf s spares))
+        (program nil op spares limit (m .entries) (m .root)) [] (m .nodes)
 
   module _ {s : Structure} {nil : T} {rounds limit : ℕ} {Holds : Contents s → Memory T → Type 0} (represents : Represents s nil rounds limit Holds) where
     pub represents-keeps : Keeps s nil rounds limit (λ m. (t : Contents s) × Holds t m)
@@ -43,13 +45,13 @@ module _ {T : Type 0} where
           unordered = λ entries root xs ys p h. (h .0, represents .unordered (h .0) entries root xs ys p (h .1));
           distinct-keys = λ m h. represents .distinct-keys (h .0) m (h .1);
           within = λ m h. represents .within (h .0) m (h .1);
-          safe = λ m h op tag. safe-map
+          safe = λ m h op spares. safe-map
               (λ o held ns after. ((plain limit op (h .0) .contents, after .contents), after .retagged))
-              (represents .safe (h .0) m (h .1) op tag);
+              (represents .safe (h .0) m (h .1) op spares);
         }
 
-    represents-unordered : (said : Said s) (tag : T) → Unordered (StepsTo Holds said tag)
-    represents-unordered said tag o held xs ys p h =
+    represents-unordered : (said : Said s) (spares : List T) → Unordered (StepsTo Holds said spares)
+    represents-unordered said spares o held xs ys p h =
         record {
           contents =
               represents .unordered (said .contents) (o .entries) (o .root) (o .nodes ++ xs) (o .nodes ++ ys)
@@ -59,10 +61,12 @@ module _ {T : Type 0} where
         }
 
     pub represents-call : (t : Contents s) (op : Op s) (draw : ℕ → T) (m : Memory T) → Holds t m
-        → Stepped (StepsTo Holds (plain limit op t) (draw rounds)) rounds draw m (call nil rounds limit op draw m)
+        → Stepped s (StepsTo Holds (plain limit op t) (sparesOf s (λ i. draw (spareDraw rounds i)))) rounds draw m
+        (call nil rounds limit op draw m)
     represents-call t op draw m h =
-        safe-call nil rounds limit (represents-unordered (plain limit op t) (draw rounds)) op draw m (represents .distinct-keys t m h)
-        (represents .within t m h op (draw rounds)) (represents .safe t m h op (draw rounds))
+        let spares : ℕ → T = λ i. draw (spareDraw rounds i) in
+        safe-call nil rounds limit (represents-unordered (plain limit op t) (sparesOf s spares)) op draw m (represents .distinct-keys t m h)
+        (represents .within t m h op spares) (represents .safe t m h op spares)
 
     -- Every call is answered, as the plain machine answers, and the memory holds what it holds.
     pub run-answers : (draw : ℕ → ℕ → T) (c : ℕ) (ops : List (Op s)) (t : Contents s) (m : Memory T) → Holds t m

@@ -2,7 +2,7 @@
 use mathlib.Core.Path.{_≡_, refl, sym, _∙_, ap}
 use mathlib.Core.List.{List, [], _∷_, _++_, map-append, append-nil, append-assoc}
 use mathlib.Core.Option.{some}
-use Prim.Native.Nat.{ℕ, zero, suc, _+_, _-_, _*_, _≤_}
+use Prim.Native.Nat.{ℕ, zero, suc, _+_, _-_, _*_, _≤_, _<_}
 use native.Mathlib.Nat.{suc-add, le-refl}
 use native.Mathlib.Omega.{arith}
 use lib.ListN.{length, length-append}
@@ -11,7 +11,9 @@ use Rattle.basics.specs.PermLaws.{perm-refl, perm-sym, perm-of-eq, perm-append,
 use Rattle.basics.specs.Shuffle.{part, _&_, shuffle}
 use Rattle.basics.specs.Distinct.{Distinct}
 use Rattle.method.specs.Node.{Node, Link}
+use Rattle.method.specs.Answer as answer
 use Rattle.method.specs.Answer.{Structure, Op}
+use Rattle.method.specs.Rounds.{spare, spareDraw, putDraw}
 use Rattle.method.specs.Map.{Outcome}
 use Rattle.method.specs.Call.{program, test, Memory, fetches, drawsFrom, stepped, answered, Called, call, Ran, run}
 use Rattle.method.specs.Safe.{Safe, Within}
@@ -32,14 +34,25 @@ module _ {T : Type 0} where
   draws-length draw zero d = refl
   draws-length draw (suc n) d = ap suc (draws-length draw n (suc d))
 
-  -- The draws of one call.
-  abbrev pub ownDraws : ℕ → (ℕ → T) → List T
-  ownDraws rounds draw = drawsFrom draw (2 * rounds + 1) 0
+  pub draws-after : (draw : ℕ → T) (r n d : ℕ) → drawsFrom (λ i. draw (r + i)) n d ≡ drawsFrom draw n (r + d)
+  unfolding drawsFrom
+  draws-after draw r zero d = refl
+  draws-after draw r (suc n) d =
+      let o : r + suc d ≡ suc (r + d) = omega arith in
+      ap (λ (l : List T). draw (r + d) ∷ l) (rw o at (draws-after draw r n (suc d)))
 
-  -- The draws of n calls from call c.
-  unfoldable pub allDraws : ℕ → (ℕ → ℕ → T) → (c n : ℕ) → List T
-  allDraws rounds draw c zero = []
-  allDraws rounds draw c (suc n) = ownDraws rounds (draw c) ++ allDraws rounds draw (suc c) n
+  -- The spare draws of a call of a structure.
+  abbrev pub sparesOf : Structure → (spares : ℕ → T) → List T
+  sparesOf s spares = drawsFrom spares (spare s) 0
+
+  -- The draws of one call that has so many.
+  abbrev pub ownDraws : (count : ℕ) → (ℕ → T) → List T
+  ownDraws count draw = drawsFrom draw count 0
+
+  -- The draws of n calls from call c, where each has so many.
+  unfoldable pub allDraws : (count : ℕ) → (ℕ → ℕ → T) → (c n : ℕ) → List T
+  allDraws count draw c zero = []
+  allDraws count draw c (suc n) = ownDraws count (draw c) ++ allDraws count draw (suc c) n
 
   -- ---- how many places
 
@@ -47,9 +60,9 @@ module _ {T : Type 0} where
     pub call-length : (op : Op s) (draw : ℕ → T) (m : Memory T) → length (call nil rounds limit op draw m .revealed) ≡ 2 * rounds
     unfolding call
     call-length op draw m =
-        let p = program nil op (draw rounds) limit (m .entries) (m .root) in
-        length-append (fetches draw rounds 0 p (m .nodes) .revealed) (drawsFrom draw rounds (rounds + 1))
-        ∙ omega (arith, fetches-length draw rounds 0 p (m .nodes), draws-length draw rounds (rounds + 1))
+        let p = program nil op (λ i. draw (spareDraw rounds i)) limit (m .entries) (m .root) in
+        length-append (fetches draw rounds 0 p (m .nodes) .revealed) (drawsFrom draw rounds (putDraw s rounds 0))
+        ∙ omega (arith, fetches-length draw rounds 0 p (m .nodes), draws-length draw rounds (putDraw s rounds 0))
 
     pub run-length : (draw : ℕ → ℕ → T) (c : ℕ) (ops : List (Op s)) (m : Memory T)
         → length (run nil rounds limit draw c ops m .revealed) ≡ length ops * (2 * rounds)
@@ -59,6 +72,25 @@ module _ {T : Type 0} where
         let r = call nil rounds limit op (draw c) m in
         length-append (r .revealed) (run nil rounds limit draw (suc c) ops (r .memory) .revealed)
         ∙ omega (arith, call-length op (draw c) m, run-length draw (suc c) ops (r .memory))
+
+  -- ---- the spare draws of a program
+
+  -- A program of today's structures depends on the first spare draw alone.
+  pub program-same : {s : Structure} (nil : T) (op : Op s) (x y : ℕ → T) (limit entries : ℕ) (l : Link T)
+      → x 0 ≡ y 0 → program nil op x limit entries l ≡ program nil op y limit entries l
+  unfolding program
+  program-same nil (answer.get key) x y limit entries l e = refl
+  program-same nil (answer.put key value) x y limit entries l e = rw e
+  program-same nil (answer.remove key) x y limit entries l e = refl
+  program-same nil (answer.push value) x y limit entries l e = rw e
+  program-same nil answer.pop x y limit entries l e = refl
+
+  -- Any program depends on the spare draws of its structure alone.
+  pub program-agrees : {s : Structure} (nil : T) (op : Op s) (x y : ℕ → T) (limit entries : ℕ) (l : Link T)
+      → ((i : ℕ) → i < spare s → x i ≡ y i) → program nil op x limit entries l ≡ program nil op y limit entries l
+  unfolding spare
+  program-agrees {s = answer.map} nil op x y limit entries l e = program-same nil op x y limit entries l (e 0 (omega arith))
+  program-agrees {s = answer.stack} nil op x y limit entries l e = program-same nil op x y limit entries l (e 0 (omega arith))
 
   -- ---- a list of calls after another
 
@@ -88,25 +120,26 @@ module _ {T : Type 0} where
   abbrev pub memoryOf : Outcome T → List (Node T) → Memory T
   memoryOf o ns = record { entries = o .entries; root = o .root; nodes = o .nodes ++ ns }
 
-  -- The tags of the nodes that wait again are those of the nodes fetched and the tag for a new node, each at most once.
-  pub record Retagged (tag : T) (held : List (Node T)) (o : Outcome T) : Type 0 where
+  -- The tags of the nodes that wait again are those of the nodes fetched and the spare draws, each at most once.
+  pub record Retagged (spares : List T) (held : List (Node T)) (o : Outcome T) : Type 0 where
     pub dropped : List T
-    pub among : Perm (tag ∷ tags held) (tags (o .nodes) ++ dropped)
+    pub among : Perm (spares ++ tags held) (tags (o .nodes) ++ dropped)
 
   -- An invariant of memories under which every program is safe, takes no more than `rounds` nodes and keeps the invariant.
   pub record Keeps (s : Structure) (nil : T) (rounds limit : ℕ) (Inv : Memory T → Type 0) : Type 0 where
     pub unordered : (entries : ℕ) (root : Link T) (xs ys : List (Node T)) → Perm xs ys
         → Inv (record { entries = entries; root = root; nodes = xs }) → Inv (record { entries = entries; root = root; nodes = ys })
     pub distinct-keys : (m : Memory T) → Inv m → Distinct (keys (m .nodes))
-    pub within : (m : Memory T) → Inv m → (op : Op s) (tag : T) → Within (test s) rounds (program nil op tag limit (m .entries) (m .root))
-    pub safe : (m : Memory T) → Inv m → (op : Op s) (tag : T)
-        → Safe (test s) (λ o held ns. Inv (memoryOf o ns) × Retagged tag held o)
-        (program nil op tag limit (m .entries) (m .root)) [] (m .nodes)
+    pub within : (m : Memory T) → Inv m → (op : Op s) (spares : ℕ → T)
+        → Within (test s (m .entries)) rounds (program nil op spares limit (m .entries) (m .root))
+    pub safe : (m : Memory T) → Inv m → (op : Op s) (spares : ℕ → T)
+        → Safe (test s (m .entries)) (λ o held ns. Inv (memoryOf o ns) × Retagged (sparesOf s spares) held o)
+        (program nil op spares limit (m .entries) (m .root)) [] (m .nodes)
 
   -- ---- one call
 
   -- What a call does whose program is safe: `left` are the nodes not fetched.
-  pub record Stepped (Post : Outcome T → List (Node T) → List (Node T) → Type 0) (rounds : ℕ) (draw : ℕ → T)
+  pub record Stepped (s : Structure) (Post : Outcome T → List (Node T) → List (Node T) → Type 0) (rounds : ℕ) (draw : ℕ → T)
       (m : Memory T) (r : Called T) : Type 0 where
     pub outcome : Outcome T
     pub fetched : List (Node T)
@@ -116,20 +149,20 @@ module _ {T : Type 0} where
     pub answers : r .answer ≡ some (outcome .answer)
     pub links : List T
     pub few : length links ≤ rounds
-    pub shown : r .revealed ≡ links ++ drawsFrom draw (rounds - length links) (length links) ++ drawsFrom draw rounds (rounds + 1)
+    pub shown : r .revealed ≡ links ++ drawsFrom draw (rounds - length links) (length links) ++ drawsFrom draw rounds (putDraw s rounds 0)
     pub old-tags : Perm (tags (m .nodes)) (links ++ tags left)
     pub new-tags : Perm (tags fetched) (drawsFrom draw (length links) 0)
 
   pub safe-call : {s : Structure} (nil : T) (rounds limit : ℕ) {Post : Outcome T → List (Node T) → List (Node T) → Type 0} → Unordered Post
       → (op : Op s) (draw : ℕ → T) (m : Memory T) → Distinct (keys (m .nodes))
-      → Within (test s) rounds (program nil op (draw rounds) limit (m .entries) (m .root))
-      → Safe (test s) Post (program nil op (draw rounds) limit (m .entries) (m .root)) [] (m .nodes)
-      → Stepped Post rounds draw m (call nil rounds limit op draw m)
+      → Within (test s (m .entries)) rounds (program nil op (λ i. draw (spareDraw rounds i)) limit (m .entries) (m .root))
+      → Safe (test s (m .entries)) Post (program nil op (λ i. draw (spareDraw rounds i)) limit (m .entries) (m .root)) [] (m .nodes)
+      → Stepped s Post rounds draw m (call nil rounds limit op draw m)
   unfolding call stepped answered
   safe-call {s} nil rounds limit unordered op draw m distinct within safe =
-      let p = program nil op (draw rounds) limit (m .entries) (m .root) in
+      let p = program nil op (λ i. draw (spareDraw rounds i)) limit (m .entries) (m .root) in
       let f = fetches draw rounds 0 p (m .nodes) in
-      let e = safe-fetches draw (test-untagged s) unordered rounds 0 p (le-refl rounds) distinct within safe in
+      let e = safe-fetches draw (test-untagged s (m .entries)) unordered rounds 0 p (le-refl rounds) distinct within safe in
       let o : 0 + length (e .links) ≡ length (e .links) = omega arith in
       record {
         outcome = e .result;
@@ -152,45 +185,58 @@ module _ {T : Type 0} where
     pub dropped : List T
     pub balanced : Perm (shown ++ tags (m .nodes) ++ dropped) (before ++ draws)
 
-  draws-parts : (draw : ℕ → T) (rounds j : ℕ) → j ≤ rounds
-      → drawsFrom draw j 0 ++ (drawsFrom draw (rounds - j) j ++ (draw rounds ∷ drawsFrom draw rounds (rounds + 1))) ≡ ownDraws rounds draw
-  unfolding drawsFrom
-  draws-parts draw rounds j h =
-      let total : 2 * rounds + 1 ≡ j + (rounds - j + suc rounds) = omega arith in
+  -- The draws of a call are those of the fetch rounds, the spare ones and those of the put rounds.
+  draws-parts : (s : Structure) (draw : ℕ → T) (rounds j : ℕ) → j ≤ rounds
+      → drawsFrom draw j 0
+      ++ (drawsFrom draw (rounds - j) j
+      ++ (sparesOf s (λ i. draw (spareDraw rounds i)) ++ drawsFrom draw rounds (putDraw s rounds 0)))
+      ≡ ownDraws (2 * rounds + spare s) draw
+  draws-parts s draw rounds j h =
+      let total : 2 * rounds + spare s ≡ j + (rounds - j + (spare s + rounds)) = omega arith in
       let first : 0 + j ≡ j = omega arith in
       let fetching : j + (rounds - j) ≡ rounds = omega arith in
-      let next : rounds + 1 ≡ suc rounds = omega arith in
+      let none : rounds + 0 ≡ rounds = omega arith in
+      let puts : rounds + spare s + 0 ≡ rounds + spare s = omega arith in
       sym
       (ap (λ (n : ℕ). drawsFrom draw n 0) total
-      ∙ draws-split draw j (rounds - j + suc rounds) 0
-      ∙ rw (first, draws-split draw (rounds - j) (suc rounds) j, fetching, next))
+      ∙ draws-split draw j (rounds - j + (spare s + rounds)) 0
+      ∙ rw (
+        first,
+        draws-split draw (rounds - j) (spare s + rounds) j,
+        fetching,
+        draws-split draw (spare s) rounds rounds,
+        draws-after draw rounds (spare s) 0,
+        none,
+        puts,
+      ))
 
   -- links, unused draws of the fetch rounds, draws of the put rounds, new tags, tags left, dropped
-  account : (links unused puts new left dropped before used : List T) (x : T)
-      → Perm before (links ++ left) → Perm (x ∷ used) (new ++ dropped)
-      → Perm (links ++ unused ++ puts ++ (new ++ left) ++ dropped) (before ++ (used ++ (unused ++ (x ∷ puts))))
-  account links unused puts new left dropped before used x old among =
+  account : (links unused puts new left dropped before used spares : List T)
+      → Perm before (links ++ left) → Perm (spares ++ used) (new ++ dropped)
+      → Perm (links ++ unused ++ puts ++ (new ++ left) ++ dropped) (before ++ (used ++ (unused ++ (spares ++ puts))))
+  account links unused puts new left dropped before used spares old among =
       trans
       (shuffle (links ∷ unused ∷ puts ∷ new ∷ left ∷ dropped ∷ [])
       ((((part 0 & part 1) & part 2) & (part 3 & part 4)) & part 5)
       ((part 0 & part 4) & ((part 3 & part 5) & (part 1 & part 2))) refl)
       (trans
       (perm-append (perm-sym old) (perm-append-right (unused ++ puts) (perm-sym among)))
-      (shuffle (before ∷ (x ∷ []) ∷ used ∷ unused ∷ puts ∷ [])
+      (shuffle (before ∷ spares ∷ used ∷ unused ∷ puts ∷ [])
       (part 0 & ((part 1 & part 2) & (part 3 & part 4))) (part 0 & (part 2 & (part 3 & (part 1 & part 4)))) refl))
 
-  call-accounted : {rounds : ℕ} {draw : ℕ → T} {m : Memory T} {r : Called T} {Post : Outcome T → List (Node T) → List (Node T) → Type 0}
-      (t : Stepped Post rounds draw m r) → Retagged (draw rounds) (t .fetched) (t .outcome)
-      → Accounted (r .revealed) (tags (m .nodes)) (ownDraws rounds draw) (r .memory)
-  call-accounted {rounds} {draw} {m} {r} t a =
+  call-accounted : {s : Structure} {rounds : ℕ} {draw : ℕ → T} {m : Memory T} {r : Called T} {Post : Outcome T → List (Node T) → List (Node T) → Type 0}
+      (t : Stepped s Post rounds draw m r) → Retagged (sparesOf s (λ i. draw (spareDraw rounds i))) (t .fetched) (t .outcome)
+      → Accounted (r .revealed) (tags (m .nodes)) (ownDraws (2 * rounds + spare s) draw) (r .memory)
+  call-accounted {s} {rounds} {draw} {m} {r} t a =
       let j = length (t .links) in
+      let own = sparesOf s (λ i. draw (spareDraw rounds i)) in
       record {
         dropped = a .dropped;
         balanced =
-            rw (t .shown, t .remembers, map-append (λ (n : Node T). n .tag) (t .outcome .nodes) (t .left), ← (draws-parts draw rounds j (t .few)))
-            (account (t .links) (drawsFrom draw (rounds - j) j) (drawsFrom draw rounds (rounds + 1)) (tags (t .outcome .nodes))
-            (tags (t .left)) (a .dropped) (tags (m .nodes)) (drawsFrom draw j 0) (draw rounds) (t .old-tags)
-            (trans (cons (draw rounds) (perm-sym (t .new-tags))) (a .among)));
+            rw (t .shown, t .remembers, map-append (λ (n : Node T). n .tag) (t .outcome .nodes) (t .left), ← (draws-parts s draw rounds j (t .few)))
+            (account (t .links) (drawsFrom draw (rounds - j) j) (drawsFrom draw rounds (putDraw s rounds 0)) (tags (t .outcome .nodes))
+            (tags (t .left)) (a .dropped) (tags (m .nodes)) (drawsFrom draw j 0) own (t .old-tags)
+            (trans (perm-append-left own (perm-sym (t .new-tags))) (a .among)));
       }
 
   accounted-then : {shown later before draws more : List T} {m n : Memory T}
@@ -212,19 +258,21 @@ module _ {T : Type 0} where
   -- ---- lists of calls
 
   module _ {s : Structure} {nil : T} {rounds limit : ℕ} {Inv : Memory T → Type 0} (keeps : Keeps s nil rounds limit Inv) where
-    keeps-unordered : (tag : T) → Unordered (λ (o : Outcome T) held ns. Inv (memoryOf o ns) × Retagged tag held o)
-    keeps-unordered tag o held xs ys p h =
+    keeps-unordered : (spares : List T) → Unordered (λ (o : Outcome T) held ns. Inv (memoryOf o ns) × Retagged spares held o)
+    keeps-unordered spares o held xs ys p h =
         (keeps .unordered (o .entries) (o .root) (o .nodes ++ xs) (o .nodes ++ ys) (perm-append-left (o .nodes) p) (h .0), h .1)
 
     pub keeps-call : (op : Op s) (draw : ℕ → T) (m : Memory T) → Inv m
-        → Stepped (λ o held ns. Inv (memoryOf o ns) × Retagged (draw rounds) held o) rounds draw m (call nil rounds limit op draw m)
+        → Stepped s (λ o held ns. Inv (memoryOf o ns) × Retagged (sparesOf s (λ i. draw (spareDraw rounds i))) held o) rounds draw m
+        (call nil rounds limit op draw m)
     keeps-call op draw m inv =
-        safe-call nil rounds limit (keeps-unordered (draw rounds)) op draw m (keeps .distinct-keys m inv)
-        (keeps .within m inv op (draw rounds)) (keeps .safe m inv op (draw rounds))
+        let spares : ℕ → T = λ i. draw (spareDraw rounds i) in
+        safe-call nil rounds limit (keeps-unordered (sparesOf s spares)) op draw m (keeps .distinct-keys m inv)
+        (keeps .within m inv op spares) (keeps .safe m inv op spares)
 
     pub keeps-run : (draw : ℕ → ℕ → T) (c : ℕ) (ops : List (Op s)) (m : Memory T) → Inv m
         → Inv (run nil rounds limit draw c ops m .memory)
-        × Accounted (run nil rounds limit draw c ops m .revealed) (tags (m .nodes)) (allDraws rounds draw c (length ops))
+        × Accounted (run nil rounds limit draw c ops m .revealed) (tags (m .nodes)) (allDraws (2 * rounds + spare s) draw c (length ops))
         (run nil rounds limit draw c ops m .memory)
     unfolding run allDraws
     keeps-run draw c [] m inv = (inv, record { dropped = []; balanced = perm-refl (tags (m .nodes) ++ []) })

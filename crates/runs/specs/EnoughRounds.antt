@@ -178,29 +178,29 @@ module _ {T : Type 0} where
       within-pick (ltb entries limit) (within-map _ (within-more h (climb-within path _ []))) stops
   putStep-within nil key value tag entries limit (hit w n path) left h = within-pick (ltb entries limit) stops stops
 
-  pub map-within : (nil : T) (op : Op answer.map) (tag : T) (limit entries : ℕ) (l : Link T)
-      → Within mapTest (3 * l .height) (program nil op tag limit entries l)
+  pub map-within : (nil : T) (op : Op answer.map) (spares : ℕ → T) (limit entries : ℕ) (l : Link T)
+      → Within mapTest (3 * l .height) (program nil op spares limit entries l)
   unfolding program getProg putProg removeProg
-  map-within nil (answer.get key) tag limit entries l =
+  map-within nil (answer.get key) spares limit entries l =
       withinTo-then _ (walk-within key (l .height) (start l) [] (3 * l .height) (omega arith)) (λ s left h. stops)
-  map-within nil (answer.put key value) tag limit entries l =
+  map-within nil (answer.put key value) spares limit entries l =
       withinTo-then _ (walk-within key (l .height) (start l) [] (3 * l .height) (omega arith))
-      (putStep-within nil key value tag entries limit)
-  map-within nil (answer.remove key) tag limit entries l =
+      (putStep-within nil key value (spares 0) entries limit)
+  map-within nil (answer.remove key) spares limit entries l =
       withinTo-then _ (walk-within key (l .height) (start l) [] (3 * l .height) (omega arith))
       (removeStep-within entries)
 
-  pub stack-within : (nil : T) (op : Op answer.stack) (tag : T) (limit entries : ℕ) (l : Link T)
-      → Within stackTest 1 (program nil op tag limit entries l)
+  pub stack-within : (nil : T) (op : Op answer.stack) (spares : ℕ → T) (limit entries : ℕ) (l : Link T)
+      → Within stackTest 1 (program nil op spares limit entries l)
   unfolding program pushProg popProg
-  stack-within nil (answer.push value) tag limit entries l = within-pick (ltb entries limit) stops stops
-  stack-within nil answer.pop tag limit entries l =
+  stack-within nil (answer.push value) spares limit entries l = within-pick (ltb entries limit) stops stops
+  stack-within nil answer.pop spares limit entries l =
       within-pick (eqb (l .height) 0) stops (asks (λ m passed. stops))
 
   -- ---- any structure
 
-  pub program-within : {s : Structure} (nil : T) (op : Op s) (tag : T) (limit entries : ℕ) (l : Link T)
-      → Within (test s) (mostWanted s (l .height)) (program nil op tag limit entries l)
+  pub program-within : {s : Structure} (nil : T) (op : Op s) (spares : ℕ → T) (limit entries : ℕ) (l : Link T)
+      → Within (test s entries) (mostWanted s (l .height)) (program nil op spares limit entries l)
   unfolding test
-  program-within {s = answer.map} nil op tag limit entries l = map-within nil op tag limit entries l
-  program-within {s = answer.stack} nil op tag limit entries l = stack-within nil op tag limit entries l
+  program-within {s = answer.map} nil op spares limit entries l = map-within nil op spares limit entries l
+  program-within {s = answer.stack} nil op spares limit entries l = stack-within nil op spares limit entries l

@@ -83,10 +83,10 @@ module _ {T : Type 0} where
   abbrev pub Untagged : (Want T → Node T → Bool) → Type 0
   Untagged test = (w : Want T) (n : Node T) (d : T) → test w (retag d n) ≡ test w n
 
-  pub test-untagged : (s : Structure) → Untagged (test s)
+  pub test-untagged : (s : Structure) (entries : ℕ) → Untagged (test s entries)
   unfolding test mapTest stackTest
-  test-untagged map-structure w n d = refl
-  test-untagged stack w n d = refl
+  test-untagged map-structure entries w n d = refl
+  test-untagged stack entries w n d = refl
 
   module _ {A : Type 0} where
     -- The statement of the end does not depend on the order of the nodes not fetched.

@@ -10,6 +10,7 @@ use Rattle.method.specs.Node.{Node, Link, retag}
 use Rattle.method.specs.Prog.{Want, Prog, done, want, bind}
 use Rattle.method.specs.Answer.{Structure, Op}
 use Rattle.method.specs.Map.{Outcome}
+use Rattle.method.specs.Rounds.{spareDraw, putDraw}
 use Rattle.method.specs.Call.{Memory, Taken, keepFirst, takeKey, leftOver, Fetched, revealing, given, fetches, drawsFrom, stepped, answered, program, Called, call, Ran, andThen, run}
 
 module _ {T S : Type 0} (f : T → S) where
@@ -134,8 +135,8 @@ module _ {T S : Type 0} (f : T → S) where
 
   -- A structure's programs do the same at both types of tags.
   abbrev pub Natural : Structure → T → Type 0
-  Natural s nil = (op : Op s) (tag : T) (limit entries : ℕ) (l : Link T)
-      → Same SameOutcome (program nil op tag limit entries l) (program (f nil) op (f tag) limit entries (mapLink l))
+  Natural s nil = (op : Op s) (spares : ℕ → T) (limit entries : ℕ) (l : Link T)
+      → Same SameOutcome (program nil op spares limit entries l) (program (f nil) op (λ i. f (spares i)) limit entries (mapLink l))
 
   pub draws-natural : (draw : ℕ → T) (n d : ℕ) → drawsFrom (λ i. f (draw i)) n d ≡ map f (drawsFrom draw n d)
   unfolding drawsFrom
@@ -158,15 +159,16 @@ module _ {T S : Type 0} (f : T → S) where
         → call (f nil) rounds limit op (λ d. f (draw d)) (mapMemory m) ≡ mapCalled (call nil rounds limit op draw m)
     unfolding call
     call-natural op draw m =
-        let x = fetches draw rounds 0 (program nil op (draw rounds) limit (m .entries) (m .root)) (m .nodes) in
-        let e = fetches-natural draw rounds 0 (m .nodes) (natural op (draw rounds) limit (m .entries) (m .root)) in
+        let spares : ℕ → T = λ i. draw (spareDraw rounds i) in
+        let x = fetches draw rounds 0 (program nil op spares limit (m .entries) (m .root)) (m .nodes) in
+        let e = fetches-natural draw rounds 0 (m .nodes) (natural op spares limit (m .entries) (m .root)) in
         rw (
           e .same-nodes,
           e .same-revealed,
           stepped-natural m (x .nodes) (e .progs),
           answered-natural (e .progs),
-          draws-natural draw rounds (rounds + 1),
-          ← (map-append f (x .revealed) (drawsFrom draw rounds (rounds + 1))),
+          draws-natural draw rounds (putDraw s rounds 0),
+          ← (map-append f (x .revealed) (drawsFrom draw rounds (putDraw s rounds 0))),
         )
 
     -- The same tickets and draws, up to the function: the same answers, and tags up to the function.

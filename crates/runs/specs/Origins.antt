@@ -10,6 +10,7 @@ use Rattle.basics.specs.PermLaws.{perm-sym, perm-member}
 use Rattle.basics.specs.Distinct.{Distinct, All}
 use Rattle.basics.specs.DistinctLaws.{all-nil, all-append, all-getD, distinct-perm, distinct-left, distinct-append}
 use Rattle.method.specs.Answer.{Structure, Op}
+use Rattle.method.specs.Rounds.{spare}
 use Rattle.method.specs.Call.{Memory, capacity, emptyMemory, drawsFrom, Ran, run}
 use Rattle.method.specs.Origin.{Origin, none, drawn, origins, names}
 use Rattle.runs.specs.Fetches.{tags}
@@ -49,31 +50,31 @@ origin-draws-distinct c (suc n) d = (
   origin-draws-distinct c n (suc d),
 )
 
--- A draw of the tapes of n calls from call c.
-abbrev pub OnTape : (rounds c n : ℕ) → Origin → Type 0
-OnTape rounds c n o = (c ≤ callOf o) × (callOf o < c + n) × (drawOf o ≤ 2 * rounds)
+-- A draw of the tapes of n calls from call c, where each has so many draws.
+abbrev pub OnTape : (count c n : ℕ) → Origin → Type 0
+OnTape count c n o = (c ≤ callOf o) × (callOf o < c + n) × (drawOf o < count)
 
-own-draws : (rounds c : ℕ) → All (λ o. (callOf o ≡ c) × (drawOf o ≤ 2 * rounds)) (ownDraws rounds (drawn c))
-own-draws rounds c o m =
-    let r = draws-member (drawn c) (2 * rounds + 1) 0 m in
+own-draws : (count c : ℕ) → All (λ o. (callOf o ≡ c) × (drawOf o < count)) (ownDraws count (drawn c))
+own-draws count c o m =
+    let r = draws-member (drawn c) count 0 m in
     let d = ap drawOf (r .3) in
     (ap callOf (r .3), omega arith)
 
-all-draws : (rounds c n : ℕ) → All (OnTape rounds c n) (allDraws rounds drawn c n)
+all-draws : (count c n : ℕ) → All (OnTape count c n) (allDraws count drawn c n)
 unfolding allDraws
-all-draws rounds c zero = all-nil (OnTape rounds c 0)
-all-draws rounds c (suc n) =
-    all-append {P = OnTape rounds c (suc n)} (ownDraws rounds (drawn c))
-    (λ o m. let own = own-draws rounds c o m in (omega arith, omega arith, omega arith))
-    (λ o m. let later = all-draws rounds (suc c) n o m in (omega arith, omega arith, omega arith))
+all-draws count c zero = all-nil (OnTape count c 0)
+all-draws count c (suc n) =
+    all-append {P = OnTape count c (suc n)} (ownDraws count (drawn c))
+    (λ o m. let own = own-draws count c o m in (omega arith, omega arith, omega arith))
+    (λ o m. let later = all-draws count (suc c) n o m in (omega arith, omega arith, omega arith))
 
-all-draws-distinct : (rounds c n : ℕ) → Distinct (allDraws rounds drawn c n)
+all-draws-distinct : (count c n : ℕ) → Distinct (allDraws count drawn c n)
 unfolding allDraws
-all-draws-distinct rounds c zero = tt
-all-draws-distinct rounds c (suc n) =
-    distinct-append (ownDraws rounds (drawn c)) (allDraws rounds drawn (suc c) n)
-    (origin-draws-distinct c (2 * rounds + 1) 0) (all-draws-distinct rounds (suc c) n)
-    (λ o m k. let own = own-draws rounds c o m in let later = all-draws rounds (suc c) n o k in omega arith)
+all-draws-distinct count c zero = tt
+all-draws-distinct count c (suc n) =
+    distinct-append (ownDraws count (drawn c)) (allDraws count drawn (suc c) n)
+    (origin-draws-distinct c count 0) (all-draws-distinct count (suc c) n)
+    (λ o m k. let own = own-draws count c o m in let later = all-draws count (suc c) n o k in omega arith)
 
 -- ---- any structure whose programs are safe
 
@@ -81,11 +82,11 @@ module _ {s : Structure} {rounds limit : ℕ} {Inv : Memory Origin → Type 0} (
     (c : ℕ) (ops : List (Op s)) (m : Memory Origin) (inv : Inv m) where
   -- The calls on a memory, numbered from c: what they show is a tag that waited, or one of their own draws; and so are the
   -- tags that wait afterwards.
-  pub names-from : All (λ o. List·Memᴰ o (tags (m .nodes)) ⊎ OnTape rounds c (length ops) o)
+  pub names-from : All (λ o. List·Memᴰ o (tags (m .nodes)) ⊎ OnTape (2 * rounds + spare s) c (length ops) o)
       (run none rounds limit drawn c ops m .revealed ++ tags (run none rounds limit drawn c ops m .memory .nodes))
   names-from o i =
       let a = keeps-run keeps drawn c ops m inv .1 in
-      ⊎-map (λ (k : List·Memᴰ o (tags (m .nodes))). k) (all-draws rounds c (length ops) o)
+      ⊎-map (λ (k : List·Memᴰ o (tags (m .nodes))). k) (all-draws (2 * rounds + spare s) c (length ops) o)
       (List·Memᴰ·append-cases (tags (m .nodes)) (perm-member (a .balanced) (Memᴰ·append-left (a .dropped) i)))
 
   -- Where the tags that wait are distinct and of earlier calls, no name is shown twice, and none that was shown waits.
@@ -97,9 +98,9 @@ module _ {s : Structure} {rounds limit : ℕ} {Inv : Memory Origin → Type 0} (
       (run none rounds limit drawn c ops m .revealed ++ tags (run none rounds limit drawn c ops m .memory .nodes))
       (a .dropped)
       (distinct-perm (perm-sym (a .balanced))
-      (distinct-append (tags (m .nodes)) (allDraws rounds drawn c (length ops)) distinct
-      (all-draws-distinct rounds c (length ops))
-      (λ o i k. let before = earlier o i in let own = all-draws rounds c (length ops) o k in omega arith)))
+      (distinct-append (tags (m .nodes)) (allDraws (2 * rounds + spare s) drawn c (length ops)) distinct
+      (all-draws-distinct (2 * rounds + spare s) c (length ops))
+      (λ o i k. let before = earlier o i in let own = all-draws (2 * rounds + spare s) c (length ops) o k in omega arith)))
 
 -- ---- the origin rule, from the empty structure
 
@@ -125,15 +126,15 @@ module _ {s : Structure} {rounds : ℕ} (size : ℕ) {Inv : Memory Origin → Ty
       (names-distinct keeps 1 ops (emptyMemory none) inv tt (all-nil (λ o. callOf o < 1)))
 
   -- Each name is a draw of a call of the list.
-  pub names-on-tapes : (ops : List (Op s)) → All (OnTape rounds 1 (length ops)) (names rounds size ops)
+  pub names-on-tapes : (ops : List (Op s)) → All (OnTape (2 * rounds + spare s) 1 (length ops)) (names rounds size ops)
   unfolding origins emptyMemory
   names-on-tapes ops o i =
-      ⊎-elim {A = List·Memᴰ o []} {B = OnTape rounds 1 (length ops) o} (λ k. absurd (List·Memᴰ·not-nil k)) (λ k. k)
+      ⊎-elim {A = List·Memᴰ o []} {B = OnTape (2 * rounds + spare s) 1 (length ops) o} (λ k. absurd (List·Memᴰ·not-nil k)) (λ k. k)
       (names-from keeps 1 ops (emptyMemory none) inv o (Memᴰ·append-left _ i))
 
   -- A name at a place of the call after the first k is a draw of that call or of an earlier one.
   pub name-at : (ops : List (Op s)) (k j : ℕ) → k < length ops → j < 2 * rounds
-      → OnTape rounds 1 (suc k) (getD (names rounds size ops) (k * (2 * rounds) + j) none)
+      → OnTape (2 * rounds + spare s) 1 (suc k) (getD (names rounds size ops) (k * (2 * rounds) + j) none)
   name-at ops k j before place =
       let first = take (suc k) ops in
       let split = names-prefix rounds size first (drop (suc k) ops) in

@@ -18,12 +18,13 @@ use Rattle.method.specs.Answer.{stack, Op, push, pop, pushed, popped, empty, fu
 use Rattle.method.specs.Plain.{plain, popped-from}
 use Rattle.method.specs.Map.{Outcome, start}
 use Rattle.method.specs.Stack.{pushProg, popProg, stackTest}
-use Rattle.method.specs.Call.{program, test, Memory, emptyMemory}
+use Rattle.method.specs.Rounds.{spare}
+use Rattle.method.specs.Call.{program, test, Memory, emptyMemory, drawsFrom}
 use Rattle.method.specs.Safe.{Safe, ends, meets}
 use Rattle.runs.specs.SafeLaws.{safe-pick, within-more}
 use Rattle.runs.specs.Fetches.{keys}
 use Rattle.runs.specs.EnoughRounds.{program-within}
-use Rattle.runs.specs.Calls.{memoryOf}
+use Rattle.runs.specs.Calls.{memoryOf, sparesOf}
 use Rattle.runs.specs.Answers.{StepsTo, Represents}
 
 -- n, n - 1, .., 1.
@@ -122,7 +123,7 @@ module _ {T : Type 0} (nil : T) where
 
     -- A push onto a stack with room, and onto a full one.
     push-room : (value : ℕ) (tag : T) → ltb (length vs) limit ≡ true
-        → StepsTo (HoldsStack limit) (plain limit (push value) vs) tag (pushOutcome m value tag) [] (m .nodes)
+        → StepsTo (HoldsStack limit) (plain limit (push value) vs) (tag ∷ []) (pushOutcome m value tag) [] (m .nodes)
     unfolding plain
     push-room value tag room =
         record {
@@ -132,7 +133,7 @@ module _ {T : Type 0} (nil : T) where
         }
 
     push-full : (value : ℕ) (tag : T) → ltb (length vs) limit ≡ false
-        → StepsTo (HoldsStack limit) (plain limit (push value) vs) tag (fullOutcome m) [] (m .nodes)
+        → StepsTo (HoldsStack limit) (plain limit (push value) vs) (tag ∷ []) (fullOutcome m) [] (m .nodes)
     unfolding plain
     push-full value tag room =
         record {
@@ -142,7 +143,7 @@ module _ {T : Type 0} (nil : T) where
         }
 
     push-safe : (value : ℕ) (tag : T)
-        → Safe stackTest (StepsTo (HoldsStack limit) (plain limit (push value) vs) tag) (pushProg nil value tag (m .entries) limit (m .root)) [] (m .nodes)
+        → Safe stackTest (StepsTo (HoldsStack limit) (plain limit (push value) vs) (tag ∷ [])) (pushProg nil value tag (m .entries) limit (m .root)) [] (m .nodes)
     unfolding pushProg
     push-safe value tag =
         let counted = ap (λ (n : ℕ). ltb n limit) (sym (h .counted)) in
@@ -154,7 +155,7 @@ module _ {T : Type 0} (nil : T) where
 
   module _ (limit : ℕ) where
     pop-empty : (tag : T) (m : Memory T) → m .entries ≡ 0 → Perm (m .nodes) []
-        → StepsTo (HoldsStack limit) (plain limit pop []) tag
+        → StepsTo (HoldsStack limit) (plain limit pop []) (tag ∷ [])
         (record { nodes = []; root = absent nil; entries = m .entries; answer = empty }) [] (m .nodes)
     unfolding plain popped-from chain chainLink
     pop-empty tag m counted there =
@@ -167,7 +168,7 @@ module _ {T : Type 0} (nil : T) where
 
     pop-top : (tag d : T) (c : Cell T) (cells : List (Cell T)) (entries : ℕ) → entries ≡ suc (length cells)
         → suc (length cells) ≤ limit
-        → StepsTo (HoldsStack limit) (plain limit pop (c .value ∷ map (λ (b : Cell T). b .value) cells)) tag
+        → StepsTo (HoldsStack limit) (plain limit pop (c .value ∷ map (λ (b : Cell T). b .value) cells)) (tag ∷ [])
         (record { nodes = []; root = chainLink cells; entries = pred entries; answer = popped (c .value) })
         (retag d (chainNode c cells) ∷ []) (chain cells)
     unfolding plain popped-from
@@ -192,7 +193,7 @@ module _ {T : Type 0} (nil : T) where
 
     pop-safe : (tag : T) (cells : List (Cell T)) (m : Memory T)
         → m .entries ≡ length cells → m .root ≡ chainLink cells → Perm (m .nodes) (chain cells) → length cells ≤ limit
-        → Safe stackTest (StepsTo (HoldsStack limit) (plain limit pop (map (λ (c : Cell T). c .value) cells)) tag) (popProg (m .entries) (m .root)) [] (m .nodes)
+        → Safe stackTest (StepsTo (HoldsStack limit) (plain limit pop (map (λ (c : Cell T). c .value) cells)) (tag ∷ [])) (popProg (m .entries) (m .root)) [] (m .nodes)
     unfolding popProg chain chainLink
     pop-safe tag [] m counted rooted there fits = rw rooted (ends (pop-empty tag m counted there))
     pop-safe tag (c ∷ cells) m counted rooted there fits =
@@ -203,7 +204,7 @@ module _ {T : Type 0} (nil : T) where
   -- ---- what the stack supplies
 
   pub stack-represents : (rounds limit : ℕ) → 1 ≤ rounds → Represents stack nil rounds limit (HoldsStack limit)
-  unfolding program test
+  unfolding program test spare drawsFrom
   stack-represents rounds limit enough =
       record {
         unordered = λ vs entries root xs ys p h. record {
@@ -215,18 +216,19 @@ module _ {T : Type 0} (nil : T) where
           fits = h .fits;
         };
         distinct-keys = λ vs m h. distinct-perm (perm-map (λ (n : Node T). n .key) (perm-sym (h .there))) (chain-distinct (h .cells));
-        within = λ vs m h op tag. within-more enough (program-within nil op tag limit (m .entries) (m .root));
+        within = λ vs m h op spares. within-more enough (program-within nil op spares limit (m .entries) (m .root));
         safe = λ vs m h. safe-step vs m h;
       }
     where
-      safe-step : (vs : List ℕ) (m : Memory T) → HoldsStack limit vs m → (op : Op stack) (tag : T)
-          → Safe (test stack) (StepsTo (HoldsStack limit) (plain limit op vs) tag) (program nil op tag limit (m .entries) (m .root)) [] (m .nodes)
-      safe-step vs m h (push value) tag = push-safe limit vs m h value tag
-      safe-step vs m h pop tag =
+      safe-step : (vs : List ℕ) (m : Memory T) → HoldsStack limit vs m → (op : Op stack) (spares : ℕ → T)
+          → Safe (test stack (m .entries)) (StepsTo (HoldsStack limit) (plain limit op vs) (sparesOf stack spares))
+          (program nil op spares limit (m .entries) (m .root)) [] (m .nodes)
+      safe-step vs m h (push value) spares = push-safe limit vs m h value (spares 0)
+      safe-step vs m h pop spares =
           let counted = cells-counted limit vs m h in
           let total = h .counted in
           let fits = h .fits in
-          rw (← (h .values)) (pop-safe limit tag (h .cells) m counted (h .rooted) (h .there) (omega arith))
+          rw (← (h .values)) (pop-safe limit (spares 0) (h .cells) m counted (h .rooted) (h .there) (omega arith))
 
   pub empty-stack : (limit : ℕ) → HoldsStack limit [] (emptyMemory nil)
   unfolding emptyMemory chain chainLink

@@ -17,7 +17,7 @@ use Rattle.method.specs.Answer.{Structure, Op, Answer}
 use Rattle.method.specs.Answer as answer
 use Rattle.method.specs.Plain.{Contents}
 use Rattle.method.specs.Map.{Outcome}
-use Rattle.method.specs.Rounds.{rounds}
+use Rattle.method.specs.Rounds.{rounds, spareDraw}
 use Rattle.method.specs.Call.{capacity, program, Memory, emptyMemory, Fetched, fetches, stepped, answered, Called, call}
 use Rattle.runs.specs.SafeLaws.{safe-map}
 use Rattle.runs.specs.Fetches.{keys}
@@ -61,26 +61,29 @@ module _ {s : Structure} (k : ℕ) (positive : 1 ≤ k) (small : k ≤ 16) (t : 
   abbrev F : ℕ
   F = rounds s k
 
+  abbrev spares : ℕ → ℕ
+  spares i = draw (spareDraw F i)
+
   abbrev called : Called ℕ
   called = call 0 F (capacity k) op draw m
 
   abbrev fetched : Fetched ℕ (Outcome ℕ)
-  fetched = fetches draw F 0 (program 0 op (draw F) (capacity k) (m .entries) (m .root)) (m .nodes)
+  fetched = fetches draw F 0 (program 0 op spares (capacity k) (m .entries) (m .root)) (m .nodes)
 
   abbrev started : Going
   started = record { tree = st .tree; waiting = st .waiting; held = []; leaves = [] }
 
   abbrev fetchEnd : Round (Outcome ℕ)
-  fetchEnd = fetchRounds s k draw F 0 (program 0 op (draw F) (capacity k) (st .entries) (st .root)) started
+  fetchEnd = fetchRounds s (st .entries) k draw F 0 (program 0 op spares (capacity k) (st .entries) (st .root)) started
 
   -- The fetch rounds are the method's fetches.
   fetch-phase : WentAs k (memoryEntries m) started fetched fetchEnd
   fetch-phase =
       rw (sim .entries, sim .root)
-      (fetches-went s k draw leaves {Post = λ o held ns. Unit {0}} (λ o held xs ys p h. h) F 0
-      (program 0 op (draw F) (capacity k) (m .entries) (m .root)) started (omega arith)
+      (fetches-went s (m .entries) k draw leaves {Post = λ o held ns. Unit {0}} (λ o held xs ys p h. h) F 0
+      (program 0 op spares (capacity k) (m .entries) (m .root)) started (omega arith)
       (record { there = sim .there; kept = sim .kept; ascends = sim .ascends; whole = perm-refl (memoryEntries m) })
-      (safe-map (λ o held ns post. tt) (represents 0 s k .safe t m held op (draw F))))
+      (safe-map (λ o held ns post. tt) (represents 0 s k .safe t m held op spares)))
 
   -- The program is done.
   outcome : (o : Outcome ℕ) × (fetched .prog ≡ done o)
@@ -96,7 +99,7 @@ module _ {s : Structure} (k : ℕ) (positive : 1 ≤ k) (small : k ≤ 16) (t : 
       let e = outcome .1 in
       let remembers : called .memory ≡ memoryOf o (fetched .nodes) = ap (stepped m (fetched .nodes)) e in
       let nodes : called .memory .nodes ≡ o .nodes ++ fetched .nodes = ap (λ (x : Memory ℕ). x .nodes) remembers in
-      fetches-match k F (rounds-some s k positive) draw leaves m called o (fetched .nodes) remembers (ap answered e)
+      fetches-match s k F (rounds-some s k positive) draw leaves m called o (fetched .nodes) remembers (ap answered e)
       (fetched .revealed) refl
       (subst (λ (ns : List (Node ℕ)). Distinct (keys ns)) nodes
       (represents 0 s k .distinct-keys _ (called .memory) (call-held k small t m held op draw)))

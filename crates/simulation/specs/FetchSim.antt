@@ -45,38 +45,38 @@ module _ {A : Type 0} {k : ℕ} {all : List Pair} {q r : Prog ℕ A} {ns ms : Li
 abbrev pub WentAs : {A : Type 0} → (k : ℕ) → List Pair → Going → Fetched ℕ A → Round A → Type 0
 WentAs k all g f r = Went k all (f .prog) (f .nodes) (g .leaves ++ f .revealed) r
 
-module _ {A : Type 0} (s : Structure) (k : ℕ) (draw : ℕ → ℕ) (n i : ℕ) (p : Prog ℕ A) (g : Going) where
-  fetches-shut : (mark : ℕ) (h : Going) → fetchRound s k (draw i) p g ≡ shut mark h → fetchRounds s k draw (suc n) i p g ≡ shut mark h
+module _ {A : Type 0} (s : Structure) (entries k : ℕ) (draw : ℕ → ℕ) (n i : ℕ) (p : Prog ℕ A) (g : Going) where
+  fetches-shut : (mark : ℕ) (h : Going) → fetchRound s entries k (draw i) p g ≡ shut mark h → fetchRounds s entries k draw (suc n) i p g ≡ shut mark h
   unfolding fetchRounds
   fetches-shut mark h e = rw e
 
-  fetches-on : (q : Prog ℕ A) (h : Going) → fetchRound s k (draw i) p g ≡ on h q
-      → fetchRounds s k draw (suc n) i p g ≡ fetchRounds s k draw n (suc i) q h
+  fetches-on : (q : Prog ℕ A) (h : Going) → fetchRound s entries k (draw i) p g ≡ on h q
+      → fetchRounds s entries k draw (suc n) i p g ≡ fetchRounds s entries k draw n (suc i) q h
   unfolding fetchRounds
   fetches-on q h e = rw e
 
-module _ {A : Type 0} (s : Structure) (k : ℕ) (draw : ℕ → ℕ) (leaves : (d : ℕ) → draw d < 2 ^ k)
+module _ {A : Type 0} (s : Structure) (entries k : ℕ) (draw : ℕ → ℕ) (leaves : (d : ℕ) → draw d < 2 ^ k)
     {Post : A → List (Node ℕ) → List (Node ℕ) → Type 0} (unordered : Unordered Post) {all : List Pair} where
   -- A safe program from a store that stands for the nodes: n rounds are n of the method's fetches.
   pub fetches-went : (n i : ℕ) (p : Prog ℕ A) (g : Going) {held ns : List (Node ℕ)} → Few g → Stands k all g ns
-      → Safe (test s) Post p held ns → WentAs k all g (fetches draw n i p ns) (fetchRounds s k draw n i p g)
+      → Safe (test s entries) Post p held ns → WentAs k all g (fetches draw n i p ns) (fetchRounds s entries k draw n i p g)
   unfolding fetches fetchRounds fetchRound
   fetches-went zero i p g few st safe = went g st few (sym (append-nil (g .leaves)))
   fetches-went (suc n) i (done a) g {held} {ns} few st safe =
       then-went (draw i) (g .leaves) (fetches draw n (suc i) (done a) ns .revealed)
-      (fetchRound s k (draw i) (done a) g) (fetchRounds s k draw (suc n) i (done a) g) (fetchRounds s k draw n (suc i) (done a))
-      (fetches-shut s k draw n i (done a) g) (fetches-on s k draw n i (done a) g (done a))
+      (fetchRound s entries k (draw i) (done a) g) (fetchRounds s entries k draw (suc n) i (done a) g) (fetchRounds s entries k draw n (suc i) (done a))
+      (fetches-shut s entries k draw n i (done a) g) (fetches-on s entries k draw n i (done a) g (done a))
       (idle-went st (draw i) (leaves i) (done a))
       (λ h st few. fetches-went n (suc i) (done a) h few st safe)
   fetches-went (suc n) i (want w c) g {held} {ns} few st safe =
       let m = safe-round unordered (stands-distinct st) safe in
       let q = c (retag (draw i) (m .node)) in
-      subst (λ (f : Fetched ℕ A). WentAs k all g f (fetchRounds s k draw (suc n) i (want w c) g))
+      subst (λ (f : Fetched ℕ A). WentAs k all g f (fetchRounds s entries k draw (suc n) i (want w c) g))
       (sym (fetches-found draw n i w c ns (m .taken)))
       (then-went (w .link .tag) (g .leaves) (fetches draw n (suc i) q (m .others) .revealed)
-      (fetchRound s k (draw i) (want w c) g) (fetchRounds s k draw (suc n) i (want w c) g) (fetchRounds s k draw n (suc i) q)
-      (fetches-shut s k draw n i (want w c) g) (fetches-on s k draw n i (want w c) g q)
-      (want-went st s (draw i) w c m)
+      (fetchRound s entries k (draw i) (want w c) g) (fetchRounds s entries k draw (suc n) i (want w c) g) (fetchRounds s entries k draw n (suc i) q)
+      (fetches-shut s entries k draw n i (want w c) g) (fetches-on s entries k draw n i (want w c) g q)
+      (want-went st s entries (draw i) w c m)
       (λ h st few. fetches-went n (suc i) q h few st (m .next (draw i))))
 
 -- ---- the put rounds

@@ -11,10 +11,10 @@ use Rattle.basics.specs.DistinctLaws.{all-nil, all-cons, all-append, all-left, 
 use Rattle.method.specs.Node.{Node}
 use Rattle.method.specs.Answer.{Structure, Op}
 use Rattle.method.specs.Plain.{Contents, plain}
-use Rattle.method.specs.Rounds.{rounds}
+use Rattle.method.specs.Rounds.{rounds, spare, spareDraw}
 use Rattle.method.specs.Call.{capacity, drawsFrom, Memory, Called, call}
 use Rattle.runs.specs.Fetches.{tags}
-use Rattle.runs.specs.Calls.{Stepped}
+use Rattle.runs.specs.Calls.{sparesOf, Stepped}
 use Rattle.runs.specs.Answers.{StepsTo, represents-call}
 use Rattle.theorems.specs.Represented.{Held, represents}
 use Rattle.leaf_laws.specs.Proper.{ProperLeaf, Fits}
@@ -56,7 +56,10 @@ module _ {s : Structure} (k : ℕ) (small : k ≤ 16) (t : Contents s) (m : Memo
   abbrev said : Contents s
   said = plain (capacity k) op t .contents
 
-  steps : Stepped (StepsTo (Held 0 s (capacity k)) (plain (capacity k) op t) (draw (rounds s k))) (rounds s k) draw m called
+  abbrev spares : ℕ → ℕ
+  spares i = draw (spareDraw (rounds s k) i)
+
+  steps : Stepped s (StepsTo (Held 0 s (capacity k)) (plain (capacity k) op t) (sparesOf s spares)) (rounds s k) draw m called
   steps = represents-call (represents 0 s k) t op draw m held
 
   pub call-held : Held 0 s (capacity k) said (called .memory)
@@ -72,7 +75,8 @@ module _ {s : Structure} (k : ℕ) (small : k ≤ 16) (t : Contents s) (m : Memo
         all-perm {P = Leaf k} (perm-sym (c .new-tags)) (draws-leaves k draw leaves (length (c .links)) 0) in
         let again : All (Leaf k) (tags (c .outcome .nodes)) =
         all-left {P = Leaf k} (c .holds .retagged .dropped)
-        (all-perm {P = Leaf k} (c .holds .retagged .among) (all-cons {P = Leaf k} (leaves (rounds s k)) fetched)) in
+        (all-perm {P = Leaf k} (c .holds .retagged .among)
+        (all-append {P = Leaf k} (sparesOf s spares) (draws-leaves k spares (λ i. leaves (spareDraw (rounds s k) i)) (spare s) 0) fetched)) in
         rw (c .remembers, map-append (λ (n : Node ℕ). n .tag) (c .outcome .nodes) (c .left))
         (all-append {P = Leaf k} (tags (c .outcome .nodes)) again left)
 

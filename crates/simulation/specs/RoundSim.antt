@@ -95,7 +95,7 @@ module _ {k : ℕ} {all : List Pair} {g : Going} {ns : List (Node ℕ)} (st : St
         (close-went p (round-stands leaf is-leaf none _ read ns (perm-refl ns) (g .held) (perm-refl (heldKeys g)) (st .whole)))
 
     -- ---- a round that wants a node
-    module _ (s : Structure) (d : ℕ) (w : Want ℕ) (c : Node ℕ → Prog ℕ A) where
+    module _ (s : Structure) (entries d : ℕ) (w : Want ℕ) (c : Node ℕ → Prog ℕ A) where
       abbrev taking : Node ℕ → List Held
       taking e = g .held ++ (record { from = w .from; node = retag d e } ∷ [])
 
@@ -116,13 +116,13 @@ module _ {k : ℕ} {all : List Pair} {g : Going} {ns : List (Node ℕ)} (st : St
 
       want-takes : (h : Hand (Node ℕ)) (e : Node ℕ)
           → readHalf leafFormat k (g .tree) (w .link .tag) (some (wishFor w)) (heldKeys g) (g .waiting) ≡ some h
-          → h .taken ≡ some e → test s w e ≡ true
-          → wantRound s k d w c g ≡ atClose (written k (w .link .tag) (h .waiting) (taking e) g) (c (retag d e))
+          → h .taken ≡ some e → test s entries w e ≡ true
+          → wantRound s entries k d w c g ≡ atClose (written k (w .link .tag) (h .waiting) (taking e) g) (c (retag d e))
       unfolding wantRound tookRound
       want-takes h e read taken passed = rw (read, wantRound, taken, passed)
 
-      pub want-went : {Post : A → List (Node ℕ) → List (Node ℕ) → Type 0} {held : List (Node ℕ)} (m : Met (test s) Post w c held ns)
-          → Went k all (c (retag d (m .node))) (m .others) (g .leaves ++ (w .link .tag ∷ [])) (wantRound s k d w c g)
+      pub want-went : {Post : A → List (Node ℕ) → List (Node ℕ) → Type 0} {held : List (Node ℕ)} (m : Met (test s entries) Post w c held ns)
+          → Went k all (c (retag d (m .node))) (m .others) (g .leaves ++ (w .link .tag ∷ [])) (wantRound s entries k d w c g)
       want-went m =
           let e = m .node in
           let kept = st .kept in

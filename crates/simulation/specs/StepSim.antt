@@ -13,7 +13,9 @@ use Rattle.basics.specs.DistinctLaws.{all-left, distinct-perm, distinct-right}
 use Rattle.basics.specs.Shuffle.{part, _&_, shuffle}
 use Rattle.method.specs.Node.{Link, Node}
 use Rattle.method.specs.Prog.{done}
+use Rattle.method.specs.Answer.{Structure}
 use Rattle.method.specs.Plain.{Pair}
+use Rattle.method.specs.Rounds.{putDraw}
 use Rattle.method.specs.Map.{Outcome}
 use Rattle.method.specs.Call.{Memory, drawsFrom, stepped, Called}
 use Rattle.runs.specs.Fetches.{keys}
@@ -120,7 +122,7 @@ stands-simulates {k} {all} {g} m st few =
       ascends = st .ascends;
     }
 
-module _ (k F : ℕ) (some-rounds : 1 ≤ F) (draw : ℕ → ℕ) (leaves : (d : ℕ) → draw d < 2 ^ k) (m : Memory ℕ) (r : Called ℕ)
+module _ (s : Structure) (k F : ℕ) (some-rounds : 1 ≤ F) (draw : ℕ → ℕ) (leaves : (d : ℕ) → draw d < 2 ^ k) (m : Memory ℕ) (r : Called ℕ)
     (o : Outcome ℕ) (ns : List (Node ℕ)) (remembers : r .memory ≡ memoryOf o ns) (answers : r .answer ≡ some (o .answer)) where
   -- After the put rounds.
   puts-match : (x : Round (Outcome ℕ)) → Went k (map pairOf (o .nodes ++ ns)) (done o) (o .nodes ++ ns) (r .revealed) x
@@ -143,25 +145,25 @@ module _ (k F : ℕ) (some-rounds : 1 ≤ F) (draw : ℕ → ℕ) (leaves : (d :
         nothing-lost = inr (rw remembers (closing-entries st 9 (o .entries) (o .root)));
       })
 
-  module _ (fetched : List ℕ) (revealed : r .revealed ≡ fetched ++ drawsFrom draw F (F + 1))
+  module _ (fetched : List ℕ) (revealed : r .revealed ≡ fetched ++ drawsFrom draw F (putDraw s F 0))
       (distinct : Distinct (keys (o .nodes ++ ns))) (proper : All (ProperLeaf k) (o .nodes ++ ns)) (st : Store) where
     -- After the fetch rounds.
     pub fetches-match : (x : Round (Outcome ℕ)) → Went k (memoryEntries m) (done o) ns fetched x
-        → Overflowed k m (afterFetches k F draw st x) r ⊎ Matches k (afterFetches k F draw st x) r
+        → Overflowed k m (afterFetches s k F draw st x) r ⊎ Matches k (afterFetches s k F draw st x) r
     unfolding afterFetches closing
     fetches-match x (went g stands few shown) =
-        puts-match (putRounds k draw F (F + 1) o (buckets.stepped o g))
+        puts-match (putRounds k draw F (putDraw s F 0) o (buckets.stepped o g))
         (rw (revealed, ← shown)
-        (puts-went k draw leaves o F (F + 1) (buckets.stepped o g) (λ e. let z : ⊥ = omega arith in absurd z)
+        (puts-went k draw leaves o F (putDraw s F 0) (buckets.stepped o g) (λ e. let z : ⊥ = omega arith in absurd z)
         (step-stands k o stands distinct proper)))
     fetches-match x (overflowed g left rest stands many shown) =
         inl (record {
           mark = refl;
           answer = refl;
           many = closing-many g many 9 (st .entries) (st .root);
-          rest = rest ++ drawsFrom draw F (F + 1);
+          rest = rest ++ drawsFrom draw F (putDraw s F 0);
           leaves =
-              revealed ∙ ap (λ (l : List ℕ). l ++ drawsFrom draw F (F + 1)) shown
-              ∙ append-assoc (g .leaves) rest (drawsFrom draw F (F + 1));
+              revealed ∙ ap (λ (l : List ℕ). l ++ drawsFrom draw F (putDraw s F 0)) shown
+              ∙ append-assoc (g .leaves) rest (drawsFrom draw F (putDraw s F 0));
           nothing-lost = inl (closing-entries stands 9 (st .entries) (st .root));
         })

@@ -1,4 +1,4 @@
--- The rounds of a call: bounded, and what they are for each structure.
+-- The rounds and the draws of a call: bounded, and what they are for each structure.
 use mathlib.Core.Path.{_≡_, refl}
 use Prim.Native.Nat.{ℕ, _*_, _≤_}
 use native.Mathlib.Omega.{arith}
@@ -7,9 +7,9 @@ use Rattle.balance.specs.Shape.{shaped}
 use Rattle.balance.specs.Greatest.{tallest, greatest}
 use Rattle.balance.specs.GreatestLaws.{greatest-mono}
 use Rattle.method.specs.Answer.{Structure, map, stack}
-use Rattle.method.specs.Rounds.{rounds}
+use Rattle.method.specs.Rounds.{rounds, spare}
 use Rattle.state.specs.Fit.{largestSize}
-use Rattle.state.specs.Fetching.{mostRounds}
+use Rattle.state.specs.Fetching.{mostRounds, mostSpare}
 
 greatest-eight : greatest 8 ≡ 11
 unfolding least shaped tallest greatest
@@ -27,3 +27,16 @@ rounds-map k = refl
 pub rounds-stack : (k : ℕ) → rounds stack k ≡ 1
 unfolding rounds
 rounds-stack k = refl
+
+pub spare-most : (st : Structure) → spare st ≤ mostSpare
+unfolding spare
+spare-most map = omega arith
+spare-most stack = omega arith
+
+pub spare-map : spare map ≡ 1
+unfolding spare
+spare-map = refl
+
+pub spare-stack : spare stack ≡ 1
+unfolding spare
+spare-stack = refl

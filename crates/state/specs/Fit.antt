@@ -7,7 +7,7 @@ use lib.ListN.{getD}
 use Rattle.basics.specs.Choice.{pick}
 use Rattle.basics.specs.Ascending.{ascending}
 use Rattle.balance.specs.Shape.{shaped}
-use Rattle.slots.specs.Slot.{wellFormed}
+use Rattle.slots.specs.Slot.{noNode, wellFormed}
 use Rattle.slots.specs.declared.Link.{Link}
 use Rattle.slots.specs.declared.Node.{Node}
 use Rattle.rounds.specs.Round.{limit}
@@ -56,11 +56,8 @@ keysIn ps = map (λ (p : Place). p .node .key) ps
 abbrev pub places : ℕ
 places = 101
 
-abbrev pub noLink : Link
-noLink = record { height = 0; key = 0; tag = 0 }
-
 abbrev pub noPlace : Place
-noPlace = record { full = false; node = record { key = 0; value = 0; tag = 0; left = noLink; right = noLink } }
+noPlace = record { full = false; node = noNode }
 
 unfoldable pub placesFrom : (n i : ℕ) → List Place → List Place
 placesFrom zero i ps = []

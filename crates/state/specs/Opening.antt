@@ -6,8 +6,9 @@ use lib.Dec.{eqb}
 use lib.ListN.{length, replicate}
 use Rattle.basics.specs.Choice.{pick}
 use Rattle.slots.specs.Tree.{treeLength}
+use Rattle.slots.specs.Slot.{noLink}
 use Rattle.state.specs.declared.State.{State}
-use Rattle.state.specs.Fit.{places, noLink, noPlace, inRange, largestStructure, largestSize}
+use Rattle.state.specs.Fit.{places, noPlace, inRange, largestStructure, largestSize}
 
 -- ---- states
 -- A state with no entries and none waiting.

@@ -5,10 +5,10 @@ use super::Place;
 use super::State;
 use super::fit::in_range;
 use slots::BUCKET_LENGTH;
-use slots::Link;
-use slots::Node;
 use slots::Slot;
 use slots::bucket::write_bucket;
+use slots::codec::no_link;
+use slots::codec::no_node;
 use slots::tree::tree_length;
 ghost use mathlib.Core.Path.{_≡_};
 ghost use Prim.Native.Nat.{_<_, _%_, _^_};
@@ -21,18 +21,7 @@ ghost use Rattle.state.specs.Opening.{empty, opened, Opened};
 pub fn no_place() -> Place
     ensures { λ r. ⌜ r ≡ noPlace ⌝ }
 {
-    let none = Link {
-        height: 0,
-        key: 0,
-        tag: 0,
-    };
-    let node = Node {
-        key: 0,
-        value: 0,
-        tag: 0,
-        left: none,
-        right: none,
-    };
+    let node = no_node();
     Place { full: false, node }
 }
 
@@ -40,11 +29,7 @@ pub fn no_place() -> Place
 fn empty_state(mark: u8, structure: u8, size: u8) -> State
     ensures { λ r. ⌜ r ≡ empty mark structure size ⌝ }
 {
-    let root = Link {
-        height: 0,
-        key: 0,
-        tag: 0,
-    };
+    let root = no_link();
     let place = no_place();
     let places = [place; 101];
     State {

@@ -14,7 +14,7 @@ use Rattle.leaf_nodes.specs.Convert.{toLink, fromLink, toNode, fromNode}
 use Rattle.calls.specs.Fetch.{Left}
 use Rattle.calls.specs.Call as bucket
 use Rattle.calls.specs.Call.{drawOf, bucketCall}
-use Rattle.steps.specs.declared.Answer.the-variants.{Found, Absent, Replaced, New, Removed, Pushed, Popped, Empty}
+use Rattle.operations.specs.declared.Answer.the-variants.{Found, Absent, Replaced, New, Removed, Pushed, Popped, Empty}
 use Rattle.state.specs.declared.Place.{Place}
 use Rattle.state.specs.declared.State.{State}
 use Rattle.store.specs.declared.Reply.{Reply}

@@ -12,7 +12,7 @@ use Rattle.balance.specs.Greatest.{greatest, tallest}
 use Rattle.slots.specs.LittleEndian.{value, bytes}
 use Rattle.slots.specs.Layout.{fields, pack}
 use Rattle.slots.specs.Tree.{halvings, among, path, treeLength}
-use Rattle.slots.specs.Slot.{fieldsIn, fieldsOf, nodeOf, encode, allZero, bad, readSlot, filled, wellFormed}
+use Rattle.slots.specs.Slot.{noLink, fieldsIn, fieldsOf, nodeOf, encode, allZero, bad, readSlot, filled, wellFormed}
 use Rattle.rounds.specs.Round.{withBucket, noneTwice, allGood, readBucket, readBuckets, insert, join, takeFirst, tagged, granted, joined, grantedFrom, readHalf, choose, evict, writeHalf}
 use Rattle.method.specs.Prog.{bind}
 use Rattle.method.specs.Answer.{stack, Op, push, pop}
@@ -21,17 +21,17 @@ use Rattle.method.specs.Stack.{pushProg, popProg, stackTest}
 use Rattle.method.specs.Call.{program, test, run, call, emptyMemory, takeKey, fetches, drawsFrom, stepped, answered}
 use Rattle.method.specs.Origin as origin
 use Rattle.method.specs.Origin.{Origin, drawn, origins, names}
-use Rattle.method.specs.Rounds.{rounds}
+use Rattle.method.specs.Rounds.{rounds, spare}
 use Rattle.leaf_nodes.specs.Leaf.{readLeaf}
 use Rattle.calls.specs.Fetch.{movedLink, movedNode, closing, atClose, idleRound, tookRound, wantRound, fetchRound, fetchRounds}
 use Rattle.calls.specs.Call.{putRounds, afterPuts, afterFetches, bucketCall}
-use Rattle.steps.specs.declared.Answer.the-variants.{Absent, Pushed, Popped}
+use Rattle.operations.specs.declared.Answer.the-variants.{Absent, Pushed, Popped}
 use Rattle.slots.specs.declared.Reading.the-variants.{Full}
 use Rattle.state.specs.declared.State.{State}
 use Rattle.store.specs.declared.Reply.{Reply}
 use Rattle.store.specs.declared.Reply.the-variants.{Answered, Refused}
 use Rattle.basics.specs.Ascending.{ascendingFrom, ascending}
-use Rattle.state.specs.Fit.{allOf, rootGood, fits, placesFrom, noLink}
+use Rattle.state.specs.Fit.{allOf, rootGood, fits, placesFrom}
 use Rattle.state.specs.Ticket.{opIn}
 use Rattle.state.specs.Opening.{opened}
 use Rattle.store.specs.Store.{Ended, called, callWith, replied, replyOf}
@@ -52,7 +52,7 @@ callOn room s tree c = called s tree (ticketOf c) (c .tape) (replicate room 0)
 
 -- The calls of a list in order, each on what the last one left: the last one's outcome.
 unfoldable pub lastOf : ℕ → State → List ℕ → Ticketed → List Ticketed → Ended
-unfolding opened called callWith replied replyOf fits allOf ascendingFrom ascending rootGood placesFrom opIn rounds greatest tallest shaped least bucketCall afterFetches afterPuts putRounds fetchRounds fetchRound wantRound tookRound idleRound atClose closing movedLink movedNode withBucket noneTwice allGood readBucket readBuckets insert join takeFirst tagged granted joined grantedFrom readHalf choose evict halvings among filled encode fieldsOf pack bytes readSlot bad fieldsIn nodeOf fields value allZero wellFormed readLeaf program test walk single double turn raise climb unwind unwound getStep getProg putStep putProg lowest takeOut removeStep removeProg between mapTest pushProg popProg stackTest bind
+unfolding opened called callWith replied replyOf fits allOf ascendingFrom ascending rootGood placesFrom opIn rounds spare greatest tallest shaped least bucketCall afterFetches afterPuts putRounds fetchRounds fetchRound wantRound tookRound idleRound atClose closing movedLink movedNode withBucket noneTwice allGood readBucket readBuckets insert join takeFirst tagged granted joined grantedFrom readHalf choose evict halvings among filled encode fieldsOf pack bytes readSlot bad fieldsIn nodeOf fields value allZero wellFormed readLeaf program test walk single double turn raise climb unwind unwound getStep getProg putStep putProg lowest takeOut removeStep removeProg between mapTest pushProg popProg stackTest bind
 lastOf room s tree c [] = callOn room s tree c
 lastOf room s tree c (d ∷ cs) =
     lastOf room (callOn room s tree c .state) (callOn room s tree c .tree) d cs

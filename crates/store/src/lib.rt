@@ -1,6 +1,6 @@
 // The oblivious settings store: calls.
+use operations::Answer;
 use state::State;
-use steps::Answer;
 
 // What a call brings: an answer, or the number of a refusal.
 pub enum Reply {

@@ -53,7 +53,7 @@ map-represents nil k =
         fits = h .fits;
       };
       distinct-keys = λ table m h. holds-distinct h;
-      within = λ table m h op tag. within-more (let low = holds-low k h in omega arith)
-          (program-within nil op tag (capacity k) (m .entries) (m .root));
-      safe = λ table m h op tag. map-keeps op h;
+      within = λ table m h op spares. within-more (let low = holds-low k h in omega arith)
+          (program-within nil op spares (capacity k) (m .entries) (m .root));
+      safe = λ table m h op spares. map-keeps op spares h;
     }

@@ -1,6 +1,6 @@
 -- The theorems of the method: of every structure, size and type of tags, for every list of calls from the empty structure.
 use mathlib.Core.Path.{_≡_, sym, _∙_, ap}
-use mathlib.Core.Bool.{true}
+use mathlib.Core.Bool.{Bool, true}
 use mathlib.Core.List.{List, [], _++_, map, map-append}
 use mathlib.Core.Option.{some}
 use Prim.Native.Nat.{ℕ, suc, _+_, _*_, _≤_, _<_}
@@ -14,12 +14,12 @@ use Rattle.balance.specs.Tree.{height, size}
 use Rattle.balance.specs.Shape.{shaped}
 use Rattle.balance.specs.Greatest.{greatest}
 use Rattle.method.specs.Node.{Node}
-use Rattle.method.specs.Prog.{Prog}
+use Rattle.method.specs.Prog.{Want, Prog}
 use Rattle.method.specs.Map.{Outcome}
 use Rattle.method.specs.Answer as answer
 use Rattle.method.specs.Answer.{Structure, stack, Op}
 use Rattle.method.specs.Plain.{Pair, Contents, nothing, plainContents, plainAnswers}
-use Rattle.method.specs.Rounds.{rounds}
+use Rattle.method.specs.Rounds.{rounds, draws}
 use Rattle.method.specs.Call.{capacity, program, test, Memory, emptyMemory, run, Ran}
 use Rattle.method.specs.Origin.{Origin, none, drawn, origins, names, leafOf, leafRun}
 use Rattle.method.specs.Safe.{Safe, Within}
@@ -103,20 +103,25 @@ module _ {T : Type 0} (nil : T) (k : ℕ) (draw : ℕ → ℕ → T) where
   -- ---- 3. Enough rounds
 
   -- The program of one more call, on the memory that the calls left.
-  abbrev pub nextProgram : {s : Structure} → List (Op s) → Op s → T → Prog T (Outcome T)
-  nextProgram ops op tag = program nil op tag (capacity k) (ran ops .memory .entries) (ran ops .memory .root)
+  abbrev pub nextProgram : {s : Structure} → List (Op s) → Op s → (spares : ℕ → T) → Prog T (Outcome T)
+  nextProgram ops op spares = program nil op spares (capacity k) (ran ops .memory .entries) (ran ops .memory .root)
+
+  -- The fetch tests of that call.
+  abbrev pub nextTest : {s : Structure} → List (Op s) → Want T → Node T → Bool
+  nextTest {s} ops = test s (ran ops .memory .entries)
 
   -- It never wants more than F nodes.
-  pub enough-rounds : {s : Structure} (ops : List (Op s)) (op : Op s) (tag : T) → Within (test s) (rounds s k) (nextProgram ops op tag)
-  enough-rounds {s} ops op tag = represents nil s k .within _ (ran ops .memory) (held ops) op tag
+  pub enough-rounds : {s : Structure} (ops : List (Op s)) (op : Op s) (spares : ℕ → T)
+      → Within (nextTest ops) (rounds s k) (nextProgram ops op spares)
+  enough-rounds {s} ops op spares = represents nil s k .within _ (ran ops .memory) (held ops) op spares
 
   -- Every wanted node is there, under its link's key and tag, and passes the fetch tests; none is fetched twice.
-  pub wanted-nodes : {s : Structure} (ops : List (Op s)) (op : Op s) (tag : T)
-      → Safe (test s) (λ o fetched others. Distinct (keys fetched)) (nextProgram ops op tag) [] (ran ops .memory .nodes)
-  wanted-nodes {s} ops op tag =
+  pub wanted-nodes : {s : Structure} (ops : List (Op s)) (op : Op s) (spares : ℕ → T)
+      → Safe (nextTest ops) (λ o fetched others. Distinct (keys fetched)) (nextProgram ops op spares) [] (ran ops .memory .nodes)
+  wanted-nodes {s} ops op spares =
       safe-map (λ o fetched others h. distinct-left (keys fetched) (keys others) (rw map-append at (h .1)))
       (safe-distinct (represents nil s k .distinct-keys _ (ran ops .memory) (held ops))
-      (represents nil s k .safe _ (ran ops .memory) (held ops) op tag))
+      (represents nil s k .safe _ (ran ops .memory) (held ops) op spares))
 
 -- ---- 4. The same at every tag
 
@@ -140,12 +145,12 @@ module _ {s : Structure} (k : ℕ) where
 
 -- ---- 5. Named once
 
--- A draw, from 0 to 2F, of one of the calls 1 to n.
-abbrev pub DrawOf : (rounds n : ℕ) → Origin → Type 0
-DrawOf rounds n o = (c : ℕ) × (d : ℕ) × (o ≡ drawn c d) × (1 ≤ c) × (c ≤ n) × (d ≤ 2 * rounds)
+-- A draw of one of the calls 1 to n, where each call has so many.
+abbrev pub DrawOf : (count n : ℕ) → Origin → Type 0
+DrawOf count n o = (c : ℕ) × (d : ℕ) × (o ≡ drawn c d) × (1 ≤ c) × (c ≤ n) × (d < count)
 
-draw-of : (rounds n : ℕ) (o : Origin) → OnTape rounds 1 n o → DrawOf rounds n o
-draw-of rounds n o on = (callOf o, drawOf o, drawn-of o (on .0), on .0, omega arith, on .2)
+draw-of : (count n : ℕ) (o : Origin) → OnTape count 1 n o → DrawOf count n o
+draw-of count n o on = (callOf o, drawOf o, drawn-of o (on .0), on .0, omega arith, on .2)
 
 module _ {s : Structure} (k : ℕ) where
   -- Each call names 2F draws, one for each of its places.
@@ -165,15 +170,15 @@ module _ {s : Structure} (k : ℕ) where
   named-once = names-once k keeps (nothing s, held-empty none s (capacity k))
 
   -- Each name is a draw of a call of the list.
-  pub named-draws : (ops : List (Op s)) → All (DrawOf (rounds s k) (length ops)) (names (rounds s k) k ops)
+  pub named-draws : (ops : List (Op s)) → All (DrawOf (draws s k) (length ops)) (names (rounds s k) k ops)
   named-draws ops o i =
-      draw-of (rounds s k) (length ops) o (names-on-tapes k keeps (nothing s, held-empty none s (capacity k)) ops o i)
+      draw-of (draws s k) (length ops) o (names-on-tapes k keeps (nothing s, held-empty none s (capacity k)) ops o i)
 
   -- At the places of call c + 1, a draw of that call or of an earlier one.
   pub named-at : (ops : List (Op s)) (c j : ℕ) → c < length ops → j < 2 * rounds s k
-      → DrawOf (rounds s k) (suc c) (getD (names (rounds s k) k ops) (c * (2 * rounds s k) + j) none)
+      → DrawOf (draws s k) (suc c) (getD (names (rounds s k) k ops) (c * (2 * rounds s k) + j) none)
   named-at ops c j before place =
-      draw-of (rounds s k) (suc c) _ (name-at k keeps (nothing s, held-empty none s (capacity k)) ops c j before place)
+      draw-of (draws s k) (suc c) _ (name-at k keeps (nothing s, held-empty none s (capacity k)) ops c j before place)
 
   -- ---- 6. Tickets only
 

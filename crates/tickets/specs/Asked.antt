@@ -6,8 +6,8 @@ use mathlib.Core.List.{List}
 use mathlib.Core.Option.{Option, none, some}
 use Rattle.method.specs.Answer as method
 use Rattle.method.specs.Answer.{Structure, get, put, remove, push, pop}
-use Rattle.steps.specs.declared.Op.{Op}
-use Rattle.steps.specs.declared.Op.the-variants.{Get, Put, Remove, Push, Pop}
+use Rattle.operations.specs.declared.Op.{Op}
+use Rattle.operations.specs.declared.Op.the-variants.{Get, Put, Remove, Push, Pop}
 use Rattle.state.specs.Ticket.{opIn, structureOf}
 use Rattle.tickets.specs.declared.Asked.{Asked}
 use Rattle.tickets.specs.declared.Asked.the-variants.{Call, Unknown}

@@ -8,7 +8,7 @@ use borrow.Author.Tests.{eq-eqb, ne-eqb, eqb-false}
 use Rattle.basics.specs.Choice.{pick}
 use Rattle.method.specs.Answer.{map as the-map, stack as the-stack, get, put, remove, push, pop}
 use Rattle.state.specs.Ticket.{kindIn, keyIn, valueIn, opIn, structureOf}
-use Rattle.steps.specs.declared.Op.the-variants.{Get, Put, Remove, Push, Pop}
+use Rattle.operations.specs.declared.Op.the-variants.{Get, Put, Remove, Push, Pop}
 use Rattle.tickets.specs.declared.Asked.the-variants.{Call, Unknown}
 use Rattle.tickets.specs.Asked.{asked, fromOp, fromAsked, mapOp, stackOp}
 use Prim.Native.Nat.{ℕ, zero, suc, _+_, _-_, _*_, _≤_, _<_, _^_}

@@ -1,5 +1,5 @@
 // What a ticket asks of a structure.
-use steps::Op;
+use operations::Op;
 ghost use mathlib.Core.Path.{_≡_};
 ghost use Prim.Native.Nat.{_+_, _≤_, _^_, _<_};
 ghost use lib.ListN.{length, take, drop, getD};

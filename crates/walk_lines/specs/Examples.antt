@@ -25,7 +25,7 @@ use Rattle.state.specs.Fit.{allOf, rootGood, fits, placesFrom}
 use Rattle.state.specs.Ticket.{opIn}
 use Rattle.state.specs.Opening.{opened}
 use Rattle.store.specs.Store.{called, callWith, replied, replyOf}
-use Rattle.steps.specs.declared.Answer.the-variants.{Absent, Pushed, Popped, Replaced}
+use Rattle.operations.specs.declared.Answer.the-variants.{Absent, Pushed, Popped, Replaced}
 use Rattle.walk_lines.specs.Lines.{ascii, leading, decimal, numbers, lineOf, longestLine}
 use Rattle.walk_lines.specs.Input.{recordLength, numbersIn, tapeIn, arrivedOf}
 use Rattle.walk_lines.specs.Walk.{callLines, walked}

@@ -6,8 +6,8 @@ use mathlib.Core.Path.{_≡_}
 use mathlib.Core.List.{List, [], _∷_, _++_}
 use lib.ListN.{length}
 use lib.Seq.{sets}
-use Rattle.steps.specs.declared.Answer.{Answer}
-use Rattle.steps.specs.declared.Answer.the-variants.{Found, Absent, Replaced, New, Removed, Pushed, Popped, Empty, Full}
+use Rattle.operations.specs.declared.Answer.{Answer}
+use Rattle.operations.specs.declared.Answer.the-variants.{Found, Absent, Replaced, New, Removed, Pushed, Popped, Empty, Full}
 use Rattle.store.specs.declared.Reply.{Reply}
 use Rattle.store.specs.declared.Reply.the-variants.{Answered, Refused}
 use Rattle.state.specs.Fetching.{mostRounds}

@@ -12,7 +12,7 @@ use lib.Seq.{take-suc, take-all, take-length, drop-drop, sets-eq, length-sets}
 use Rattle.io.specs.Counts.{Counts}
 use Rattle.io.specs.Digits.{digits, glyph, Fewest}
 use Rattle.slots.specs.WordLaws.{sets-append}
-use Rattle.steps.specs.declared.Answer.the-variants.{Found, Absent, Replaced, New, Removed, Pushed, Popped, Empty, Full}
+use Rattle.operations.specs.declared.Answer.the-variants.{Found, Absent, Replaced, New, Removed, Pushed, Popped, Empty, Full}
 use Rattle.store.specs.declared.Reply.{Reply}
 use Rattle.store.specs.declared.Reply.the-variants.{Answered, Refused}
 use Rattle.walk_lines.specs.Lines.{blank, newline, digit, leading, decimal, numbers, replyWord, replyValue, lineOf, longestLine, mostLeaves, Put}

@@ -2,7 +2,7 @@
 use super::text::put_leaves;
 use super::text::put_number;
 use super::text::put_text;
-use steps::Answer;
+use operations::Answer;
 use store::Reply;
 ghost use mathlib.Core.Path.{_≡_};
 ghost use mathlib.Core.List.{_++_};

@@ -1,14 +1,16 @@
 -- `state::opening::empty_state` meets its contract.
-use native.Mathlib.Omega.{arith}
 use borrow.Author.Needs.{needs}
 use Rattle.state.proofs.opening.empty_state.Statement.{statement}
 use Rattle.state.proofs.opening.empty_state.Tie as tie
+
+no-link-requires : tie.Need-no-link-requires
+no-link-requires c κs = search needs
 
 no-place-requires : tie.Need-no-place-requires
 no-place-requires c κs = search needs
 
 returns : tie.Need-returns
-returns c = rw (c .no-place .ensures)
+returns c = rw (c .no-place .ensures, c .before .no-link .ensures)
 
 pub empty-state-spec : {M : Type 1} → statement M
-empty-state-spec = tie.close (tie.spec no-place-requires returns)
+empty-state-spec = tie.close (tie.spec no-link-requires no-place-requires returns)

@@ -15,10 +15,10 @@ use Rattle.method.specs.Prog.{Want, Prog, done, want, bind, after}
 use Rattle.method.specs.Answer as method
 use Rattle.method.specs.Map.{Outcome, Step, Sub, stub, top, Built, Spot, gap, hit, Lowest, linkOf, topOf, kid, seat, start, stepAt, beside, below, walk, tall, rotate, single, double, opened, turn, placed, rest, nearOn, othersOf, raise, climb, getStep, getProg, putStep, putProg, lowest, swapped, takeOut, removeStep, removeProg, mapTest}
 use Rattle.method.specs.Stack.{pushProg, popProg, stackTest}
-use Rattle.method.specs.Call.{program}
-use Rattle.steps.specs.Heights.{Low, Lows}
-use Rattle.steps.specs.HeightLaws.{low-child}
-use Rattle.steps.specs.Method.{wantedIn}
+use Rattle.method.specs.Call.{program, test}
+use Rattle.node_rows.specs.Heights.{Low, Lows}
+use Rattle.map_nodes.specs.HeightLaws.{low-child}
+use Rattle.operations.specs.Method.{wantedIn}
 
 module _ {T : Type 0} (most : ℕ) where
   -- A program that wants only low links, as long as it is given low nodes; at its end a statement holds.
@@ -205,15 +205,15 @@ module _ {T : Type 0} (most : ℕ) where
     low-remove entries (hit w n path) h = low-bind _ (asks-more (λ b u. ends-low tt) (low-takeOut w n path (h .0) (h .1)))
 
     -- The program of any ticket.
-    pub low-program : {s : method.Structure} (op : method.Op s) (tag : T) (limit entries : ℕ)
-        → AsksLow (λ (o : Outcome T). Unit {0}) (program nil op tag limit entries l)
+    pub low-program : {s : method.Structure} (op : method.Op s) (spares : ℕ → T) (limit entries : ℕ)
+        → AsksLow (λ (o : Outcome T). Unit {0}) (program nil op spares limit entries l)
     unfolding program getProg putProg removeProg pushProg popProg
-    low-program (method.get key) tag limit entries = walking key (λ s. done (getStep entries s)) (λ s h. ends-low tt)
-    low-program (method.put key value) tag limit entries =
-        walking key (putStep nil key value tag entries limit) (low-put key value tag entries limit)
-    low-program (method.remove key) tag limit entries = walking key (removeStep entries) (low-remove entries)
-    low-program (method.push value) tag limit entries = low-pick (ltb entries limit) (ends-low tt) (ends-low tt)
-    low-program method.pop tag limit entries =
+    low-program (method.get key) spares limit entries = walking key (λ s. done (getStep entries s)) (λ s h. ends-low tt)
+    low-program (method.put key value) spares limit entries =
+        walking key (putStep nil key value (spares 0) entries limit) (low-put key value (spares 0) entries limit)
+    low-program (method.remove key) spares limit entries = walking key (removeStep entries) (low-remove entries)
+    low-program (method.push value) spares limit entries = low-pick (ltb entries limit) (ends-low tt) (ends-low tt)
+    low-program method.pop spares limit entries =
         low-pick (eqb (l .height) 0) (ends-low tt) (asks-low low (λ n h. ends-low tt))
 
   -- ---- what is wanted after some nodes
@@ -227,18 +227,18 @@ module _ {T : Type 0} (most : ℕ) where
 -- ---- for the caller
 
 -- The next wanted link is low where the root link and the held nodes are.
-pub wanted-low : {s : method.Structure} (op : method.Op s) (tag limit entries : ℕ) (l : Link ℕ) (ns : List (Node ℕ)) (most : ℕ) {w : Want ℕ}
-    → l .height ≤ most → Lows most ns → wantedIn (after (program 0 op tag limit entries l) ns) ≡ some w → w .link .height ≤ most
-wanted-low op tag limit entries l ns most {w} h k e =
-    go (after (program 0 op tag limit entries l) ns)
-    (low-after most (program 0 op tag limit entries l) ns (low-program most 0 l h op tag limit entries) k) e
+pub wanted-low : {s : method.Structure} (op : method.Op s) (spares : ℕ → ℕ) (limit entries : ℕ) (l : Link ℕ) (ns : List (Node ℕ)) (most : ℕ) {w : Want ℕ}
+    → l .height ≤ most → Lows most ns → wantedIn (after (program 0 op spares limit entries l) ns) ≡ some w → w .link .height ≤ most
+wanted-low op spares limit entries l ns most {w} h k e =
+    go (after (program 0 op spares limit entries l) ns)
+    (low-after most (program 0 op spares limit entries l) ns (low-program most 0 l h op spares limit entries) k) e
   where
     go : (p : Prog ℕ (Outcome ℕ)) → AsksLow most (λ (o : Outcome ℕ). Unit {0}) p → wantedIn p ≡ some w → w .link .height ≤ most
     go (done o) a e = let z : _≡_ {A = ℕ} 0 1 = cc in absurd (omega arith)
     go (want v c) (asks-low x g) e = let d : v ≡ w = cc in rw (← d) x
 
 -- A node that passed its structure's fetch test is low where the link to it is.
-pub map-tested-low : (w : Want ℕ) (n : Node ℕ) (most : ℕ) → mapTest w n ≡ true → w .link .height ≤ most → Low most n
+map-tested-low : (w : Want ℕ) (n : Node ℕ) (most : ℕ) → mapTest w n ≡ true → w .link .height ≤ most → Low most n
 unfolding mapTest
 map-tested-low w n most e h =
     let right = pick-neither (tall true n) _ e .1 in
@@ -246,7 +246,7 @@ map-tested-low w n most e h =
     let height = eqb-true (heightOf n) (w .link .height) (pick-both _ _ same .0) in
     (omega arith, omega arith)
 
-pub stack-tested-low : (w : Want ℕ) (n : Node ℕ) (most : ℕ) → stackTest w n ≡ true → 1 ≤ most → Low most n
+stack-tested-low : (w : Want ℕ) (n : Node ℕ) (most : ℕ) → stackTest w n ≡ true → 1 ≤ most → Low most n
 unfolding stackTest
 stack-tested-low w n most e h =
     let both = pick-both (eqb (n .right .height) 0) _ e in
@@ -257,3 +257,8 @@ stack-tested-low w n most e h =
     one : (b c : Bool) → pick b (eqb (n .left .height) 0) (pick (eqb (n .left .height) 1) c false) ≡ true → n .left .height ≤ 1
     one true c x = let z = eqb-true (n .left .height) 0 x in omega arith
     one false c x = let z = eqb-true (n .left .height) 1 (pick-both (eqb (n .left .height) 1) c x .0) in omega arith
+
+pub tested-low : (s : method.Structure) (entries : ℕ) (w : Want ℕ) (n : Node ℕ) (most : ℕ) → test s entries w n ≡ true → 1 ≤ most → w .link .height ≤ most → Low most n
+unfolding test
+tested-low method.map entries w n most e k h = map-tested-low w n most e h
+tested-low method.stack entries w n most e k h = stack-tested-low w n most e k

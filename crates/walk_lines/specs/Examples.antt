@@ -15,7 +15,7 @@ use Rattle.method.specs.Prog.{bind}
 use Rattle.method.specs.Map.{walk, single, double, turn, raise, climb, unwind, unwound, getStep, getProg, putStep, putProg, lowest, takeOut, removeStep, removeProg, between, mapTest}
 use Rattle.method.specs.Stack.{pushProg, popProg, stackTest}
 use Rattle.method.specs.Call.{program, test}
-use Rattle.method.specs.Rounds.{rounds}
+use Rattle.method.specs.Rounds.{rounds, spare}
 use Rattle.leaf_nodes.specs.Leaf.{readLeaf}
 use Rattle.calls.specs.Fetch.{movedLink, movedNode, closing, atClose, idleRound, tookRound, wantRound, fetchRound, fetchRounds}
 use Rattle.calls.specs.Call.{putRounds, afterPuts, afterFetches, bucketCall}
@@ -62,7 +62,7 @@ pub record Records : Type 0 where
   pub tape : tapeIn 2 (replicate 13 7 ++ (1 ∷ 2 ∷ 255 ∷ 255 ∷ [])) ≡ 513 ∷ 65535 ∷ []
 
 records-worked : Records
-unfolding least shaped tallest greatest rounds value numbersIn
+unfolding least shaped tallest greatest rounds spare value numbersIn
 records-worked = record { stack = refl; smallest-map = refl; largest-map = refl; tape = refl }
 
 -- ---- whole outputs
@@ -84,7 +84,7 @@ pub record Outputs : Type 0 where
   pub no-byte : walked [] ≡ ascii "short\n"
 
 outputs-worked : Outputs
-unfolding leading decimal numbers lineOf numbersIn arrivedOf callLines walked opened called callWith replied replyOf fits allOf ascendingFrom ascending rootGood placesFrom opIn rounds greatest tallest shaped least bucketCall afterFetches afterPuts putRounds fetchRounds fetchRound wantRound tookRound idleRound atClose closing movedLink movedNode withBucket noneTwice allGood readBucket readBuckets insert join takeFirst tagged granted joined grantedFrom readHalf choose evict halvings among filled encode fieldsOf pack bytes readSlot bad fieldsIn nodeOf fields value allZero wellFormed readLeaf program test walk single double turn raise climb unwind unwound getStep getProg putStep putProg lowest takeOut removeStep removeProg between mapTest pushProg popProg stackTest bind
+unfolding leading decimal numbers lineOf numbersIn arrivedOf callLines walked opened called callWith replied replyOf fits allOf ascendingFrom ascending rootGood placesFrom opIn rounds spare greatest tallest shaped least bucketCall afterFetches afterPuts putRounds fetchRounds fetchRound wantRound tookRound idleRound atClose closing movedLink movedNode withBucket noneTwice allGood readBucket readBuckets insert join takeFirst tagged granted joined grantedFrom readHalf choose evict halvings among filled encode fieldsOf pack bytes readSlot bad fieldsIn nodeOf fields value allZero wellFormed readLeaf program test walk single double turn raise climb unwind unwound getStep getProg putStep putProg lowest takeOut removeStep removeProg between mapTest pushProg popProg stackTest bind
 outputs-worked =
     record {
       document = refl;

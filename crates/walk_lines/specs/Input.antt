@@ -8,7 +8,7 @@ use Rattle.slots.specs.LittleEndian.{value}
 use Rattle.slots.specs.Tree.{treeLength}
 use Rattle.state.specs.Fit.{inRange, largestSize}
 use Rattle.state.specs.Ticket.{ticketLength}
-use Rattle.state.specs.Fetching.{roundsOf, mostRounds}
+use Rattle.state.specs.Fetching.{drawsOf, mostDraws}
 use Rattle.walk_lines.specs.declared.Arrived.{Arrived}
 use Rattle.walk_lines.specs.declared.Arrived.the-variants.{Whole, End, Short}
 
@@ -18,10 +18,10 @@ tapeNumber = 2
 
 -- The bytes of one call.
 abbrev pub recordLength : ℕ → ℕ → ℕ
-recordLength structure size = ticketLength + tapeNumber * (2 * roundsOf structure size + 1)
+recordLength structure size = ticketLength + tapeNumber * drawsOf structure size
 
 abbrev pub longestRecord : ℕ
-longestRecord = ticketLength + tapeNumber * (2 * mostRounds + 1)
+longestRecord = ticketLength + tapeNumber * mostDraws
 
 abbrev pub ticketIn : List ℕ → List ℕ
 ticketIn bs = take ticketLength bs

@@ -12,13 +12,13 @@ use Rattle.store.specs.Store.{Ended, called}
 use Rattle.walk_lines.specs.declared.Arrived.{Arrived}
 use Rattle.walk_lines.specs.declared.Arrived.the-variants.{Whole, End, Short}
 use Rattle.walk_lines.specs.Lines.{lineOf, shortLine}
-use Rattle.state.specs.Fetching.{roundsOf}
+use Rattle.state.specs.Fetching.{roundsOf, drawsOf}
 use Rattle.walk_lines.specs.Input.{recordLength, ticketIn, tapeIn, arrivedOf, treeLent}
 
 -- The call that stands first in the input, with a trace buffer of 2F numbers.
 abbrev pub callIn : State → (tree input : List ℕ) → Ended
 callIn s tree input =
-    called s tree (ticketIn input) (tapeIn (2 * roundsOf (s .structure) (s .size) + 1) input)
+    called s tree (ticketIn input) (tapeIn (drawsOf (s .structure) (s .size)) input)
     (replicate (2 * roundsOf (s .structure) (s .size)) 0)
 
 abbrev pub callLine : Ended → List ℕ

@@ -12,14 +12,14 @@ use lib.Seq.{take-at}
 use Rattle.basics.specs.Choice.{pick}
 use Rattle.slots.specs.Tree.{treeLength}
 use Rattle.method.specs.Answer.{Structure, Op}
-use Rattle.method.specs.Rounds.{rounds}
+use Rattle.method.specs.Rounds.{rounds, draws}
 use Rattle.state.specs.declared.State.{State}
 use Rattle.state.specs.Fit.{fits}
 use Rattle.state.specs.Ticket.{ticketLength, opIn, structureOf}
 use Rattle.store.specs.declared.Reply.{Reply}
 use Rattle.store.specs.Store.{Ended, called, callWith}
 use Rattle.walk_lines.specs.Lines.{lineOf, mostLeaves}
-use Rattle.state.specs.Fetching.{roundsOf}
+use Rattle.state.specs.Fetching.{roundsOf, drawsOf, mostDraws}
 use Rattle.walk_lines.specs.Input.{ticketIn, tapeIn}
 use Rattle.walk_lines.specs.Walk.{callIn, callLine, Printed}
 
@@ -38,7 +38,7 @@ kept-with : (st : Structure) (s : State) (tree tape trace : List ℕ) (op : Opti
 unfolding callWith
 kept-with st s tree tape trace none = same refl refl
 kept-with st s tree tape trace (some op) =
-    kept-either (ltb (length tape) (2 * rounds st (s .size) + 1)) (same refl refl)
+    kept-either (ltb (length tape) (draws st (s .size))) (same refl refl)
     (kept-either (ltb (length trace) (2 * rounds st (s .size))) (same refl refl) (same refl refl))
 
 pub call-keeps : (s : State) (tree ticket tape trace : List ℕ) → Kept s (called s tree ticket tape trace)
@@ -76,9 +76,10 @@ fresh-length n most h = rw (fresh-first n most h, length-replicate)
 pub filled-length : (filled rest : List ℕ) (n most : ℕ) → n ≤ most → length filled ≡ length (take {A = ℕ} n (replicate most 0)) → length (take n (filled ++ rest)) ≡ n
 filled-length filled rest n most h e = let f : length filled ≡ n = e ∙ fresh-length n most h in rw (take-at filled rest n f) f
 
--- A call with the first 2F + 1 numbers of a tape and the first 2F places of a fresh trace buffer.
-pub call-in : (s : State) (tree input : List ℕ) (fetches : ℕ) → fetches ≡ roundsOf (s .structure) (s .size) → 2 * fetches ≤ mostLeaves
-    → called s tree (ticketIn input) (tapeIn (length (take {A = ℕ} (2 * fetches + 1) (replicate (mostLeaves + 1) 0))) input) (take (2 * fetches) (replicate mostLeaves 0))
+-- A call with as many numbers of a tape as it has draws and the first 2F places of a fresh trace buffer.
+pub call-in : (s : State) (tree input : List ℕ) (fetches count : ℕ) → fetches ≡ roundsOf (s .structure) (s .size) → 2 * fetches ≤ mostLeaves
+    → count ≡ drawsOf (s .structure) (s .size) → count ≤ mostDraws
+    → called s tree (ticketIn input) (tapeIn (length (take {A = ℕ} count (replicate mostDraws 0))) input) (take (2 * fetches) (replicate mostLeaves 0))
     ≡ callIn s tree input
-call-in s tree input fetches e h =
-    rw (fresh-length (2 * fetches + 1) (mostLeaves + 1) (omega arith), fresh-first (2 * fetches) mostLeaves h, e)
+call-in s tree input fetches count e h d most =
+    rw (fresh-length count mostDraws most, fresh-first (2 * fetches) mostLeaves h, e, d)

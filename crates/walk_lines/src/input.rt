@@ -2,7 +2,7 @@
 use super::Arrived;
 use slots::tree::tree_length;
 use state::LARGEST_SIZE;
-use state::fetching::rounds_of;
+use state::fetching::draws_of;
 use state::fit::in_range;
 use tickets::TICKET_LENGTH;
 ghost use mathlib.Core.Path.{_≡_};
@@ -40,7 +40,7 @@ pub fn record_length(structure: u8, size: u8) -> usize
     requires { ⌜ (1 ≤ size) × (size ≤ largestSize) ⌝ }
     ensures { λ r. ⌜ (r ≡ recordLength structure size) × (r ≤ longestRecord) ⌝ }
 {
-    TICKET_LENGTH + 2 * (2 * rounds_of(structure, size) + 1)
+    TICKET_LENGTH + 2 * draws_of(structure, size)
 }
 
 // The tape numbers of a call, which follow its ticket.

@@ -1,7 +1,8 @@
 // The walk program's input and output as functions on slices: the parts of the input, and the text of a line.
 use slots::BUCKET_LENGTH;
 use state::LARGEST_SIZE;
-use steps::FETCHES;
+use state::fetching::MOST_ROUNDS;
+use state::fetching::MOST_SPARE;
 use tickets::TICKET_LENGTH;
 
 // How a part of the input came: whole, or the input ended before it or within it.
@@ -15,9 +16,9 @@ pub enum Arrived {
 pub const HEAD_LENGTH: usize = 2;
 
 // The most leaves of a call, one for each fetch round and each put round, and the most tape numbers.
-pub const MOST_LEAVES: usize = 2 * FETCHES;
+pub const MOST_LEAVES: usize = 2 * MOST_ROUNDS;
 
-pub const MOST_DRAWS: usize = MOST_LEAVES + 1;
+pub const MOST_DRAWS: usize = MOST_LEAVES + MOST_SPARE;
 
 // The most bytes of one call in the input.
 pub const LONGEST_RECORD: usize = TICKET_LENGTH + 2 * MOST_DRAWS;

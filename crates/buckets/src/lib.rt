@@ -22,5 +22,5 @@ pub const LIMIT: usize = 64;
 
 pub mod path;
 pub mod read;
-pub mod stash;
+pub mod stash_words;
 pub mod write;

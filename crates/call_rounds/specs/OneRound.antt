@@ -20,8 +20,8 @@ use Rattle.buckets.specs.Words.{wordCount}
 use Rattle.waiting.specs.Waiting.{waitingIn, Holds}
 use Rattle.calls.specs.Fetch.{Held, Going, Round, on, shut, idleRound, wantRound}
 use Rattle.state.specs.Ticket.{structureOf}
-use Rattle.steps.specs.declared.Want.{Want}
-use Rattle.steps.specs.Method.{toFrom, toWant}
+use Rattle.operations.specs.declared.Want.{Want}
+use Rattle.operations.specs.Method.{toFrom, toWant}
 use Rattle.call_rounds.specs.declared.Rounded.{Rounded}
 use Rattle.call_rounds.specs.declared.Took.{Took}
 
@@ -69,12 +69,12 @@ heldToo taken a = pick taken (a ∷ []) []
 abbrev pub takenAs : Want → ℕ → Node ℕ → Held
 takenAs want d n = record { from = toFrom (want .from); node = retag d n }
 
-pub record Wanted (structure k n : ℕ) (want : Want) (words tree held words′ scratch′ tree′ : List ℕ) (r : Took) : Type 0 where
+pub record Wanted (structure entries k n : ℕ) (want : Want) (words tree held words′ scratch′ tree′ : List ℕ) (r : Took) : Type 0 where
   pub round : (hs : List Held) (ls : List ℕ) (d : ℕ) (c : Node ℕ → Prog ℕ (Outcome ℕ)) → map (λ (h : Held). h .node .key) hs ≡ held
-      → wantRound (structureOf structure) k d (toWant want) c (going n words tree hs ls)
+      → wantRound (structureOf structure) entries k d (toWant want) c (going n words tree hs ls)
       ≡ endedWith (r .mark)
       (going (r .waiting) words′ tree′ (hs ++ heldToo (r .taken) (takenAs want d (toNode (r .node)))) (ls ++ (want .link .tag ∷ [])))
       (c (retag d (toNode (r .node))))
   pub goes-on : r .mark ≡ 0 → r .taken ≡ true
-  pub tested : r .taken ≡ true → test (structureOf structure) (toWant want) (toNode (r .node)) ≡ true
+  pub tested : r .taken ≡ true → test (structureOf structure) entries (toWant want) (toNode (r .node)) ≡ true
   pub rests : Rests (r .waiting) words′ scratch′ (held ++ heldToo (r .taken) (r .node .key))

@@ -28,29 +28,29 @@ use Rattle.buckets.specs.declared.read.Wish.the-variants as wished
 use Rattle.waiting.specs.Waiting.{waitingIn}
 use Rattle.calls.specs.Fetch.{Held, Going, shut, atClose, written, revealing, heldKeys, wishFor, tookRound, wantRound}
 use Rattle.state.specs.Ticket.{structureOf}
-use Rattle.steps.specs.declared.Want as want
-use Rattle.steps.specs.Method.{toWant}
+use Rattle.operations.specs.declared.Want as want
+use Rattle.operations.specs.Method.{toWant}
 use Rattle.call_rounds.specs.OneRound.{going, takenAs, Ready, Rests, Wanted}
 use Rattle.call_rounds.specs.HandLaws.{InHand, looked-damage, looked-hand, taken-node}
 use Rattle.call_rounds.specs.CloseLaws.{settled-rests, settled-close}
 use Rattle.call_rounds.specs.IdleLaws.{ready-rests}
 
 -- ---- the definition's three ways
-module _ {A : Type 0} (s : Structure) (k d : ℕ) (w : Want ℕ) (c : Node ℕ → Prog ℕ A) (g : Going) where
+module _ {A : Type 0} (s : Structure) (entries k d : ℕ) (w : Want ℕ) (c : Node ℕ → Prog ℕ A) (g : Going) where
   abbrev half : Option (Hand (Node ℕ))
   half = readHalf leafFormat k (g .tree) (w .link .tag) (some (wishFor w)) (heldKeys g) (g .waiting)
 
-  want-damaged : half ≡ none → wantRound s k d w c g ≡ shut 8 (revealing (w .link .tag) g)
+  want-damaged : half ≡ none → wantRound s entries k d w c g ≡ shut 8 (revealing (w .link .tag) g)
   unfolding wantRound
   want-damaged read = rw (read, wantRound)
 
-  want-failed : (h : Hand (Node ℕ)) (e : Node ℕ) → half ≡ some h → h .taken ≡ some e → test s w e ≡ false
-      → wantRound s k d w c g ≡ shut 8 (revealing (w .link .tag) g)
+  want-failed : (h : Hand (Node ℕ)) (e : Node ℕ) → half ≡ some h → h .taken ≡ some e → test s entries w e ≡ false
+      → wantRound s entries k d w c g ≡ shut 8 (revealing (w .link .tag) g)
   unfolding wantRound tookRound
   want-failed h e read taken failed = rw (read, wantRound, taken, failed)
 
-  want-taken : (h : Hand (Node ℕ)) (e : Node ℕ) → half ≡ some h → h .taken ≡ some e → test s w e ≡ true
-      → wantRound s k d w c g
+  want-taken : (h : Hand (Node ℕ)) (e : Node ℕ) → half ≡ some h → h .taken ≡ some e → test s entries w e ≡ true
+      → wantRound s entries k d w c g
       ≡ atClose (written k (w .link .tag) (h .waiting) (g .held ++ (record { from = w .from; node = retag d e } ∷ [])) g) (c (retag d e))
   unfolding wantRound tookRound
   want-taken h e read taken passed = rw (read, wantRound, taken, passed)
@@ -58,7 +58,7 @@ module _ {A : Type 0} (s : Structure) (k d : ℕ) (w : Want ℕ) (c : Node ℕ �
 abbrev pub wishOfWant : want.Want → wish.Wish
 wishOfWant w = wished.Node (w .link .key) (w .link .tag)
 
-module _ {k n : ℕ} {words scratch tree held after : List ℕ} (structure : ℕ) (w : want.Want) (r : Looked)
+module _ {k n : ℕ} {words scratch tree held after : List ℕ} (structure entries : ℕ) (w : want.Want) (r : Looked)
     (ready : Ready k (w .link .tag) n words scratch tree held)
     (looked : LookedFor k (w .link .tag) (wishOfWant w) n words tree held after r) where
   abbrev leaf : ℕ
@@ -74,8 +74,8 @@ module _ {k n : ℕ} {words scratch tree held after : List ℕ} (structure : ℕ
   -- Damage, whether found by the read half or by the structure's test: nothing was written.
   want-shut : (found : node.Node)
       → ((hs : List Held) (ls : List ℕ) (d : ℕ) (c : Node ℕ → Prog ℕ (Outcome ℕ)) → map (λ (h : Held). h .node .key) hs ≡ held
-      → wantRound (structureOf structure) k d (toWant w) c (going n words tree hs ls) ≡ shut 8 (revealing leaf (going n words tree hs ls)))
-      → Wanted structure k n w words tree held words after tree (record { mark = 8; waiting = n; taken = false; node = found })
+      → wantRound (structureOf structure) entries k d (toWant w) c (going n words tree hs ls) ≡ shut 8 (revealing leaf (going n words tree hs ls)))
+      → Wanted structure entries k n w words tree held words after tree (record { mark = 8; waiting = n; taken = false; node = found })
   want-shut found shuts =
       record {
         round = λ hs ls d c keys. rw (append-nil hs) (shuts hs ls d c keys);
@@ -85,10 +85,10 @@ module _ {k n : ℕ} {words scratch tree held after : List ℕ} (structure : ℕ
       }
 
   pub want-damage : (found : node.Node) → r .ok ≡ false
-      → Wanted structure k n w words tree held words after tree (record { mark = 8; waiting = n; taken = false; node = found })
+      → Wanted structure entries k n w words tree held words after tree (record { mark = 8; waiting = n; taken = false; node = found })
   want-damage found bad =
       want-shut found
-      (λ hs ls d c keys. want-damaged (structureOf structure) k d (toWant w) c (going n words tree hs ls)
+      (λ hs ls d c keys. want-damaged (structureOf structure) entries k d (toWant w) c (going n words tree hs ls)
       (with-held hs ls none keys (looked-damage (wishOfWant w) r ready looked bad)))
 
   module _ (good : r .ok ≡ true) where
@@ -101,23 +101,23 @@ module _ {k n : ℕ} {words scratch tree held after : List ℕ} (structure : ℕ
     in-hand-taken : in-hand .hand .taken ≡ some (toNode (r .node))
     in-hand-taken = taken-node (r .at) (r .count) after (r .node) in-hand (looked .inside refl good) (looked .node refl good)
 
-    pub want-untested : (found : node.Node) → test (structureOf structure) (toWant w) (toNode (r .node)) ≡ false
-        → Wanted structure k n w words tree held words after tree (record { mark = 8; waiting = n; taken = false; node = found })
+    pub want-untested : (found : node.Node) → test (structureOf structure) entries (toWant w) (toNode (r .node)) ≡ false
+        → Wanted structure entries k n w words tree held words after tree (record { mark = 8; waiting = n; taken = false; node = found })
     want-untested found failed =
         want-shut found
-        (λ hs ls d c keys. want-failed (structureOf structure) k d (toWant w) c (going n words tree hs ls) (in-hand .hand) (toNode (r .node))
+        (λ hs ls d c keys. want-failed (structureOf structure) entries k d (toWant w) c (going n words tree hs ls) (in-hand .hand) (toNode (r .node))
         (with-held hs ls (some (in-hand .hand)) keys (in-hand .read)) in-hand-taken failed)
 
-    pub want-goes : {scratch′ words′ tree′ : List ℕ} {left : ℕ} (mark : ℕ) → test (structureOf structure) (toWant w) (toNode (r .node)) ≡ true
+    pub want-goes : {scratch′ words′ tree′ : List ℕ} {left : ℕ} (mark : ℕ) → test (structureOf structure) entries (toWant w) (toNode (r .node)) ≡ true
         → Settled k leaf (r .count) true (r .at) after tree scratch′ words′ tree′ left → mark ≡ pick (overflows left (length held + 1)) 9 0
-        → Wanted structure k n w words tree held words′ scratch′ tree′ (record { mark = mark; waiting = left; taken = true; node = r .node })
+        → Wanted structure entries k n w words tree held words′ scratch′ tree′ (record { mark = mark; waiting = left; taken = true; node = r .node })
     want-goes {scratch′} {words′} {tree′} {left} mark passed settled marked =
         let i = in-hand in
         let room : r .count ≤ places = omega (arith, looked .within, ready .small, ready .few) in
         let same : takenKeys leafFormat (i .hand .taken) ≡ r .node .key ∷ [] = ap (takenKeys leafFormat) in-hand-taken in
         record {
           round =
-              λ hs ls d c keys. want-taken (structureOf structure) k d (toWant w) c (going n words tree hs ls) (i .hand) (toNode (r .node))
+              λ hs ls d c keys. want-taken (structureOf structure) entries k d (toWant w) c (going n words tree hs ls) (i .hand) (toNode (r .node))
               (with-held hs ls (some (i .hand)) keys (i .read)) in-hand-taken passed
               ∙ settled-close ready i settled room hs (hs ++ (takenAs w d (toNode (r .node)) ∷ [])) ls (c (retag d (toNode (r .node)))) (length held + 1) mark
               (length-append hs (takenAs w d (toNode (r .node)) ∷ [])

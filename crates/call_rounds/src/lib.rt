@@ -3,21 +3,16 @@ use buckets::PATH_SLOTS;
 use buckets::WORDS;
 use buckets::read::Wish;
 use buckets::read::look;
-use buckets::stash::get;
+use buckets::stash_words::get;
 use buckets::write::mark_at_close;
 use buckets::write::settle;
+use operations::Want;
 use slots::Node;
 use slots::codec::key_of;
-use steps::Want;
-use steps::fetched::map_test;
-use steps::fetched::stack_test;
+use steps::fetch_test::passes;
 ghost use mathlib.Core.Path.{_≡_};
 ghost use Prim.Native.Nat.{_+_, _^_, _<_};
-ghost use Rattle.method.specs.Call.{test};
 ghost use Rattle.basics.specs.Ascending.{ascending};
-ghost use Rattle.state.specs.Ticket.{structureOf};
-ghost use Rattle.steps.specs.Method.{toWant};
-ghost use Rattle.leaf_nodes.specs.Convert.{toNode};
 ghost use Rattle.waiting.specs.Waiting.{Holds};
 ghost use Rattle.call_rounds.specs.OneRound.{keysWaiting, Ready, Idled, Wanted};
 
@@ -33,16 +28,6 @@ pub struct Took {
     pub waiting: usize,
     pub taken: bool,
     pub node: Node,
-}
-
-// The structure's fetch test of a wanted node: 1 is the map, 2 the stack.
-fn passes(structure: u8, want: Want, n: Node) -> bool
-    ensures { λ r. ⌜ r ≡ test (structureOf structure) (toWant want) (toNode n) ⌝ }
-{
-    if structure == 1 {
-        return map_test(want, n);
-    }
-    stack_test(want, n)
 }
 
 // A round of a leaf that wants none. The n waiting nodes are in w; s is scratch space; `held` are the keys of the held nodes.
@@ -78,6 +63,7 @@ pub fn idle_round(
 // anything is written.
 pub fn want_round(
     structure: u8,
+    entries: u16,
     want: Want,
     w: &mut [u64; WORDS],
     n: usize,
@@ -87,7 +73,7 @@ pub fn want_round(
     held: &[u32],
 ) -> Took
     requires { ⌜ Ready size (want .link .tag) n (now w) (now s) (now tree) (now held) ⌝ }
-    ensures { λ r. ⌜ Wanted structure size n want (now (w .entry)) (now (tree .entry)) (now (held .entry)) (now (w .exit)) (now (s .exit)) (now (tree .exit)) r ⌝ }
+    ensures { λ r. ⌜ Wanted structure entries size n want (now (w .entry)) (now (tree .entry)) (now (held .entry)) (now (w .exit)) (now (s .exit)) (now (tree .exit)) r ⌝ }
 {
     let link = want.link;
     let leaf = link.tag as usize;
@@ -112,7 +98,7 @@ pub fn want_round(
             node,
         };
     }
-    if !passes(structure, want, node) {
+    if !passes(structure, entries, want, node) {
         return Took {
             mark: 8,
             waiting: n,

@@ -5,7 +5,7 @@
 // wants none. t: a round of the tag's leaf takes the node out, which waits again under the leaf as its tag. Keys above 9 are letters.
 use buckets::WORDS;
 use buckets::read::Wish;
-use buckets::stash::get;
+use buckets::stash_words::get;
 use libc::STDOUT_FILENO;
 use single_rounds::Closed;
 use single_rounds::round;

@@ -5,7 +5,7 @@ use buckets::PATH_SLOTS;
 use buckets::WORDS;
 use buckets::read::Wish;
 use buckets::read::look;
-use buckets::stash::join_slot;
+use buckets::stash_words::join_slot;
 use buckets::write::mark_at_close;
 use buckets::write::settle;
 use slots::Node;

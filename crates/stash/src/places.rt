@@ -1,8 +1,8 @@
 // The waiting nodes of a state as words, and back.
 use super::words_of;
 use buckets::WORDS;
-use buckets::stash::get;
-use buckets::stash::put;
+use buckets::stash_words::get;
+use buckets::stash_words::put;
 use slots::Link;
 use slots::codec::node_of;
 use state::Place;

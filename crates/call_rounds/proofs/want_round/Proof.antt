@@ -24,7 +24,7 @@ returns c =
     let b = c .before .before .before .before .before .before .before .before .before .before .before .before in
     let a = b .args in
     let look = c .before .before .before .look in
-    want-damage (a .structure) (a .want) (look .result) (b .pre) (look .ensures .0) (look .result .node) (not-true (look .result .ok) (c .if1 .taken))
+    want-damage (a .structure) (a .entries) (a .want) (look .result) (b .pre) (look .ensures .0) (look .result .node) (not-true (look .result .ok) (c .if1 .taken))
 
 passes-requires : tie.Need-passes-requires
 passes-requires c κs = search needs
@@ -38,7 +38,7 @@ returns-2 c =
     let a = b .args in
     let look = c .before .before .before .before .before .look in
     let passes = c .before .passes in
-    want-untested (a .structure) (a .want) (look .result) (b .pre) (look .ensures .0) (not-false (look .result .ok) (c .before .before .if1 .left)) (look .result .node)
+    want-untested (a .structure) (a .entries) (a .want) (look .result) (b .pre) (look .ensures .0) (not-false (look .result .ok) (c .before .before .if1 .left)) (look .result .node)
     (sym (passes .ensures) ∙ not-true (passes .result) (c .if2 .taken))
 
 settle-requires : tie.Need-settle-requires
@@ -71,7 +71,7 @@ returns-3 c =
     let look = c .before .before .before .before .before .before .before .before .before .before .before .before .before .look in
     let passes = c .before .before .before .before .before .before .before .before .before .passes in
     let settle = c .before .before .before .settle in
-    want-goes (a .structure) (a .want) (look .result) (b .pre) (look .ensures .0)
+    want-goes (a .structure) (a .entries) (a .want) (look .result) (b .pre) (look .ensures .0)
     (not-false (look .result .ok) (c .before .before .before .before .before .before .before .before .before .before .if1 .left)) (c .mark-at-close .result)
     (sym (passes .ensures) ∙ not-false (passes .result) (c .before .before .before .before .before .before .before .before .if2 .left)) (settle .ensures)
     (c .mark-at-close .ensures)

@@ -1,4 +1,4 @@
--- `buckets::stash::shift_up` meets its contract. The invariant: of the first m slots, those from i on stand one place up.
+-- `buckets::stash_words::shift_up` meets its contract. The invariant: of the first m slots, those from i on stand one place up.
 use mathlib.Core.Path.{_≡_, _∙_, ap}
 use Prim.Native.Nat.{_+_, _≤_}
 use lib.ListN.{length, take, set}
@@ -8,8 +8,8 @@ use Rattle.buckets.specs.WordsLaws.{slots-count}
 use Rattle.buckets.specs.PlaceLaws.{shifted, shifted-none, shifted-more}
 use borrow.Author.Needs.{needs}
 use native.Mathlib.Omega.{arith}
-use Rattle.buckets.proofs.stash.shift_up.Statement.{statement}
-use Rattle.buckets.proofs.stash.shift_up.Tie as tie
+use Rattle.buckets.proofs.stash_words.shift_up.Statement.{statement}
+use Rattle.buckets.proofs.stash_words.shift_up.Tie as tie
 
 abbrev Inv-loop : tie.InvT-loop
 Inv-loop s₀ m at i₀ s i = (at ≤ i) × (i ≤ m) × (length s ≡ wordCount) × (take (m + 1) (slotsOf s) ≡ shifted (slotsOf s₀) m i)

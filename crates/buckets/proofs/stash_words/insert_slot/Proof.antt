@@ -1,4 +1,4 @@
--- `buckets::stash::insert_slot` meets its contract.
+-- `buckets::stash_words::insert_slot` meets its contract.
 use mathlib.Core.Path.{_≡_, sym, _∙_, ap}
 use Prim.Native.Nat.{ℕ, _+_}
 use lib.ListN.{take}
@@ -9,8 +9,8 @@ use Rattle.buckets.specs.Stash.{upperBound}
 use Rattle.buckets.specs.StashLaws.{upper-first, insert-upper-stored}
 use native.Mathlib.Omega.{arith}
 use borrow.Author.Needs.{needs}
-use Rattle.buckets.proofs.stash.insert_slot.Statement.{statement}
-use Rattle.buckets.proofs.stash.insert_slot.Tie as tie
+use Rattle.buckets.proofs.stash_words.insert_slot.Statement.{statement}
+use Rattle.buckets.proofs.stash_words.insert_slot.Tie as tie
 
 key-of-requires : tie.Need-key-of-requires
 key-of-requires c κs = search needs

@@ -1,4 +1,4 @@
--- `buckets::stash::join_slot` meets its contract. The invariant: of the first m slots, those from i on have a greater key and stand one place up.
+-- `buckets::stash_words::join_slot` meets its contract. The invariant: of the first m slots, those from i on have a greater key and stand one place up.
 use mathlib.Core.Path.{_≡_, sym, _∙_, ap}
 use lib.ListN.{length, take, getD}
 use Prim.Native.Nat.{ℕ, _+_, _-_, _<_}
@@ -10,8 +10,8 @@ use Rattle.buckets.specs.WordsLaws.{slots-count, words-key, key-got}
 use Rattle.buckets.specs.StashLaws.{ascending-holds, Rising, rising-start, rising-first, rising-placed, rising-twice, rising-turn}
 use borrow.Author.Needs.{needs}
 use native.Mathlib.Omega.{arith}
-use Rattle.buckets.proofs.stash.join_slot.Statement.{statement}
-use Rattle.buckets.proofs.stash.join_slot.Tie as tie
+use Rattle.buckets.proofs.stash_words.join_slot.Statement.{statement}
+use Rattle.buckets.proofs.stash_words.join_slot.Tie as tie
 
 abbrev Inv-loop : tie.InvT-loop
 Inv-loop s₀ m x key i₀ s i = (length s ≡ wordCount) × Rising wordsFormat (slotsOf s₀) m x zeroSlot (slotsOf s) i

@@ -1,4 +1,4 @@
--- `buckets::stash::copy` meets its contract. The invariant: the first i slots are copied.
+-- `buckets::stash_words::copy` meets its contract. The invariant: the first i slots are copied.
 use mathlib.Core.Path.{_≡_, refl, _∙_, ap}
 use Prim.Native.Nat.{_+_, _-_, _≤_}
 use lib.ListN.{length, take, set}
@@ -8,8 +8,8 @@ use Rattle.buckets.specs.WordsLaws.{slots-count}
 use Rattle.buckets.specs.PlaceLaws.{copied-more}
 use borrow.Author.Needs.{needs}
 use native.Mathlib.Omega.{arith}
-use Rattle.buckets.proofs.stash.copy.Statement.{statement}
-use Rattle.buckets.proofs.stash.copy.Tie as tie
+use Rattle.buckets.proofs.stash_words.copy.Statement.{statement}
+use Rattle.buckets.proofs.stash_words.copy.Tie as tie
 
 abbrev Inv-loop : tie.InvT-loop
 Inv-loop from n to₀ i₀ to i = (i ≤ n) × (length to ≡ wordCount) × (take i (slotsOf to) ≡ take i (slotsOf from))

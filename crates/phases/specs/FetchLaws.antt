@@ -12,16 +12,15 @@ use Rattle.method.specs.Map.{Outcome}
 use Rattle.method.specs.Call.{drawsFrom}
 use Rattle.runs.specs.Calls.{draws-length}
 use Rattle.calls.specs.Fetch.{Going}
-use Rattle.steps.specs.declared.Came.{Came}
-use Rattle.steps.specs.declared.Held.{Held}
-use Rattle.steps.specs.Method.{nodesOf, wantedIn}
+use Rattle.operations.specs.Method.{wantedIn}
+use Rattle.node_rows.specs.Held.{Held, nodesOf}
 use Rattle.call_rounds.specs.OneRound.{going, endedWith, Rests}
 use Rattle.idle_rounds.specs.declared.idle.Idle.{Idle}
 use Rattle.phases.specs.declared.wanting.Job.{Job}
 use Rattle.phases.specs.declared.wanting.Fetched.{Fetched}
 use Rattle.idle_rounds.specs.Idle.{Between, keysHeld, IdledAll}
-use Rattle.phases.specs.Wanting.{heldIn, structureIn, programOf, Begins, Walked, Fetches}
-use Rattle.phases.specs.WantingLaws.{rounds-left, done-rounds, walked-few, walked-counted, walked-paired}
+use Rattle.phases.specs.Wanting.{heldBy, structureIn, programOf, Begins, Walked, Fetches}
+use Rattle.phases.specs.WantingLaws.{rounds-left, done-rounds, walked-few}
 
 -- A program that wants none is done.
 pub record Done (q : Prog ℕ (Outcome ℕ)) : Type 0 where
@@ -56,18 +55,18 @@ pub drop-on : (i n : ℕ) (xs ys : List ℕ) → drop i xs ≡ drop i ys → dro
 drop-on i n xs ys e = sym (drop-drop n i xs) ∙ ap (drop n) e ∙ drop-drop n i ys
 
 module _ (j : Job) (draw : ℕ → ℕ) (is-leaf : (d : ℕ) → draw d < 2 ^ j .size) {n : ℕ} {words₀ scratch₀ tree₀ : List ℕ} (b : Begins j draw n words₀ scratch₀ tree₀)
-    (trace₀ : List ℕ) {h : Held} {came : List Came} {m : ℕ} {words scratch tree keys trace : List ℕ}
-    (inv : Walked j draw n words₀ tree₀ trace₀ h came m words scratch tree keys trace)
+    (trace₀ : List ℕ) {h : Held} {froms : List ℕ} {m : ℕ} {words scratch tree keys trace : List ℕ}
+    (inv : Walked j draw n words₀ tree₀ trace₀ h froms m words scratch tree keys trace)
     (finished : wantedIn (after (programOf j) (nodesOf h)) ≡ none) (room : j .rounds ≤ length trace₀) where
   pub rest-fetched : {words′ scratch′ tree′ trace′ : List ℕ} {r : Idle}
       → IdledAll (j .size) m draw (j .rounds - h .count) (h .count) (h .count) words tree trace (take (h .count - 0) keys) words′ scratch′ tree′ trace′ r
-      → Fetches j draw n words₀ tree₀ trace₀ words′ scratch′ tree′ trace′
-      (record { held = h; came = came; waiting = r .waiting; mark = r .mark; leaves = h .count + r .shown })
+      → Fetches j draw n words₀ tree₀ trace₀ h froms words′ scratch′ tree′ trace′
+      (record { count = h .count; waiting = r .waiting; mark = r .mark; leaves = h .count + r .shown })
   rest-fetched {words′} {scratch′} {tree′} {trace′} {r} idled =
       let same : take (h .count - 0) keys ≡ take (h .count) keys = rw (sub-zero (h .count)) in
       let i = h .count in
       let draws = drawsFrom draw (r .shown) i in
-      let here : Going = going m words tree (heldIn h came) (take i trace) in
+      let here : Going = going m words tree (heldBy h froms) (take i trace) in
       let q = after (programOf j) (nodesOf h) in
       let d = is-done q finished in
       let many : length draws ≡ r .shown = draws-length draw (r .shown) i in
@@ -76,13 +75,14 @@ module _ (j : Job) (draw : ℕ → ℕ) (is-leaf : (d : ℕ) → draw d < 2 ^ j 
       let later : drop (i + r .shown) trace′ ≡ drop (i + r .shown) trace = rw (idled .revealed) (subst (λ (x : ℕ). drop (i + x) (sets trace i draws) ≡ drop (i + x) trace) many (stored-rest trace draws i fits)) in
       record {
         outcome =
-            rounds-left (structureIn j) (j .size) draw (programOf j) (going n words₀ tree₀ [] []) i (j .rounds) here q (inv .upto) (inv .so-far)
-            ∙ rw (d .is, first) (done-rounds (structureIn j) (j .size) draw (j .rounds - i) i (d .outcome) here ∙ idled .rounds (heldIn h came) (take i trace) (d .outcome) (inv .keys-are ∙ sym same));
+            rounds-left (structureIn j) (j .entries) (j .size) draw (programOf j) (going n words₀ tree₀ [] []) i (j .rounds) here q (inv .upto) (inv .so-far)
+            ∙ rw (d .is, first) (done-rounds (structureIn j) (j .entries) (j .size) draw (j .rounds - i) i (d .outcome) here ∙ idled .rounds (heldBy h froms) (take i trace) (d .outcome) (inv .keys-are ∙ sym same));
         finished = λ e. finished;
+        counted = refl;
         few = walked-few j draw is-leaf b trace₀ inv;
-        counted = walked-counted j draw is-leaf b trace₀ inv;
-        paired = walked-paired j draw is-leaf b trace₀ inv;
         low = inv .low;
+        row-sized = inv .row-sized;
+        froms-sized = inv .froms-sized;
         rests = rw (inv .keys-are, ← same) (idled .rests);
         no-more = omega (arith, idled .no-more, inv .upto);
         all-shown = λ e. omega (arith, idled .all-shown e, inv .upto);

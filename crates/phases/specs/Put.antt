@@ -30,12 +30,12 @@ pub record Stepped (k n : ℕ) (words scratch tree : List ℕ) : Type 0 where
   pub few : n ≤ 65
   pub twice : ascending (keysWaiting n words) ≡ false → noneTwice (keysWaiting n words) ≡ false
 
--- The F put rounds came to mark and waiting nodes as said, for any leaves revealed before and any outcome; their leaves follow
+-- The F put rounds, from draw `first` on, came to mark and waiting nodes as said, for any leaves revealed before and any outcome; their leaves follow
 -- those of the F fetch rounds in the trace.
-pub record Puts (k n : ℕ) (draw : ℕ → ℕ) (F : ℕ) (words tree trace words′ tree′ trace′ : List ℕ) (r : Idle) : Type 0 where
-  pub rounds : (ls : List ℕ) (o : Outcome ℕ) → putRounds k draw F (F + 1) o (going n words tree [] ls)
-      ≡ endedWith (r .mark) (going (r .waiting) words′ tree′ [] (ls ++ drawsFrom draw (r .shown) (F + 1))) (done o)
-  pub revealed : trace′ ≡ sets trace F (drawsFrom draw (r .shown) (F + 1))
+pub record Puts (k n : ℕ) (draw : ℕ → ℕ) (F first : ℕ) (words tree trace words′ tree′ trace′ : List ℕ) (r : Idle) : Type 0 where
+  pub rounds : (ls : List ℕ) (o : Outcome ℕ) → putRounds k draw F first o (going n words tree [] ls)
+      ≡ endedWith (r .mark) (going (r .waiting) words′ tree′ [] (ls ++ drawsFrom draw (r .shown) first)) (done o)
+  pub revealed : trace′ ≡ sets trace F (drawsFrom draw (r .shown) first)
   pub holds : Holds (r .waiting) words′
   pub no-more : r .shown ≤ F
   pub all-shown : r .mark ≡ 0 → r .shown ≡ F

@@ -42,9 +42,9 @@ module _ {k n : ℕ} {words scratch tree : List ℕ} (b : Stepped k n words scra
         few = omega (arith, b .few);
       }
 
-module _ (k n : ℕ) (draw : ℕ → ℕ) (F : ℕ) (words tree trace : List ℕ) where
-  pub puts-idled : {words′ scratch′ tree′ trace′ : List ℕ} {r : Idle} → IdledAll k n draw F (F + 1) F words tree trace [] words′ scratch′ tree′ trace′ r
-      → Puts k n draw F words tree trace words′ tree′ trace′ r
+module _ (k n : ℕ) (draw : ℕ → ℕ) (F first : ℕ) (words tree trace : List ℕ) where
+  pub puts-idled : {words′ scratch′ tree′ trace′ : List ℕ} {r : Idle} → IdledAll k n draw F first F words tree trace [] words′ scratch′ tree′ trace′ r
+      → Puts k n draw F first words tree trace words′ tree′ trace′ r
   puts-idled i =
       record {
         rounds = λ ls o. i .rounds [] ls o refl;
@@ -55,16 +55,16 @@ module _ (k n : ℕ) (draw : ℕ → ℕ) (F : ℕ) (words tree trace : List ℕ
       }
 
   -- A key that stands twice is damage to the first round.
-  pub puts-twice : {scratch : List ℕ} → Stepped k n words scratch tree → ascending (keysWaiting n words) ≡ false → 1 ≤ F → (leaf : ℕ) → leaf ≡ draw (F + 1)
-      → Puts k n draw F words tree trace words tree (set trace F leaf) (record { mark = 8; waiting = n; shown = 1 })
+  pub puts-twice : {scratch : List ℕ} → Stepped k n words scratch tree → ascending (keysWaiting n words) ≡ false → 1 ≤ F → (leaf : ℕ) → leaf ≡ draw first
+      → Puts k n draw F first words tree trace words tree (set trace F leaf) (record { mark = 8; waiting = n; shown = 1 })
   puts-twice b e some leaf drawn =
-      let one : drawsFrom draw 1 (F + 1) ≡ leaf ∷ [] = draws-one draw (F + 1) ∙ ap (λ (d : ℕ). d ∷ []) (sym drawn) in
+      let one : drawsFrom draw 1 first ≡ leaf ∷ [] = draws-one draw first ∙ ap (λ (d : ℕ). d ∷ []) (sym drawn) in
       record {
         rounds = λ ls o.
             let more : F ≡ suc (F - 1) = omega arith in
-            ap (λ (m : ℕ). putRounds k draw m (F + 1) o (going n words tree [] ls)) more
-            ∙ put-shuts k draw (F - 1) (F + 1) o (going n words tree [] ls) (going n words tree [] (ls ++ (draw (F + 1) ∷ []))) 8
-            (twice-shuts k (draw (F + 1)) (done o) (going n words tree [] ls) refl (b .twice e))
+            ap (λ (m : ℕ). putRounds k draw m first o (going n words tree [] ls)) more
+            ∙ put-shuts k draw (F - 1) first o (going n words tree [] ls) (going n words tree [] (ls ++ (draw first ∷ []))) 8
+            (twice-shuts k (draw first) (done o) (going n words tree [] ls) refl (b .twice e))
             ∙ rw (one, drawn);
         revealed = rw one;
         holds = b .holds;

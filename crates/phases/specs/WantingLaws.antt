@@ -22,8 +22,9 @@ use Rattle.method.specs.Prog.{From, Want, Prog, done, want, after}
 use Rattle.method.specs.Answer as answer
 use Rattle.method.specs.Answer.{Structure}
 use Rattle.method.specs.Map.{Outcome}
-use Rattle.method.specs.Rounds.{rounds}
+use Rattle.method.specs.Rounds.{rounds, spareDraw}
 use Rattle.method.specs.Call.{capacity, program, test}
+use Rattle.runs.specs.Calls.{program-same}
 use Rattle.rounds.specs.Round.{Hand, readHalf, limit}
 use Rattle.leaf_nodes.specs.Leaf.{leafFormat}
 use Rattle.calls.specs.Call.{putRounds}
@@ -43,17 +44,18 @@ use Rattle.idle_rounds.specs.Idle.{Between, keysHeld}
 use Rattle.idle_rounds.specs.IdleLaws.{put-none, put-goes, put-shuts, goes-on, stops-here, between-ready}
 use Rattle.phases.specs.declared.wanting.Job.{Job}
 use Rattle.phases.specs.declared.wanting.Fetched.{Fetched}
-use Rattle.phases.specs.Wanting.{heldOf, fromsIn, heldIn, structureIn, programOf, storeAt, fetched, Begins, Walked, Walks, Fetches}
-use Rattle.steps.specs.declared.Came.{Came}
-use Rattle.steps.specs.declared.Held.{Held}
-use Rattle.steps.specs.declared.Want as code
+use Rattle.phases.specs.Wanting.{heldBy, structureIn, programOf, storeAt, fetched, Begins, Walked, Walks, Fetches}
+use Rattle.operations.specs.declared.Want as code
 use Rattle.slots.specs.declared.Node as node
-use Rattle.steps.specs.Method.{toLink, toNode, toFrom, toOp, toWant, nodesOf, wantedIn}
-use Rattle.steps.specs.Heights.{Low, Lows}
-use Rattle.steps.specs.HeightLaws.{lows-append}
-use Rattle.steps.specs.HeldLaws.{first-length, first-more, held-more}
-use Rattle.steps.specs.Outcome.{LowHeld}
-use Rattle.steps.specs.WantLaws.{wanted-low, map-tested-low, stack-tested-low}
+use Rattle.leaf_nodes.specs.Convert.{toLink, toNode}
+use Rattle.operations.specs.Method.{toFrom, toOp, toWant, wantedIn}
+use Rattle.node_rows.specs.Row.{places, fetches, fromIn, fromsIn}
+use Rattle.node_rows.specs.Held.{Held, HeldFrom, nodesOf}
+use Rattle.node_rows.specs.Heights.{Low, Lows}
+use Rattle.node_rows.specs.HeldLaws.{first-length, first-more, held-more}
+use Rattle.map_nodes.specs.HeightLaws.{lows-append}
+use Rattle.tag_moves.specs.Moved.{heldOf}
+use Rattle.steps.specs.WantLaws.{wanted-low, tested-low}
 use Rattle.waiting.specs.WaitingLaws.{waiting-length}
 use Rattle.call_rounds.specs.declared.Took.{Took}
 use Rattle.call_rounds.specs.OneRound.{going, endedWith, Ready, Rests, heldToo, takenAs, Wanted}
@@ -102,33 +104,33 @@ held-length (g ∷ fs) [] e = let z : ⊥ = omega arith in absurd z
 held-length (g ∷ fs) (m ∷ ns) e = let r = held-length fs ns (omega arith) in omega arith
 
 -- ---- one round more
-module _ (s : Structure) (k : ℕ) (draw : ℕ → ℕ) (p : Prog ℕ (Outcome ℕ)) (g : Going) where
-  one-round : (i : ℕ) (q : Prog ℕ (Outcome ℕ)) (h : Going) → fetchRounds s k draw 1 i q h ≡ fetchRound s k (draw i) q h
+module _ (s : Structure) (entries k : ℕ) (draw : ℕ → ℕ) (p : Prog ℕ (Outcome ℕ)) (g : Going) where
+  one-round : (i : ℕ) (q : Prog ℕ (Outcome ℕ)) (h : Going) → fetchRounds s entries k draw 1 i q h ≡ fetchRound s entries k (draw i) q h
   unfolding goesOn
-  one-round i q h = fetches-next s k draw 0 i q h ∙ go (fetchRound s k (draw i) q h)
+  one-round i q h = fetches-next s entries k draw 0 i q h ∙ go (fetchRound s entries k (draw i) q h)
     where
-      go : (x : Round (Outcome ℕ)) → goesOn s k draw x (λ h q. fetchRounds s k draw 0 (suc i) q h) ≡ x
+      go : (x : Round (Outcome ℕ)) → goesOn s entries k draw x (λ h q. fetchRounds s entries k draw 0 (suc i) q h) ≡ x
       go (shut m h) = refl
-      go (on h q) = fetches-none s k draw (suc i) q h
+      go (on h q) = fetches-none s entries k draw (suc i) q h
 
-  pub round-more : (i : ℕ) (h : Going) (w : Want ℕ) (c : Node ℕ → Prog ℕ (Outcome ℕ)) → fetchRounds s k draw i 0 p g ≡ on h (want w c)
-      → fetchRounds s k draw (i + 1) 0 p g ≡ wantRound s k (draw i) w c h
+  pub round-more : (i : ℕ) (h : Going) (w : Want ℕ) (c : Node ℕ → Prog ℕ (Outcome ℕ)) → fetchRounds s entries k draw i 0 p g ≡ on h (want w c)
+      → fetchRounds s entries k draw (i + 1) 0 p g ≡ wantRound s entries k (draw i) w c h
   unfolding goesOn fetchRound
-  round-more i h w c e = fetches-split s k draw i 1 0 p g ∙ rw (e, zero-add i) (one-round i (want w c) h)
+  round-more i h w c e = fetches-split s entries k draw i 1 0 p g ∙ rw (e, zero-add i) (one-round i (want w c) h)
 
   -- A store that was closed stays so for the rounds that are left.
-  pub closed-early : (i F : ℕ) (m : ℕ) (h : Going) → i ≤ F → fetchRounds s k draw i 0 p g ≡ shut m h → fetchRounds s k draw F 0 p g ≡ shut m h
+  pub closed-early : (i F : ℕ) (m : ℕ) (h : Going) → i ≤ F → fetchRounds s entries k draw i 0 p g ≡ shut m h → fetchRounds s entries k draw F 0 p g ≡ shut m h
   unfolding goesOn
   closed-early i F m h le e =
       let all : F ≡ i + (F - i) = omega arith in
-      rw all (fetches-split s k draw i (F - i) 0 p g ∙ rw e)
+      rw all (fetches-split s entries k draw i (F - i) 0 p g ∙ rw e)
 
-  pub rounds-left : (i F : ℕ) (h : Going) (q : Prog ℕ (Outcome ℕ)) → i ≤ F → fetchRounds s k draw i 0 p g ≡ on h q
-      → fetchRounds s k draw F 0 p g ≡ fetchRounds s k draw (F - i) i q h
+  pub rounds-left : (i F : ℕ) (h : Going) (q : Prog ℕ (Outcome ℕ)) → i ≤ F → fetchRounds s entries k draw i 0 p g ≡ on h q
+      → fetchRounds s entries k draw F 0 p g ≡ fetchRounds s entries k draw (F - i) i q h
   unfolding goesOn
   rounds-left i F h q le e =
       let all : F ≡ i + (F - i) = omega arith in
-      rw all (fetches-split s k draw i (F - i) 0 p g ∙ rw (e, zero-add i, ← all))
+      rw all (fetches-split s entries k draw i (F - i) 0 p g ∙ rw (e, zero-add i, ← all))
 
 -- ---- what holds between the fetch rounds, on any content
 most-rounds : (s : Structure) (k : ℕ) → k ≤ 8 → rounds s k ≤ 33
@@ -159,8 +161,11 @@ module _ (j : Job) (draw : ℕ → ℕ) (is-leaf : (d : ℕ) → draw d < 2 ^ j 
   Ends : ℕ → Round (Outcome ℕ) → Type 0
   Ends i x = FetchEnds {s = structureIn j} (j .size) i (j .rounds - i) (toOp (j .op)) (storeAt j n words tree) x
 
-  pub same-program : programOf j ≡ program 0 (toOp (j .op)) (draw (rounds (structureIn j) (j .size))) (capacity (j .size)) (j .entries) (toLink (j .root))
-  same-program = rw (b .tag-is, b .limit-is, b .rounds-are)
+  pub same-program : programOf j ≡ program 0 (toOp (j .op)) (λ i. draw (spareDraw (rounds (structureIn j) (j .size)) i)) (capacity (j .size)) (j .entries) (toLink (j .root))
+  same-program =
+      rw (b .limit-is)
+      (program-same 0 (toOp (j .op)) (λ i. j .tag) (λ i. draw (spareDraw (rounds (structureIn j) (j .size)) i)) (capacity (j .size)) (j .entries) (toLink (j .root))
+      (b .tag-is ∙ ap draw (b .rounds-are ∙ sym (add-zero (rounds (structureIn j) (j .size))))))
 
   ends : (i : ℕ) → i ≤ j .rounds → Ends i (fetched j draw i n words tree)
   unfolding Ends
@@ -202,10 +207,10 @@ stored-later : (i : ℕ) (trace trace₀ : List ℕ) (v : ℕ) → drop i trace 
 stored-later i trace trace₀ v e = drop-set-lt (suc i) trace i v (omega arith) ∙ drop-more i trace trace₀ e
 
 module _ (j : Job) (draw : ℕ → ℕ) (is-leaf : (d : ℕ) → draw d < 2 ^ j .size) {n : ℕ} {words₀ scratch₀ tree₀ : List ℕ} (b : Begins j draw n words₀ scratch₀ tree₀)
-    (trace₀ : List ℕ) {h : Held} {came : List Came} {m : ℕ} {words scratch tree keys trace : List ℕ}
-    (inv : Walked j draw n words₀ tree₀ trace₀ h came m words scratch tree keys trace) where
+    (trace₀ : List ℕ) {h : Held} {froms : List ℕ} {m : ℕ} {words scratch tree keys trace : List ℕ}
+    (inv : Walked j draw n words₀ tree₀ trace₀ h froms m words scratch tree keys trace) where
   abbrev here : Going
-  here = going m words tree (heldIn h came) (take (h .count) trace)
+  here = going m words tree (heldBy h froms) (take (h .count) trace)
 
   now-midway : Midway (j .size) (h .count) here (after (programOf j) (nodesOf h))
   now-midway = midway j draw is-leaf b (h .count) here (after (programOf j) (nodesOf h)) (inv .upto) (inv .so-far)
@@ -213,17 +218,17 @@ module _ (j : Job) (draw : ℕ → ℕ) (is-leaf : (d : ℕ) → draw d < 2 ^ j 
   pub walked-few : h .count ≤ 33
   walked-few = omega (arith, inv .upto, at-most j draw is-leaf b)
 
-  froms-length : length (fromsIn h came) ≡ h .count
-  froms-length = first-length (λ (c : Came). toFrom (c .from)) came (h .count) (omega (arith, inv .came-sized, walked-few))
+  froms-length : length (fromsIn (h .count) froms) ≡ h .count
+  froms-length = first-length fromIn froms (h .count) (omega (arith, inv .froms-sized, walked-few))
 
   pub walked-counted : length (nodesOf h) ≡ h .count
-  walked-counted = first-length toNode (h .nodes) (h .count) (omega (arith, inv .places, walked-few))
+  walked-counted = first-length toNode (h .nodes) (h .count) (omega (arith, inv .row-sized, walked-few))
 
-  pub walked-paired : length (fromsIn h came) ≡ length (nodesOf h)
+  pub walked-paired : length (fromsIn (h .count) froms) ≡ length (nodesOf h)
   walked-paired = froms-length ∙ sym walked-counted
 
-  held-count : length (heldIn h came) ≡ h .count
-  held-count = held-length (fromsIn h came) (nodesOf h) (froms-length ∙ sym walked-counted) ∙ walked-counted
+  held-count : length (heldBy h froms) ≡ h .count
+  held-count = held-length (fromsIn (h .count) froms) (nodesOf h) (froms-length ∙ sym walked-counted) ∙ walked-counted
 
   pub walked-between : Between (j .size) m words scratch tree (take (h .count) keys)
   walked-between =
@@ -237,8 +242,8 @@ module _ (j : Job) (draw : ℕ → ℕ) (is-leaf : (d : ℕ) → draw d < 2 ^ j 
         few = omega (arith, t .few, held-count, a, waiting-length (inv .rests .holds));
       }
 
-  pub walked-low : LowHeld (j .root) h
-  walked-low = record { few = walked-few; low = inv .low; root-low = root-low j draw is-leaf b }
+  pub walked-held : HeldFrom 100 h 0
+  walked-held = record { places = inv .row-sized; few = walked-few; within = omega arith; low = inv .low }
 
   module _ (want : code.Want) (asked : wantedIn (after (programOf j) (nodesOf h)) ≡ some (toWant want)) where
     there : Wants (after (programOf j) (nodesOf h)) (toWant want)
@@ -249,7 +254,7 @@ module _ (j : Job) (draw : ℕ → ℕ) (is-leaf : (d : ℕ) → draw d < 2 ^ j 
     want-ready = between-ready walked-between (want .link .tag) (now-midway .leads (toWant want) (there .then) (there .is))
 
     module _ {words′ scratch′ tree′ : List ℕ} {r : Took} (more : h .count < j .rounds)
-        (round : Wanted (j .structure) (j .size) m want words tree (take (h .count) keys) words′ scratch′ tree′ r) where
+        (round : Wanted (j .structure) (j .entries) (j .size) m want words tree (take (h .count) keys) words′ scratch′ tree′ r) where
       abbrev fetchedNode : Node ℕ
       fetchedNode = retag (draw (h .count)) (toNode (r .node))
 
@@ -264,12 +269,12 @@ module _ (j : Job) (draw : ℕ → ℕ) (is-leaf : (d : ℕ) → draw d < 2 ^ j 
 
       next-round : (taken : Bool) → r .taken ≡ taken → h .count < length trace₀
           → fetched j draw (h .count + 1) n words₀ tree₀
-          ≡ endedWith (r .mark) (ended (heldIn h came ++ heldToo taken (takenAs want (draw (h .count)) (toNode (r .node))))) (there .then fetchedNode)
+          ≡ endedWith (r .mark) (ended (heldBy h froms ++ heldToo taken (takenAs want (draw (h .count)) (toNode (r .node))))) (there .then fetchedNode)
       next-round taken t k =
-          round-more (structureIn j) (j .size) draw (programOf j) (going n words₀ tree₀ [] []) (h .count) here (toWant want) (there .then)
+          round-more (structureIn j) (j .entries) (j .size) draw (programOf j) (going n words₀ tree₀ [] []) (h .count) here (toWant want) (there .then)
           (inv .so-far ∙ ap (on here) (there .is))
           ∙ rw (← b .structure-is, ← one-leaf-more k, ← t)
-          (round .round (heldIn h came) (take (h .count) trace) (draw (h .count)) (there .then) (inv .keys-are))
+          (round .round (heldBy h froms) (take (h .count) trace) (draw (h .count)) (there .then) (inv .keys-are))
 
       trace-later : drop (h .count + 1) trace′ ≡ drop (h .count + 1) trace₀
       trace-later = rw (add-one (h .count)) (stored-later (h .count) trace trace₀ (want .link .tag) (inv .untouched))
@@ -278,22 +283,23 @@ module _ (j : Job) (draw : ℕ → ℕ) (is-leaf : (d : ℕ) → draw d < 2 ^ j 
       trace-length = length-set trace (h .count) (want .link .tag) ∙ inv .trace-sized
 
       -- The store was closed in this round, with these nodes held.
-      closed-here : (h′ : Held) (came′ : List Came) (taken : Bool) → r .taken ≡ taken → (r .mark ≡ 0 → ⊥) → h .count < length trace₀
-          → heldIn h′ came′ ≡ heldIn h came ++ heldToo taken (takenAs want (draw (h .count)) (toNode (r .node)))
-          → h′ .count ≤ 33 → length (nodesOf h′) ≡ h′ .count → length (fromsIn h′ came′) ≡ length (nodesOf h′) → Lows 100 (nodesOf h′)
-          → keysHeld (heldIn h′ came′) ≡ take (h .count) keys ++ heldToo taken (r .node .key)
-          → Fetches j draw n words₀ tree₀ trace₀ words′ scratch′ tree′ trace′ (record { held = h′; came = came′; waiting = r .waiting; mark = r .mark; leaves = h .count + 1 })
-      closed-here h′ came′ taken t marked k same few counted paired low keys-same =
+      closed-here : (h′ : Held) (froms′ : List ℕ) (taken : Bool) → r .taken ≡ taken → (r .mark ≡ 0 → ⊥) → h .count < length trace₀
+          → heldBy h′ froms′ ≡ heldBy h froms ++ heldToo taken (takenAs want (draw (h .count)) (toNode (r .node)))
+          → h′ .count ≤ fetches → length (h′ .nodes) ≡ places → length froms′ ≡ fetches → Lows 100 (nodesOf h′)
+          → keysHeld (heldBy h′ froms′) ≡ take (h .count) keys ++ heldToo taken (r .node .key)
+          → Fetches j draw n words₀ tree₀ trace₀ h′ froms′ words′ scratch′ tree′ trace′ (record { count = h′ .count; waiting = r .waiting; mark = r .mark; leaves = h .count + 1 })
+      closed-here h′ froms′ taken t marked k same few row-sized froms-sized low keys-same =
           record {
             outcome =
-                closed-early (structureIn j) (j .size) draw (programOf j) (going n words₀ tree₀ [] []) (h .count + 1) (j .rounds) (r .mark) (ended (heldIn h′ came′)) (omega arith)
-                (next-round taken t k ∙ rw (← same) (stops-here (r .mark) (ended (heldIn h′ came′)) (there .then fetchedNode) marked))
-                ∙ sym (stops-here (r .mark) (ended (heldIn h′ came′)) (after (programOf j) (nodesOf h′)) marked);
+                closed-early (structureIn j) (j .entries) (j .size) draw (programOf j) (going n words₀ tree₀ [] []) (h .count + 1) (j .rounds) (r .mark) (ended (heldBy h′ froms′)) (omega arith)
+                (next-round taken t k ∙ rw (← same) (stops-here (r .mark) (ended (heldBy h′ froms′)) (there .then fetchedNode) marked))
+                ∙ sym (stops-here (r .mark) (ended (heldBy h′ froms′)) (after (programOf j) (nodesOf h′)) marked);
             finished = λ e. absurd (marked e);
+            counted = refl;
             few = few;
-            counted = counted;
-            paired = paired;
             low = low;
+            row-sized = row-sized;
+            froms-sized = froms-sized;
             rests = rw (keys-same, ← t) (round .rests);
             no-more = omega arith;
             all-shown = λ e. absurd (marked e);
@@ -303,74 +309,65 @@ module _ (j : Job) (draw : ℕ → ℕ) (is-leaf : (d : ℕ) → draw d < 2 ^ j 
 
       -- Damage: nothing was taken out.
       pub walked-damaged : r .taken ≡ false → h .count < length trace₀
-          → Fetches j draw n words₀ tree₀ trace₀ words′ scratch′ tree′ trace′ (record { held = h; came = came; waiting = r .waiting; mark = r .mark; leaves = h .count + 1 })
+          → Fetches j draw n words₀ tree₀ trace₀ h froms words′ scratch′ tree′ trace′ (record { count = h .count; waiting = r .waiting; mark = r .mark; leaves = h .count + 1 })
       walked-damaged t k =
-          closed-here h came false t (λ e. let q : true ≡ false = sym (round .goes-on e) ∙ t in let z : _≡_ {A = ℕ} 0 1 = cc in absurd (omega arith)) k (sym (append-nil (heldIn h came))) walked-few walked-counted walked-paired (inv .low)
+          closed-here h froms false t (λ e. let q : true ≡ false = sym (round .goes-on e) ∙ t in let z : _≡_ {A = ℕ} 0 1 = cc in absurd (omega arith)) k (sym (append-nil (heldBy h froms))) walked-few (inv .row-sized) (inv .froms-sized) (inv .low)
           (inv .keys-are ∙ sym (append-nil (take (h .count) keys)))
 
-      module _ (x : node.Node) (is : toNode x ≡ fetchedNode) (taken : r .taken ≡ true) (k : h .count < length trace₀) where
+      module _ (x : node.Node) (is : toNode x ≡ fetchedNode) (v : ℕ) (from-is : fromIn v ≡ toFrom (want .from)) (taken : r .taken ≡ true) (k : h .count < length trace₀) where
         abbrev pub heldMore : Held
         heldMore = record { nodes = set (h .nodes) (h .count) x; count = h .count + 1 }
 
-        abbrev pub cameMore : List Came
-        cameMore = set came (h .count) (record { from = want .from })
+        abbrev pub fromsMore : List ℕ
+        fromsMore = set froms (h .count) v
 
         abbrev keysMore : List ℕ
         keysMore = set keys (h .count) (x .key)
 
         nodes-more : nodesOf heldMore ≡ nodesOf h ++ (fetchedNode ∷ [])
-        nodes-more = held-more h x (omega (arith, inv .places, inv .upto, at-most j draw is-leaf b)) ∙ ap (λ (m : Node ℕ). nodesOf h ++ (m ∷ [])) is
+        nodes-more = held-more h x (omega (arith, inv .row-sized, inv .upto, at-most j draw is-leaf b)) ∙ ap (λ (m : Node ℕ). nodesOf h ++ (m ∷ [])) is
 
-        froms-more : fromsIn heldMore cameMore ≡ fromsIn h came ++ (toFrom (want .from) ∷ [])
+        froms-more : fromsIn (heldMore .count) fromsMore ≡ fromsIn (h .count) froms ++ (toFrom (want .from) ∷ [])
         froms-more =
             rw (add-one (h .count))
-            (first-more (λ (c : Came). toFrom (c .from)) came (h .count) (record { from = want .from }) (omega (arith, inv .came-sized, inv .upto, at-most j draw is-leaf b)))
+            (first-more fromIn froms (h .count) v (omega (arith, inv .froms-sized, inv .upto, at-most j draw is-leaf b)))
+            ∙ ap (λ (f : From). fromsIn (h .count) froms ++ (f ∷ [])) from-is
 
-        held-more-is : heldIn heldMore cameMore ≡ heldIn h came ++ (takenAs want (draw (h .count)) (toNode (r .node)) ∷ [])
+        held-more-is : heldBy heldMore fromsMore ≡ heldBy h froms ++ (takenAs want (draw (h .count)) (toNode (r .node)) ∷ [])
         held-more-is =
             ap₂ heldOf froms-more nodes-more
-            ∙ held-one-more (fromsIn h came) (nodesOf h) (toFrom (want .from)) fetchedNode (froms-length ∙ sym walked-counted)
+            ∙ held-one-more (fromsIn (h .count) froms) (nodesOf h) (toFrom (want .from)) fetchedNode (froms-length ∙ sym walked-counted)
 
-        more-counted : length (nodesOf heldMore) ≡ h .count + 1
-        more-counted =
-            let g = length-append (nodesOf h) (fetchedNode ∷ []) in
-            ap length nodes-more ∙ omega (arith, walked-counted)
-
-        more-paired : length (fromsIn heldMore cameMore) ≡ length (nodesOf heldMore)
-        more-paired =
-            let e = length-append (fromsIn h came) (toFrom (want .from) ∷ []) in
-            let g = length-append (nodesOf h) (fetchedNode ∷ []) in
-            ap length froms-more ∙ omega (arith, walked-paired) ∙ sym (ap length nodes-more)
-
-        keys-more : keysHeld (heldIn heldMore cameMore) ≡ take (h .count) keys ++ (r .node .key ∷ [])
+        keys-more : keysHeld (heldBy heldMore fromsMore) ≡ take (h .count) keys ++ (r .node .key ∷ [])
         keys-more =
             ap keysHeld held-more-is
-            ∙ map-append (λ (g : fetch.Held). g .node .key) (heldIn h came) (takenAs want (draw (h .count)) (toNode (r .node)) ∷ [])
+            ∙ map-append (λ (g : fetch.Held). g .node .key) (heldBy h froms) (takenAs want (draw (h .count)) (toNode (r .node)) ∷ [])
             ∙ ap (λ (ks : List ℕ). ks ++ (r .node .key ∷ [])) (inv .keys-are)
 
         -- The wanted link is low, and so is the node that passed its test.
         node-low : Low 100 fetchedNode
-        unfolding test
         node-low =
-            let low = wanted-low (toOp (j .op)) (j .tag) (j .limit) (j .entries) (toLink (j .root)) (nodesOf h) 100 (root-low j draw is-leaf b) (inv .low) asked in
-            let passed : test (structureIn j) (toWant want) (toNode (r .node)) ≡ true = rw (← b .structure-is) (round .tested taken) in
-            go (structureIn j) passed low
-          where
-            go : (s : Structure) → test s (toWant want) (toNode (r .node)) ≡ true → want .link .height ≤ 100 → Low 100 fetchedNode
-            go answer.map e l = map-tested-low (toWant want) (toNode (r .node)) 100 e l
-            go answer.stack e l = stack-tested-low (toWant want) (toNode (r .node)) 100 e (omega arith)
+            let low = wanted-low (toOp (j .op)) (λ i. j .tag) (j .limit) (j .entries) (toLink (j .root)) (nodesOf h) 100 (root-low j draw is-leaf b) (inv .low) asked in
+            let passed : test (structureIn j) (j .entries) (toWant want) (toNode (r .node)) ≡ true = rw (← b .structure-is) (round .tested taken) in
+            tested-low (structureIn j) (j .entries) (toWant want) (toNode (r .node)) 100 passed (omega arith) low
 
         low-more : Lows 100 (nodesOf heldMore)
         low-more = rw nodes-more (lows-append 100 (nodesOf h) fetchedNode (inv .low) node-low)
 
+        row-kept : length (heldMore .nodes) ≡ places
+        row-kept = length-set (h .nodes) (h .count) x ∙ inv .row-sized
+
+        froms-kept : length fromsMore ≡ fetches
+        froms-kept = length-set froms (h .count) v ∙ inv .froms-sized
+
         -- Overflow: the node was taken out.
         pub walked-overflows : (r .mark ≡ 0 → ⊥)
-            → Fetches j draw n words₀ tree₀ trace₀ words′ scratch′ tree′ trace′ (record { held = heldMore; came = cameMore; waiting = r .waiting; mark = r .mark; leaves = h .count + 1 })
+            → Fetches j draw n words₀ tree₀ trace₀ heldMore fromsMore words′ scratch′ tree′ trace′ (record { count = h .count + 1; waiting = r .waiting; mark = r .mark; leaves = h .count + 1 })
         walked-overflows marked =
-            closed-here heldMore cameMore true taken marked k held-more-is (omega (arith, inv .upto, at-most j draw is-leaf b)) more-counted more-paired low-more keys-more
+            closed-here heldMore fromsMore true taken marked k held-more-is (omega (arith, inv .upto, at-most j draw is-leaf b)) row-kept froms-kept low-more keys-more
 
         -- The call goes on.
-        pub walked-on : r .mark ≡ 0 → Walked j draw n words₀ tree₀ trace₀ heldMore cameMore (r .waiting) words′ scratch′ tree′ keysMore trace′
+        pub walked-on : r .mark ≡ 0 → Walked j draw n words₀ tree₀ trace₀ heldMore fromsMore (r .waiting) words′ scratch′ tree′ keysMore trace′
         walked-on e =
             let keys-first : take (h .count + 1) keysMore ≡ take (h .count) keys ++ (r .node .key ∷ []) =
             rw (add-one (h .count)) (take-suc-set keys (h .count) (x .key) (omega (arith, inv .keys-sized, inv .upto, at-most j draw is-leaf b)))
@@ -378,13 +375,13 @@ module _ (j : Job) (draw : ℕ → ℕ) (is-leaf : (d : ℕ) → draw d < 2 ^ j 
             record {
               upto = omega arith;
               so-far =
-                  next-round true taken k ∙ rw (← held-more-is) (goes-on (r .mark) (ended (heldIn heldMore cameMore)) (there .then fetchedNode) e)
-                  ∙ ap (on (ended (heldIn heldMore cameMore))) (sym (ap (after (programOf j)) nodes-more ∙ after-more (programOf j) (nodesOf h) fetchedNode (there .is)));
+                  next-round true taken k ∙ rw (← held-more-is) (goes-on (r .mark) (ended (heldBy heldMore fromsMore)) (there .then fetchedNode) e)
+                  ∙ ap (on (ended (heldBy heldMore fromsMore))) (sym (ap (after (programOf j)) nodes-more ∙ after-more (programOf j) (nodesOf h) fetchedNode (there .is)));
               rests = rw keys-first (rw taken at (round .rests));
               keys-are = keys-more ∙ sym keys-first;
               low = low-more;
-              places = length-set (h .nodes) (h .count) x ∙ inv .places;
-              came-sized = length-set came (h .count) (record { from = want .from }) ∙ inv .came-sized;
+              row-sized = row-kept;
+              froms-sized = froms-kept;
               keys-sized = length-set keys (h .count) (x .key) ∙ inv .keys-sized;
               trace-sized = trace-length;
               untouched = trace-later;
@@ -392,21 +389,21 @@ module _ (j : Job) (draw : ℕ → ℕ) (is-leaf : (d : ℕ) → draw d < 2 ^ j 
 
 -- ---- before the first
 module _ (j : Job) (draw : ℕ → ℕ) {n : ℕ} {words scratch tree : List ℕ} (b : Begins j draw n words scratch tree) (trace : List ℕ) where
-  pub walked-begins : (h : Held) (came : List Came) (keys : List ℕ) → h .count ≡ 0 → length (h .nodes) ≡ 33 → length came ≡ 33 → length keys ≡ 33
-      → Walked j draw n words tree trace h came n words scratch tree keys trace
+  pub walked-begins : (h : Held) (froms keys : List ℕ) → h .count ≡ 0 → length (h .nodes) ≡ places → length froms ≡ fetches → length keys ≡ fetches
+      → Walked j draw n words tree trace h froms n words scratch tree keys trace
   unfolding heldOf
-  walked-begins h came keys zero-held places came-sized keys-sized =
+  walked-begins h froms keys zero-held row-sized froms-sized keys-sized =
       record {
         upto = omega arith;
         so-far =
             rw zero-held
-            (fetches-none (structureIn j) (j .size) draw 0 (programOf j) (going n words tree [] [])
+            (fetches-none (structureIn j) (j .entries) (j .size) draw 0 (programOf j) (going n words tree [] [])
             ∙ ap (on (going n words tree [] [])) (sym (after-none (programOf j))));
         rests = rw zero-held (b .rests);
         keys-are = rw zero-held;
         low = rw zero-held tt;
-        places = places;
-        came-sized = came-sized;
+        row-sized = row-sized;
+        froms-sized = froms-sized;
         keys-sized = keys-sized;
         trace-sized = refl;
         untouched = refl;
@@ -426,17 +423,17 @@ idle-same k leaf p g h q e = go (readHalf leafFormat k (g .tree) leaf none (held
         close true x = let z : _≡_ {A = ℕ} 0 1 = cc in absurd (omega arith)
         close false x = cc
 
-pub done-rounds : (s : Structure) (k : ℕ) (draw : ℕ → ℕ) (n i : ℕ) (o : Outcome ℕ) (g : Going)
-    → fetchRounds s k draw n i (done o) g ≡ putRounds k draw n i o g
+pub done-rounds : (s : Structure) (entries k : ℕ) (draw : ℕ → ℕ) (n i : ℕ) (o : Outcome ℕ) (g : Going)
+    → fetchRounds s entries k draw n i (done o) g ≡ putRounds k draw n i o g
 unfolding fetchRound goesOn
-done-rounds s k draw zero i o g = fetches-none s k draw i (done o) g ∙ sym (put-none k draw i o g)
-done-rounds s k draw (suc n) i o g =
-    fetches-next s k draw n i (done o) g
-    ∙ go (λ h. done-rounds s k draw n (suc i) o h) (idleRound k (draw i) (done o) g) refl
+done-rounds s entries k draw zero i o g = fetches-none s entries k draw i (done o) g ∙ sym (put-none k draw i o g)
+done-rounds s entries k draw (suc n) i o g =
+    fetches-next s entries k draw n i (done o) g
+    ∙ go (λ h. done-rounds s entries k draw n (suc i) o h) (idleRound k (draw i) (done o) g) refl
   where
-    go : ((h : Going) → fetchRounds s k draw n (suc i) (done o) h ≡ putRounds k draw n (suc i) o h)
+    go : ((h : Going) → fetchRounds s entries k draw n (suc i) (done o) h ≡ putRounds k draw n (suc i) o h)
         → (x : Round (Outcome ℕ)) → idleRound k (draw i) (done o) g ≡ x
-        → goesOn s k draw x (λ h q. fetchRounds s k draw n (suc i) q h) ≡ putRounds k draw (suc n) i o g
+        → goesOn s entries k draw x (λ h q. fetchRounds s entries k draw n (suc i) q h) ≡ putRounds k draw (suc n) i o g
     go more (shut m h) e = sym (put-shuts k draw n i o g h m e)
     go more (on h q) e =
         let same : q ≡ done o = idle-same k (draw i) (done o) g h q e in

@@ -4,11 +4,15 @@ use super::wanting::Job;
 use super::wanting::want_rounds;
 use buckets::WORDS;
 use idle_rounds::idle::idle_rounds;
+use node_rows::FETCHES;
+use node_rows::ROW;
 ghost use mathlib.Core.Path.{_≡_};
 ghost use Prim.Native.Nat.{_+_, _*_, _≤_};
 ghost use lib.ListN.{length};
 ghost use Rattle.calls.specs.Call.{drawOf};
-ghost use Rattle.phases.specs.Wanting.{Begins, Fetches};
+ghost use Rattle.node_rows.specs.Row.{fetches};
+ghost use Rattle.node_rows.specs.Held.{heldIn};
+ghost use Rattle.phases.specs.Wanting.{Begins, RowsSized, Fetches};
 
 pub fn fetch_rounds(
     job: Job,
@@ -16,18 +20,23 @@ pub fn fetch_rounds(
     n: usize,
     s: &mut [u64; WORDS],
     tree: &mut [u8],
+    held: &mut [u64; ROW],
+    froms: &mut [u64; FETCHES],
+    made: &mut [u64; ROW],
     keys: &mut [u32],
     tape: &[u16],
     trace: &mut [u16],
 ) -> Fetched
-    requires { ⌜ (Begins job (drawOf (job .size) (now tape)) n (now w) (now s) (now tree)) × ((length (now keys) ≡ 33) × ((2 * job .rounds + 1 ≤ length (now tape)) × (2 * job .rounds ≤ length (now trace)))) ⌝ }
-    ensures { λ r. ⌜ Fetches job (drawOf (job .size) (now (tape .entry))) n (now (w .entry)) (now (tree .entry)) (now (trace .entry)) (now (w .exit)) (now (s .exit)) (now (tree .exit)) (now (trace .exit)) r ⌝ }
+    requires { ⌜ (Begins job (drawOf (job .size) (now tape)) n (now w) (now s) (now tree)) × ((RowsSized (now held) (now made)) × ((length (now froms) ≡ fetches) × ((length (now keys) ≡ fetches) × ((job .puts + job .rounds ≤ length (now tape)) × (2 * job .rounds ≤ length (now trace)))))) ⌝ }
+    ensures { λ r. ⌜ (Fetches job (drawOf (job .size) (now (tape .entry))) n (now (w .entry)) (now (tree .entry)) (now (trace .entry)) (heldIn (now (held .exit)) (r .count)) (now (froms .exit)) (now (w .exit)) (now (s .exit)) (now (tree .exit)) (now (trace .exit)) r) × (RowsSized (now (held .exit)) (now (made .exit))) ⌝ }
 {
-    let mut f = want_rounds(job, w, n, s, tree, keys, tape, trace);
+    let mut f = want_rounds(
+        job, w, n, s, tree, held, froms, made, keys, tape, trace,
+    );
     if f.mark != 0 {
         return f;
     }
-    let i = f.held.count;
+    let i = f.count;
     let left = job.rounds - i;
     let r = idle_rounds(
         w,

@@ -10,7 +10,7 @@ ghost use lib.ListN.{length};
 ghost use Rattle.calls.specs.Call.{drawOf};
 ghost use Rattle.phases.specs.Put.{Stepped, Puts};
 
-// So many put rounds, with the draws after a new node's. A new node whose key waits already is damage that the first of them finds.
+// So many put rounds, from draw `first` on. A new node whose key waits already is damage that the first of them finds.
 pub fn put_rounds(
     w: &mut [u64; WORDS],
     n: usize,
@@ -18,14 +18,14 @@ pub fn put_rounds(
     tree: &mut [u8],
     size: usize,
     rounds: usize,
+    first: usize,
     keys: &[u32],
     tape: &[u16],
     trace: &mut [u16],
 ) -> Idle
-    requires { ⌜ (Stepped size n (now w) (now s) (now tree)) × ((1 ≤ rounds) × ((2 * rounds + 1 ≤ length (now tape)) × (2 * rounds ≤ length (now trace)))) ⌝ }
-    ensures { λ r. ⌜ Puts size n (drawOf size (now (tape .entry))) rounds (now (w .entry)) (now (tree .entry)) (now (trace .entry)) (now (w .exit)) (now (tree .exit)) (now (trace .exit)) r ⌝ }
+    requires { ⌜ (Stepped size n (now w) (now s) (now tree)) × ((1 ≤ rounds) × ((first + rounds ≤ length (now tape)) × (2 * rounds ≤ length (now trace)))) ⌝ }
+    ensures { λ r. ⌜ Puts size n (drawOf size (now (tape .entry))) rounds first (now (w .entry)) (now (tree .entry)) (now (trace .entry)) (now (w .exit)) (now (tree .exit)) (now (trace .exit)) r ⌝ }
 {
-    let first = rounds + 1;
     if !ascends(w, n) {
         trace[rounds] = draw_at(tape, first, size) as u16;
         return Idle {

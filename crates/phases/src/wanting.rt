@@ -2,23 +2,24 @@
 use buckets::WORDS;
 use call_rounds::want_round;
 use idle_rounds::idle::draw_at;
+use node_rows::FETCHES;
+use node_rows::ROW;
+use node_rows::set_node;
+use node_rows::word_of;
+use operations::Op;
+use operations::Wanted;
 use slots::Link;
-use slots::Node;
-use steps::Came;
-use steps::FETCHES;
-use steps::From;
-use steps::Held;
-use steps::Op;
-use steps::Wanted;
 use steps::operation::wanted;
 ghost use mathlib.Core.Path.{_≡_};
 ghost use Prim.Native.Nat.{_+_, _*_, _≤_};
 ghost use lib.ListN.{length};
 ghost use Rattle.calls.specs.Call.{drawOf};
-ghost use Rattle.phases.specs.Wanting.{Begins, Walks};
+ghost use Rattle.node_rows.specs.Row.{fetches};
+ghost use Rattle.node_rows.specs.Held.{heldIn};
+ghost use Rattle.phases.specs.Wanting.{Begins, RowsSized, Walks};
 
 // What the rounds of a call are for: the operation, the store's structure and size, how many fetch rounds there are, the capacity,
-// the entries and the root link, and the tag that a new node would get.
+// the entries and the root link, the tag that a new node would get, and the draw of the first put round.
 pub struct Job {
     pub op: Op,
     pub structure: u8,
@@ -28,44 +29,23 @@ pub struct Job {
     pub entries: u16,
     pub root: Link,
     pub tag: u16,
+    pub puts: usize,
 }
 
-// What the fetch rounds came to: the held nodes in fetch order with where their links stood, how many nodes wait, mark 0, or 8
-// damage or 9 overflow, and how many leaves were revealed.
+// What the fetch rounds came to: how many nodes are held and how many wait, mark 0, or 8 damage or 9 overflow, and how many leaves
+// were revealed.
 pub struct Fetched {
-    pub held: Held,
-    pub came: [Came; FETCHES],
+    pub count: usize,
     pub waiting: usize,
     pub mark: u8,
     pub leaves: usize,
 }
 
-// No nodes.
-fn none_held() -> Held
-    ensures { λ r. ⌜ (r .count ≡ 0) × (length (r .nodes) ≡ 33) ⌝ }
-{
-    let none = Link {
-        height: 0,
-        key: 0,
-        tag: 0,
-    };
-    let blank = Node {
-        key: 0,
-        value: 0,
-        tag: 0,
-        left: none,
-        right: none,
-    };
-    let nodes = [blank; FETCHES];
-    Held { nodes, count: 0 }
-}
-
-fn came_to(held: Held, came: [Came; FETCHES], waiting: usize, mark: u8, leaves: usize) -> Fetched
-    ensures { λ r. ⌜ r ≡ record { held = held; came = came; waiting = waiting; mark = mark; leaves = leaves } ⌝ }
+fn came_to(count: usize, waiting: usize, mark: u8, leaves: usize) -> Fetched
+    ensures { λ r. ⌜ r ≡ record { count = count; waiting = waiting; mark = mark; leaves = leaves } ⌝ }
 {
     Fetched {
-        held,
-        came,
+        count,
         waiting,
         mark,
         leaves,
@@ -73,57 +53,60 @@ fn came_to(held: Held, came: [Came; FETCHES], waiting: usize, mark: u8, leaves: 
 }
 
 // The fetch rounds that want a node, one after the other, until none is wanted any more. Each reveals the tag in the link to the
-// wanted node, which is held from then on under the round's draw. `keys` has the keys of the held nodes.
+// wanted node, which is held from then on under the round's draw. `keys` has the keys of the held nodes, `froms` where the links to
+// them stood; `made` is scratch space.
 pub fn want_rounds(
     job: Job,
     w: &mut [u64; WORDS],
     n: usize,
     s: &mut [u64; WORDS],
     tree: &mut [u8],
+    held: &mut [u64; ROW],
+    froms: &mut [u64; FETCHES],
+    made: &mut [u64; ROW],
     keys: &mut [u32],
     tape: &[u16],
     trace: &mut [u16],
 ) -> Fetched
-    requires { ⌜ (Begins job (drawOf (job .size) (now tape)) n (now w) (now s) (now tree)) × ((length (now keys) ≡ 33) × ((2 * job .rounds + 1 ≤ length (now tape)) × (2 * job .rounds ≤ length (now trace)))) ⌝ }
-    ensures { λ r. ⌜ Walks job (drawOf (job .size) (now (tape .entry))) n (now (w .entry)) (now (tree .entry)) (now (trace .entry)) (now (w .exit)) (now (s .exit)) (now (tree .exit)) (now (keys .exit)) (now (trace .exit)) r ⌝ }
+    requires { ⌜ (Begins job (drawOf (job .size) (now tape)) n (now w) (now s) (now tree)) × ((RowsSized (now held) (now made)) × ((length (now froms) ≡ fetches) × ((length (now keys) ≡ fetches) × ((job .puts + job .rounds ≤ length (now tape)) × (2 * job .rounds ≤ length (now trace)))))) ⌝ }
+    ensures { λ r. ⌜ (Walks job (drawOf (job .size) (now (tape .entry))) n (now (w .entry)) (now (tree .entry)) (now (trace .entry)) (heldIn (now (held .exit)) (r .count)) (now (froms .exit)) (now (w .exit)) (now (s .exit)) (now (tree .exit)) (now (keys .exit)) (now (trace .exit)) r) × (RowsSized (now (held .exit)) (now (made .exit))) ⌝ }
 {
     let op = job.op;
     let root = job.root;
-    let mut held = none_held();
-    let mut came = [Came { from: From::Root }; FETCHES];
+    let mut count = 0;
     let mut waiting = n;
-    while held.count < job.rounds {
-        let i = held.count;
-        let next = wanted(op, job.limit, job.entries, root, job.tag, held);
+    while count < job.rounds {
+        let next = wanted(op, job.limit, job.entries, root, job.tag, held, count, made);
         let Wanted::Fetch(want) = next else {
-            return came_to(held, came, waiting, 0, i);
+            return came_to(count, waiting, 0, count);
         };
         let link = want.link;
         let from = want.from;
-        trace[i] = link.tag;
+        trace[count] = link.tag;
         let r = want_round(
             job.structure,
+            job.entries,
             want,
             w,
             waiting,
             s,
             tree,
             job.size,
-            &keys[0..i],
+            &keys[0..count],
         );
         if !r.taken {
-            return came_to(held, came, r.waiting, r.mark, i + 1);
+            return came_to(count, r.waiting, r.mark, count + 1);
         }
         let mut node = r.node;
-        node.tag = draw_at(tape, i, job.size) as u16;
-        held.nodes[i] = node;
-        held.count = i + 1;
-        came[i] = Came { from };
-        keys[i] = node.key;
+        node.tag = draw_at(tape, count, job.size) as u16;
+        set_node(held, count, node);
+        froms[count] = word_of(from);
+        keys[count] = node.key;
+        count += 1;
         if r.mark != 0 {
-            return came_to(held, came, r.waiting, r.mark, i + 1);
+            return came_to(count, r.waiting, r.mark, count);
         }
         waiting = r.waiting;
     }
-    came_to(held, came, waiting, 0, held.count)
+    came_to(count, waiting, 0, count)
 }

@@ -58,9 +58,13 @@ afterFetches s k F draw st (shut m g) = closing m (st .entries) (st .root) g
 afterFetches s k F draw st (on g (want w c)) = closing 8 (st .entries) (st .root) g
 afterFetches s k F draw st (on g (done o)) = afterPuts o (putRounds k draw F (putDraw s F 0) o (stepped o g))
 
--- One call with F fetch and F put rounds. Fetch round i uses draw i; the spare draws and those of the put rounds come after these.
+-- Where F fetch rounds come to: a round that closed the store, or the step. The spare draws come after those of the fetch rounds.
+abbrev pub fetchedBy : {s : Structure} → (size rounds : ℕ) → Op s → (draw : ℕ → ℕ) → Store → Round (Outcome ℕ)
+fetchedBy {s} k F op draw st =
+    fetchRounds s (st .entries) k draw F 0
+    (program 0 op (λ i. draw (spareDraw F i)) (capacity k) (st .entries) (st .root))
+    (record { tree = st .tree; waiting = st .waiting; held = []; leaves = [] })
+
+-- One call with F fetch and F put rounds. Fetch round i uses draw i; the draws of the put rounds come after the spare ones.
 unfoldable pub bucketCall : {s : Structure} → (size rounds : ℕ) → Op s → (draw : ℕ → ℕ) → Store → Left
-bucketCall {s} k F op draw st =
-    afterFetches s k F draw st
-    (fetchRounds s (st .entries) k draw F 0 (program 0 op (λ i. draw (spareDraw F i)) (capacity k) (st .entries) (st .root))
-    (record { tree = st .tree; waiting = st .waiting; held = []; leaves = [] }))
+bucketCall {s} k F op draw st = afterFetches s k F draw st (fetchedBy k F op draw st)

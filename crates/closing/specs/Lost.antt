@@ -28,7 +28,7 @@ use Rattle.runs.specs.EnoughRounds.{mostWanted, program-within}
 use Rattle.rounds.specs.Round.{join, limit}
 use Rattle.leaf_nodes.specs.Leaf.{leafFormat}
 use Rattle.calls.specs.Fetch.{Going, closing, Round, on, shut, fetchRounds}
-use Rattle.calls.specs.Call.{Store, putRounds, afterPuts, stepped, afterFetches, bucketCall}
+use Rattle.calls.specs.Call.{fetchedBy, Store, putRounds, afterPuts, stepped, afterFetches, bucketCall}
 use Rattle.leaf_laws.specs.Proper.{ProperLeaf}
 use Rattle.closing.specs.Fitting.{LinkFits, link-of-fit}
 use Rattle.closing.specs.Yields.{yields-done, yields-map, yields-both}
@@ -61,13 +61,6 @@ some-rounds answer.map k h = let least-one : 1 ≤ greatest k = greatest-mono h 
 some-rounds answer.stack k h = omega arith
 
 -- ---- a call
--- What its fetch rounds come to.
-abbrev pub fetchedBy : {s : Structure} → (k F : ℕ) → Op s → (ℕ → ℕ) → Store → Round (Outcome ℕ)
-fetchedBy {s} k F op draw st =
-    fetchRounds s (st .entries) k draw F 0
-    (program 0 op (λ i. draw (spareDraw F i)) (capacity k) (st .entries) (st .root))
-    (record { tree = st .tree; waiting = st .waiting; held = []; leaves = [] })
-
 -- The entries after the step.
 abbrev pub entriesAfter : ℕ → Going → Outcome ℕ → List Pair
 entriesAfter k g o = entriesWith k (g .tree) (join leafFormat (o .nodes) (g .waiting))

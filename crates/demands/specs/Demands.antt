@@ -18,7 +18,7 @@ use Rattle.slots.specs.declared.Reading.the-variants.{Full}
 use Rattle.method.specs.Answer.{Structure, Op}
 use Rattle.method.specs.Plain.{plainAnswers, nothing}
 use Rattle.method.specs.Node.{Node}
-use Rattle.method.specs.Call.{capacity, program, Ran}
+use Rattle.method.specs.Call.{capacity, Ran}
 use Rattle.simulation.specs.Relation.{Simulates}
 use Rattle.state.specs.Fit.{fits}
 use Rattle.method.specs.Rounds.{rounds}
@@ -29,8 +29,8 @@ use Rattle.method.specs.Map.{Outcome}
 use Rattle.rounds.specs.Round.{join}
 use Rattle.round_laws.specs.Whole.{contents}
 use Rattle.leaf_nodes.specs.Leaf.{leafFormat}
-use Rattle.calls.specs.Fetch.{Going, Round, on, shut, fetchRounds}
-use Rattle.calls.specs.Call.{drawOf}
+use Rattle.calls.specs.Fetch.{Going, Round, on, shut}
+use Rattle.calls.specs.Call.{drawOf, fetchedBy}
 use Rattle.state.specs.declared.State.{State}
 use Rattle.state.specs.Opening.{opened}
 use Rattle.state.specs.Ticket.{opIn, structureOf}
@@ -62,9 +62,7 @@ module _ (s : State) (tree ticket tape trace : List ℕ) where
   -- Where the fetch rounds of the call came to: a round that closed the store, or the step.
   abbrev pub fetching : (st : Structure) → Op st → Round (Outcome ℕ)
   fetching st op =
-      fetchRounds st (s .size) (drawOf (s .size) tape) (rounds st (s .size)) 0
-      (program 0 op (drawOf (s .size) tape (rounds st (s .size))) (capacity (s .size)) (s .entries) (storeOf s tree .root))
-      (record { tree = tree; waiting = storeOf s tree .waiting; held = []; leaves = [] })
+      fetchedBy (s .size) (rounds st (s .size)) op (drawOf (s .size) tape) (storeOf s tree)
 
   -- A fit state's call comes to one of the two: its walk is never longer than its fetch rounds.
   abbrev pub ComesTo : (st : Structure) → Op st → Type 0

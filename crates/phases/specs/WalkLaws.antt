@@ -1,5 +1,5 @@
 -- The rounds that want a node, in the shapes in which the code has them.
-use mathlib.Core.Path.{_≡_, refl, ap, subst}
+use mathlib.Core.Path.{_≡_, refl, _∙_, ap, subst}
 use mathlib.Core.Bool.{true, false}
 use mathlib.Core.List.{List}
 use mathlib.Core.Option.{none, some}
@@ -66,7 +66,7 @@ module _ (j : Job) (draw : ℕ → ℕ) (is-leaf : (d : ℕ) → draw d < 2 ^ j 
     walks-damaged e t =
         walks-stop e (not-taken round t) (walked-damaged j draw is-leaf b trace₀ inv want asked more round t room)
 
-    module _ {h′ : Held} {x : node.Node} {d v : ℕ} (is : h′ ≡ record { nodes = set (h .nodes) (h .count) x; count = h .count + 1 })
+    module _ {h′ : Held} {x : node.Node} {d : ℕ} (v : ℕ) (is : h′ ≡ record { nodes = set (h .nodes) (h .count) x; count = h .count + 1 })
         (same : x ≡ record { key = r .node .key; value = r .node .value; tag = d; left = r .node .left; right = r .node .right })
         (drawn : d ≡ draw (h .count)) (from-is : fromIn v ≡ toFrom (want .from)) (taken : r .taken ≡ true) where
       same-node : toNode x ≡ retag (draw (h .count)) (toNode (r .node))

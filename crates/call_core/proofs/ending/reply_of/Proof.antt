@@ -4,10 +4,10 @@ use Rattle.steps.specs.Method.{toAnswer}
 use Rattle.store.specs.Store.{replyOf}
 use native.Mathlib.Omega.{arith}
 use borrow.Author.Needs.{needs}
-use Rattle.call.proofs.ending.reply_of.Statement.{statement}
-use Rattle.call.proofs.ending.reply_of.Tie as tie
-use Rattle.call.proofs.ending.reply_of.Reads as reads
-use Rattle.call.proofs.ending.reply_of.Lts as lts
+use Rattle.call_core.proofs.ending.reply_of.Statement.{statement}
+use Rattle.call_core.proofs.ending.reply_of.Tie as tie
+use Rattle.call_core.proofs.ending.reply_of.Reads as reads
+use Rattle.call_core.proofs.ending.reply_of.Lts as lts
 
 -- src/ending.rt:28:25
 enum-told : tie.Need-enum-told

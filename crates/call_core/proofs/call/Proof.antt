@@ -1,17 +1,17 @@
 use mathlib.Core.Path.{refl, sym, _∙_}
 use borrow.Author.Tests.{not-true, not-false}
 use Rattle.fit_stores.specs.FitState.{fit-state}
-use Rattle.call.specs.CallLaws.{Checked, bytes-of, refused-1, refused-2, refused-3, refused-4, refused-5, refused-6, refused-7, can-run, then-saved, refused-as}
+use Rattle.call_core.specs.CallLaws.{Checked, bytes-of, refused-1, refused-2, refused-3, refused-4, refused-5, refused-6, refused-7, can-run, then-saved, refused-as}
 use native.Mathlib.Omega.{arith}
 use borrow.Author.Needs.{needs}
-use Rattle.call.proofs.call.Statement.{statement}
-use Rattle.call.proofs.call.Tie as tie
-use Rattle.call.proofs.call.Reads as reads
-use Rattle.call.proofs.call.Lts as lts
-use Rattle.call.proofs.refused.Reads as refused-reads
-use Rattle.call.proofs.run.job_for.Reads as job-for-reads
+use Rattle.call_core.proofs.call.Statement.{statement}
+use Rattle.call_core.proofs.call.Tie as tie
+use Rattle.call_core.proofs.call.Reads as reads
+use Rattle.call_core.proofs.call.Lts as lts
+use Rattle.call_core.proofs.refused.Reads as refused-reads
+use Rattle.call_core.proofs.run.job_for.Reads as job-for-reads
 use Rattle.state.proofs.fetching.rounds_of.Reads as rounds-of-reads
-use Rattle.call.proofs.run.run.Reads as run-reads
+use Rattle.call_core.proofs.run.run.Reads as run-reads
 use Rattle.slots.proofs.tree.tree_length.Reads as tree-length-reads
 use Rattle.stash.proofs.places.load.Reads as load-reads
 use Rattle.stash.proofs.places.save.Reads as save-reads

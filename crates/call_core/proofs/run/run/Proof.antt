@@ -1,13 +1,13 @@
 use mathlib.Core.Path.{refl}
-use Rattle.call.specs.RunLaws.{run-shuts, run-ends-shut, run-finishes, run-ends-finished}
+use Rattle.call_core.specs.RunLaws.{run-shuts, run-ends-shut, run-finishes, run-ends-finished}
 use native.Mathlib.Omega.{arith}
 use borrow.Author.Needs.{needs}
-use Rattle.call.proofs.run.run.Statement.{statement}
-use Rattle.call.proofs.run.run.Tie as tie
-use Rattle.call.proofs.run.run.Reads as reads
-use Rattle.call.proofs.run.run.Lts as lts
-use Rattle.call.proofs.ending.finish.Reads as finish-reads
-use Rattle.call.proofs.ending.shut.Reads as shut-reads
+use Rattle.call_core.proofs.run.run.Statement.{statement}
+use Rattle.call_core.proofs.run.run.Tie as tie
+use Rattle.call_core.proofs.run.run.Reads as reads
+use Rattle.call_core.proofs.run.run.Lts as lts
+use Rattle.call_core.proofs.ending.finish.Reads as finish-reads
+use Rattle.call_core.proofs.ending.shut.Reads as shut-reads
 use Rattle.phases.proofs.fetch.fetch_rounds.Reads as fetch-rounds-reads
 
 -- src/run.rt:77:51

@@ -1,11 +1,11 @@
 use borrow.Author.Tests.{eq-eqb, ne-eqb}
 use native.Mathlib.Omega.{arith}
 use borrow.Author.Needs.{needs}
-use Rattle.call.proofs.ending.reply_after.Statement.{statement}
-use Rattle.call.proofs.ending.reply_after.Tie as tie
-use Rattle.call.proofs.ending.reply_after.Reads as reads
-use Rattle.call.proofs.ending.reply_after.Lts as lts
-use Rattle.call.proofs.ending.reply_of.Reads as reply-of-reads
+use Rattle.call_core.proofs.ending.reply_after.Statement.{statement}
+use Rattle.call_core.proofs.ending.reply_after.Tie as tie
+use Rattle.call_core.proofs.ending.reply_after.Reads as reads
+use Rattle.call_core.proofs.ending.reply_after.Lts as lts
+use Rattle.call_core.proofs.ending.reply_of.Reads as reply-of-reads
 
 -- src/ending.rt:55:9
 returns : tie.Need-returns

@@ -6,18 +6,21 @@ use buckets::WORDS;
 use idle_rounds::idle::draw_at;
 use phases::fetch::fetch_rounds;
 use phases::wanting::Job;
+use node_rows::FETCHES;
+use node_rows::ROW;
+use operations::Op;
 use slots::Link;
 use slots::tree::leaves;
-use steps::FETCHES;
-use steps::Op;
+use state::fetching::spare_of;
 ghost use mathlib.Core.Path.{_≡_};
 ghost use Prim.Native.Nat.{_≤_, _<_};
 ghost use lib.ListN.{length};
-ghost use Rattle.steps.specs.Method.{toOp};
+ghost use mathlib.Core.Bool.{true};
+ghost use Rattle.operations.specs.Method.{toOp};
 ghost use Rattle.calls.specs.Call.{drawOf, bucketCall};
 ghost use Rattle.waiting.specs.Waiting.{Holds};
 ghost use Rattle.phases.specs.Wanting.{storeAt};
-ghost use Rattle.call.specs.Run.{leftBy, endingWith, jobFor, Runs};
+ghost use Rattle.call_core.specs.Run.{leftBy, endingWith, jobFor, Runs};
 
 // What the rounds of a call are for: a new node would get the draw after those of the fetch rounds as its tag.
 pub fn job_for(
@@ -29,7 +32,7 @@ pub fn job_for(
     rounds: usize,
     tape: &[u16],
 ) -> Job
-    requires { ⌜ (size ≤ 8) × (rounds < length (now tape)) ⌝ }
+    requires { ⌜ (size ≤ 8) × ((rounds ≤ 33) × (rounds < length (now tape))) ⌝ }
     ensures { λ r. ⌜ r ≡ jobFor structure size entries root op rounds (now (tape .entry)) ⌝ }
 {
     let limit = (leaves(size) - 1) as u16;
@@ -43,6 +46,7 @@ pub fn job_for(
         entries,
         root,
         tag,
+        puts: rounds + spare_of(structure),
     }
 }
 
@@ -56,13 +60,30 @@ pub fn run(
     trace: &mut [u16],
 ) -> Ran
     requires { ⌜ Runs job n (now w) (now tree) (now tape) (now trace) ⌝ }
-    ensures { λ r. ⌜ (leftBy (job .structure) (job .size) r (now (w .exit)) (now (tree .exit)) (now (trace .exit)) ≡ endingWith (job .structure) (job .size) (now (trace .entry)) (bucketCall (job .size) (job .rounds) (toOp (job .op)) (drawOf (job .size) (now (tape .entry))) (storeAt job n (now (w .entry)) (now (tree .entry))))) × Holds (r .waiting) (now (w .exit)) ⌝ }
+    ensures { λ r. ⌜ (leftBy (job .structure) (job .size) r (now (w .exit)) (now (tree .exit)) (now (trace .exit)) ≡ endingWith (job .structure) (job .size) (now (trace .entry)) (bucketCall (job .size) (job .rounds) (toOp (job .op)) (drawOf (job .size) (now (tape .entry))) (storeAt job n (now (w .entry)) (now (tree .entry))))) × (Holds (r .waiting) (now (w .exit)) × (r .ran ≡ true)) ⌝ }
 {
     let mut s = [0u64; WORDS];
+    let mut held = [0u64; ROW];
+    let mut froms = [0u64; FETCHES];
+    let mut made = [0u64; ROW];
     let mut keys = [0u32; FETCHES];
-    let f = fetch_rounds(job, w, n, &mut s, tree, &mut keys, tape, trace);
+    let f = fetch_rounds(
+        job,
+        w,
+        n,
+        &mut s,
+        tree,
+        &mut held,
+        &mut froms,
+        &mut made,
+        &mut keys,
+        tape,
+        trace,
+    );
     if f.mark != 0 {
-        return shut(job, f, w);
+        return shut(job, f, w, &mut held, &froms);
     }
-    finish(job, f, w, &mut s, tree, &keys, tape, trace)
+    finish(
+        job, f, w, &mut s, tree, &held, &mut made, &keys, tape, trace,
+    )
 }

@@ -4,6 +4,7 @@ use mathlib.Core.Bool.{true, false}
 use mathlib.Core.List.{List, [], _∷_, map, append-nil, Memᴰ·map}
 use mathlib.Core.Option.{Option, none, some}
 use Prim.Native.Nat.{ℕ, suc, _+_, _*_, _^_, _≤_, _<_}
+use native.Mathlib.Nat.{add-zero}
 use native.Mathlib.Omega.{arith}
 use borrow.Author.Tests.{eq-eqb, ne-eqb, lt-ltb, le-ltb}
 use lib.ListN.{length, getD}
@@ -15,11 +16,10 @@ use Rattle.slots.specs.Tree.{treeLength}
 use Rattle.method.specs.Node.{Node}
 use Rattle.method.specs.Answer as method
 use Rattle.method.specs.Answer.{Structure, get, put, remove, push, pop}
-use Rattle.method.specs.Rounds.{rounds}
+use Rattle.method.specs.Rounds.{rounds, spare, putDraw}
 use Rattle.round_laws.specs.Sorted.{ascending-distinct}
 use Rattle.round_laws.specs.ReadHalf.{distinct-none-twice}
 use Rattle.leaf_nodes.specs.Leaf.{leafFormat}
-use Rattle.leaf_nodes.specs.Convert.{toNode}
 use Rattle.waiting.specs.Waiting.{InWidths, waitingIn}
 use Rattle.calls.specs.Call.{Store, drawOf, bucketCall}
 use Rattle.leaf_laws.specs.Entries.{OpFits}
@@ -27,8 +27,10 @@ use Rattle.state.specs.declared.Place.{Place}
 use Rattle.state.specs.declared.State.{State}
 use Rattle.state.specs.Fit.{fits, used, keysIn}
 use Rattle.state.specs.Ticket.{ticketLength, opIn, structureOf as numbered}
-use Rattle.steps.specs.declared.Op.{Op}
-use Rattle.steps.specs.Method.{toLink, toOp, structureOf}
+use Rattle.state.specs.Fetching.{roundsOf, spareOf}
+use Rattle.leaf_nodes.specs.Convert.{toLink, toNode}
+use Rattle.operations.specs.declared.Op.{Op}
+use Rattle.operations.specs.Method.{toOp, structureOf}
 use Rattle.tickets.specs.declared.Asked.the-variants.{Call, Unknown}
 use Rattle.tickets.specs.Asked.{fromOp, fromAsked, asked}
 use Rattle.store.specs.Store.{refusing, ending, storeOf, callWith, called}
@@ -39,10 +41,10 @@ use Rattle.fit_stores.specs.Tickets.{op-fits}
 use Rattle.stash.specs.Stash.{Loaded, saved}
 use Rattle.phases.specs.declared.wanting.Job.{Job}
 use Rattle.phases.specs.Wanting.{storeAt}
-use Rattle.store.specs.declared.Called.{Called}
 use Rattle.store.specs.declared.Reply.the-variants.{Refused}
-use Rattle.call.specs.declared.ending.Ran.{Ran}
-use Rattle.call.specs.Run.{endedAs, leftBy, endingWith, jobFor, Runs}
+use Rattle.call_core.specs.declared.Head.{Head}
+use Rattle.call_core.specs.declared.ending.Ran.{Ran}
+use Rattle.call_core.specs.Run.{StandsFor, leftOf, leftBy, endingWith, jobFor, Runs}
 
 -- Numbers each of which is below 256 are bytes.
 pub bytes-of : (l : List ℕ) → ((i : ℕ) → getD l i 0 < 256) → Bytes l
@@ -99,7 +101,7 @@ pub record Checked (s : State) (op : Op) (F : ℕ) (tree ticket tape trace : Lis
   pub ticket-sized : length ticket ≡ ticketLength
   pub asks : asked (s .structure) ticket ≡ Call op
   pub rounds-are : F ≡ rounds (numbered (s .structure)) (s .size)
-  pub tape-long : 2 * F + 1 ≤ length tape
+  pub tape-long : 2 * F + spareOf (s .structure) ≤ length tape
   pub trace-long : 2 * F ≤ length trace
   pub tree-bytes : Bytes tree
   pub ticket-bytes : Bytes ticket
@@ -142,28 +144,28 @@ module _ (s : State) (tree ticket tape trace : List ℕ) where
             a : AsksFor st (opIn st ticket) op
             a = asks-for (opIn st ticket) op asks
 
-            pub refused-6 : length tape < 2 * F + 1 → called s tree ticket tape trace ≡ refusing 6 s tree trace
+            pub refused-6 : length tape < 2 * F + spareOf (s .structure) → called s tree ticket tape trace ≡ refusing 6 s tree trace
             unfolding callWith
-            refused-6 h = past ∙ rw (a .is, ← rounds-are, lt-ltb (length tape) (2 * F + 1) h)
+            refused-6 h = past ∙ rw (a .is, ← rounds-are, lt-ltb (length tape) (2 * F + spareOf (s .structure)) h)
 
-            module _ (tape-long : 2 * F + 1 ≤ length tape) where
+            module _ (tape-long : 2 * F + spareOf (s .structure) ≤ length tape) where
               pub refused-7 : length trace < 2 * F → called s tree ticket tape trace ≡ refusing 7 s tree trace
               unfolding callWith
-              refused-7 h = past ∙ rw (a .is, ← rounds-are, le-ltb (length tape) (2 * F + 1) tape-long, lt-ltb (length trace) (2 * F) h)
+              refused-7 h = past ∙ rw (a .is, ← rounds-are, le-ltb (length tape) (2 * F + spareOf (s .structure)) tape-long, lt-ltb (length trace) (2 * F) h)
 
               pub goes-on : 2 * F ≤ length trace → called s tree ticket tape trace ≡ ending s trace (bucketCall (s .size) F (toOp op) (drawOf (s .size) tape) (storeOf s tree))
               unfolding callWith
               goes-on trace-long =
                   past
-                  ∙ rw (a .is, ← rounds-are, le-ltb (length tape) (2 * F + 1) tape-long, le-ltb (length trace) (2 * F) trace-long)
+                  ∙ rw (a .is, ← rounds-are, le-ltb (length tape) (2 * F + spareOf (s .structure)) tape-long, le-ltb (length trace) (2 * F) trace-long)
                   (ap (ending s trace)
                   (sym (call-back (a .asks) (s .size) F (drawOf (s .size) tape) (storeOf s tree))
                   ∙ ap (λ (x : Op). bucketCall (s .size) F (toOp x) (drawOf (s .size) tape) (storeOf s tree)) (a .same)))
 
-  -- What the code returns where it refuses.
-  pub refused-as : {r : Called} {n : ℕ} → r ≡ record { state = s; reply = Refused n; leaves = 0 } → called s tree ticket tape trace ≡ refusing n s tree trace
-      → endedAs r tree trace ≡ called s tree ticket tape trace
-  refused-as e h = ap (λ (c : Called). endedAs c tree trace) e ∙ sym h
+  -- What the core returns where it refuses.
+  pub refused-as : {r : Ran} {n : ℕ} (words : List ℕ) → r .ran ≡ false → r .reply ≡ Refused n → r .leaves ≡ 0 → called s tree ticket tape trace ≡ refusing n s tree trace
+      → leftOf s r words tree trace ≡ called s tree ticket tape trace
+  refused-as words ran reply leaves h = rw (ran, reply, leaves, h)
 
 -- ---- all checks were passed
 module _ {s : State} {op : Op} {F : ℕ} {tree ticket tape trace : List ℕ} (ok : Checked s op F tree ticket tape trace) {n : ℕ} {words : List ℕ} (loaded : Loaded s words n) where
@@ -216,6 +218,7 @@ module _ {s : State} {op : Op} {F : ℕ} {tree ticket tape trace : List ℕ} (ok
               structure-is = structure-is;
               limit-is = refl;
               tag-is = refl;
+              puts-are = ap (λ (x : Structure). F + spare x) structure-is ∙ sym (add-zero (F + spare (structureOf op)));
               op-fits =
                   subst (λ (x : Op). OpFits (toOp x)) (ask .same) (fits-back (ask .asks) (op-fits here ticket (ok .ticket-bytes) (ask .asks) (ask .is)));
               fit = rw (same-store, ← structure-is) (fit-store s tree (ok .fit) (ok .tree-sized) (ok .tree-bytes) widths);
@@ -229,17 +232,82 @@ module _ {s : State} {op : Op} {F : ℕ} {tree ticket tape trace : List ℕ} (ok
                         (distinct-none-twice (map (λ (m : Node ℕ). m .key) (waitingIn n words)) (ascending-distinct leafFormat (waitingIn n words) ascends));
                   };
             };
-        tape-long = ok .tape-long;
+        tape-long = omega (arith, ok .tape-long);
         trace-long = ok .trace-long;
       }
 
-  -- What the rounds and the step left is saved.
-  pub then-saved : (r : Ran) (words′ : List ℕ) {left : State} {tree′ trace′ : List ℕ}
-      → left ≡ saved (s .structure) k (r .mark) (r .entries) (r .root) (waitingIn (r .waiting) words′)
+  -- What the rounds and the step left.
+  pub then-left : (r : Ran) (words′ : List ℕ) {tree′ trace′ : List ℕ} → r .ran ≡ true
       → leftBy (s .structure) k r words′ tree′ trace′ ≡ endingWith (s .structure) k trace (bucketCall k F (toOp op) (drawOf k tape) (storeAt job n words tree))
-      → endedAs (record { state = left; reply = r .reply; leaves = r .leaves }) tree′ trace′ ≡ called s tree ticket tape trace
-  then-saved r words′ {left} {tree′} {trace′} e q =
-      ap (λ (x : State). endedAs (record { state = x; reply = r .reply; leaves = r .leaves }) tree′ trace′) e
-      ∙ q
+      → leftOf s r words′ tree′ trace′ ≡ called s tree ticket tape trace
+  then-left r words′ ran q =
+      rw ran
+      (q
       ∙ ap (λ (x : Store). ending s trace (bucketCall k F (toOp op) (drawOf k tape) x)) same-store
-      ∙ sym (goes-on s tree ticket tape trace (ok .not-closed) (ok .fit) (ok .tree-sized) (ok .ticket-sized) op (ok .asks) F (ok .rounds-are) (ok .tape-long) (ok .trace-long))
+      ∙ sym (goes-on s tree ticket tape trace (ok .not-closed) (ok .fit) (ok .tree-sized) (ok .ticket-sized) op (ok .asks) F (ok .rounds-are) (ok .tape-long) (ok .trace-long)))
+
+-- ---- by the head that the core is given
+module _ {s : State} {h : Head} {words : List ℕ} (st : StandsFor s h words) where
+  pub head-sizes : (1 ≤ h .size) × (h .size ≤ 8)
+  head-sizes = let q = fit-state s (st .fit) .size in rw (st .head) q
+
+  module _ (tree ticket tape trace : List ℕ) where
+    abbrev Gives : ℕ → Type 0
+    Gives n = called s tree ticket tape trace ≡ refusing n s tree trace
+
+    pub gives-3 : (length tree ≡ treeLength (h .size) → ⊥) → Gives 3
+    gives-3 no = refused-3 s tree ticket tape trace (st .not-closed) (st .fit) (rw (st .head) at no)
+
+    module _ (sized : length tree ≡ treeLength (h .size)) where
+      tree-is : length tree ≡ treeLength (s .size)
+      tree-is = rw (st .head) at sized
+
+      pub gives-4 : (length ticket ≡ ticketLength → ⊥) → Gives 4
+      gives-4 = refused-4 s tree ticket tape trace (st .not-closed) (st .fit) tree-is
+
+      module _ (whole : length ticket ≡ ticketLength) where
+        pub gives-5 : asked (h .structure) ticket ≡ Unknown → Gives 5
+        gives-5 e = refused-5 s tree ticket tape trace (st .not-closed) (st .fit) tree-is whole (rw (st .head) at e)
+
+        module _ (op : Op) (asks : asked (h .structure) ticket ≡ Call op) (F : ℕ) (rounds-are : F ≡ roundsOf (h .structure) (h .size)) where
+          asks-is : asked (s .structure) ticket ≡ Call op
+          asks-is = rw (st .head) at asks
+
+          rounds-is : F ≡ roundsOf (s .structure) (s .size)
+          rounds-is = rw (st .head) at rounds-are
+
+          pub gives-6 : length tape < 2 * F + spareOf (h .structure) → Gives 6
+          gives-6 short = refused-6 s tree ticket tape trace (st .not-closed) (st .fit) tree-is whole op asks-is F rounds-is (rw (st .head) at short)
+
+          module _ (long : 2 * F + spareOf (h .structure) ≤ length tape) where
+            pub gives-7 : length trace < 2 * F → Gives 7
+            gives-7 = refused-7 s tree ticket tape trace (st .not-closed) (st .fit) tree-is whole op asks-is F rounds-is (rw (st .head) at long)
+
+            pub all-checked : 2 * F ≤ length trace → Bytes tree → Bytes ticket → LinkWidths (h .root) → Checked s op F tree ticket tape trace
+            all-checked trace-long tree-bytes ticket-bytes root-widths =
+                record {
+                  not-closed = st .not-closed;
+                  fit = st .fit;
+                  tree-sized = tree-is;
+                  ticket-sized = whole;
+                  asks = asks-is;
+                  rounds-are = rounds-is;
+                  tape-long = rw (st .head) at long;
+                  trace-long = trace-long;
+                  tree-bytes = tree-bytes;
+                  ticket-bytes = ticket-bytes;
+                  root-widths = rw (st .head) at root-widths;
+                }
+
+-- What was run for a head is what is run for the state.
+pub head-runs : {s : State} {h : Head} {words : List ℕ} (st : StandsFor s h words) {op : Op} {F : ℕ} {tree ticket tape trace : List ℕ}
+    → Checked s op F tree ticket tape trace → Runs (jobFor (h .structure) (h .size) (h .entries) (h .root) op F tape) (h .waiting) words tree tape trace
+head-runs st ok = rw (st .head) (can-run ok (st .loaded))
+
+pub head-left : {s : State} {h : Head} {words : List ℕ} (st : StandsFor s h words) {op : Op} {F : ℕ} {tree ticket tape trace : List ℕ}
+    → Checked s op F tree ticket tape trace → (r : Ran) (words′ : List ℕ) {tree′ trace′ : List ℕ} → r .ran ≡ true
+    → leftBy (h .structure) (h .size) r words′ tree′ trace′
+    ≡ endingWith (h .structure) (h .size) trace
+    (bucketCall (h .size) F (toOp op) (drawOf (h .size) tape) (storeAt (jobFor (h .structure) (h .size) (h .entries) (h .root) op F tape) (h .waiting) words tree))
+    → leftOf s r words′ tree′ trace′ ≡ called s tree ticket tape trace
+head-left st ok r words′ ran q = then-left ok (st .loaded) r words′ ran (rw (st .head) at q)

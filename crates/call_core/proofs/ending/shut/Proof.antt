@@ -1,9 +1,9 @@
-use Rattle.call.specs.EndingLaws.{shut-ends}
+use Rattle.call_core.specs.EndingLaws.{shut-ends}
 use borrow.Author.Needs.{needs}
-use Rattle.call.proofs.ending.shut.Statement.{statement}
-use Rattle.call.proofs.ending.shut.Tie as tie
-use Rattle.call.proofs.ending.shut.Reads as reads
-use Rattle.call.proofs.ending.shut.Lts as lts
+use Rattle.call_core.proofs.ending.shut.Statement.{statement}
+use Rattle.call_core.proofs.ending.shut.Tie as tie
+use Rattle.call_core.proofs.ending.shut.Reads as reads
+use Rattle.call_core.proofs.ending.shut.Lts as lts
 use Rattle.stash.proofs.join.join_nodes.Reads as join-nodes-reads
 use Rattle.steps.proofs.fetched.closed.Reads as closed-reads
 

@@ -9,7 +9,7 @@ use Rattle.balance.specs.Least.{least}
 use Rattle.balance.specs.Shape.{shaped}
 use Rattle.balance.specs.Greatest.{tallest, greatest}
 use Rattle.balance.specs.GreatestLaws.{greatest-mono}
-use Rattle.method.specs.Prog.{done, after}
+use Rattle.method.specs.Prog.{Prog, done, after}
 use Rattle.method.specs.Answer as answer
 use Rattle.method.specs.Answer.{Structure}
 use Rattle.method.specs.Map.{Outcome}
@@ -20,24 +20,29 @@ use Rattle.leaf_nodes.specs.Leaf.{leafFormat}
 use Rattle.buckets.specs.Words.{wordCount}
 use Rattle.calls.specs.Fetch as fetch
 use Rattle.calls.specs.Fetch.{Left, Going, on, shut, closing, fetchRounds}
-use Rattle.calls.specs.Call.{Store, drawOf, bucketCall}
+use Rattle.calls.specs.Call.{Store, drawOf, fetchedBy, bucketCall}
 use Rattle.closing.specs.Sound.{placesFor}
-use Rattle.closing.specs.Lost.{fetchedBy, left-shut, left-on, fetch-closing, stepping}
+use Rattle.closing.specs.Lost.{left-shut, left-on, fetch-closing, stepping}
 use Rattle.state.specs.Ticket as ticket
-use Rattle.steps.specs.Method.{toLink, toOp, nodesOf, outcomeIn}
+use Rattle.leaf_nodes.specs.Convert.{toLink}
+use Rattle.operations.specs.Method.{toOp, outcomeIn}
+use Rattle.node_rows.specs.Row.{words as rowWords, fromIn, fromsIn}
+use Rattle.node_rows.specs.Held.{Held, heldIn, nodesOf}
+use Rattle.node_rows.specs.HeldLaws.{first-length}
+use Rattle.node_rows.specs.HeldLaws as row
 use Rattle.store.specs.Store.{Ended}
 use Rattle.waiting.specs.WaitingLaws.{waiting-length}
 use Rattle.call_rounds.specs.OneRound.{going}
 use Rattle.phases.specs.declared.wanting.Job.{Job}
 use Rattle.phases.specs.declared.wanting.Fetched.{Fetched}
 use Rattle.idle_rounds.specs.IdleLaws.{draw-leaf, goes-on, stops-here}
-use Rattle.phases.specs.Wanting.{fromsIn, heldIn, structureIn, programOf, storeAt, fetched, Begins, Fetches}
-use Rattle.phases.specs.WantingLaws.{at-most, root-low, held-length}
+use Rattle.phases.specs.Wanting.{heldBy, structureIn, programOf, storeAt, fetched, Begins, Fetches}
+use Rattle.phases.specs.WantingLaws.{at-most, root-low, same-program, held-length}
 use Rattle.phases.specs.FetchLaws.{Done, is-done, drop-on}
 use Rattle.idle_rounds.specs.Idle.{keysHeld}
-use Rattle.call.specs.declared.ending.Ran.{Ran}
-use Rattle.call.specs.Run.{leftBy, endingWith, goingBy, outcomeOf, Shuts, ShutAs, Finishes, finishedBy, FinishedAs, Runs}
-use Rattle.call.specs.EndingLaws.{joined-length, numbers-first}
+use Rattle.call_core.specs.declared.ending.Ran.{Ran}
+use Rattle.call_core.specs.Run.{leftBy, endingWith, goingBy, outcomeOf, Shuts, ShutAs, Finishes, finishedBy, FinishedAs, Runs}
+use Rattle.call_core.specs.EndingLaws.{joined-length, numbers-first}
 
 some-rounds : (s : Structure) (k : ℕ) → 1 ≤ k → 1 ≤ rounds s k
 unfolding rounds least shaped tallest greatest
@@ -74,14 +79,20 @@ module _ {j : Job} {n : ℕ} {words tree tape trace : List ℕ} (ok : Runs j n w
   small : k ≤ 16
   small = omega (arith, begins .small)
 
-  module _ {words′ scratch′ tree′ trace′ : List ℕ} {f : Fetched} (came : Fetches j draw n words tree trace words′ scratch′ tree′ trace′ f) where
+  module _ {h : Held} {froms words′ scratch′ tree′ trace′ : List ℕ} {f : Fetched} (came : Fetches j draw n words tree trace h froms words′ scratch′ tree′ trace′ f) where
     abbrev mid : Going
-    mid = goingBy f words′ tree′ trace′
+    mid = goingBy h froms f words′ tree′ trace′
 
     all-fetched : fetchedBy k F op draw store ≡ fetched j draw F n words tree
     all-fetched =
-        ap₂ (λ (t l : ℕ). fetchRounds (structureIn j) k draw F 0 (program 0 op t l (j .entries) (toLink (j .root))) (going n words tree [] []))
-        (sym (begins .tag-is)) (sym (begins .limit-is))
+        ap (λ (p : Prog ℕ (Outcome ℕ)). fetchRounds (structureIn j) (j .entries) k draw F 0 p (going n words tree [] []))
+        (rw (begins .rounds-are) (sym (same-program j draw is-leaf begins)))
+
+    held-counted : length (nodesOf h) ≡ h .count
+    held-counted = row.held-length h (omega (arith, came .row-sized, came .few))
+
+    froms-paired : length (fromsIn (h .count) froms) ≡ length (nodesOf h)
+    froms-paired = first-length fromIn froms (h .count) (omega (arith, came .froms-sized, came .few)) ∙ sym held-counted
 
     long : F ≤ length trace
     long = omega (arith, ok .trace-long)
@@ -93,27 +104,28 @@ module _ {j : Job} {n : ℕ} {words tree tape trace : List ℕ} (ok : Runs j n w
     -- ---- a fetch round closed the store
     module _ (marked : f .mark ≡ 0 → ⊥) where
       closed-by : fetchedBy k F op draw store ≡ shut (f .mark) mid
-      closed-by = all-fetched ∙ came .outcome ∙ stops-here (f .mark) mid (after (programOf j) (nodesOf (f .held))) marked
+      closed-by = all-fetched ∙ came .outcome ∙ stops-here (f .mark) mid (after (programOf j) (nodesOf h)) marked
 
       left-is : bucketCall k F op draw store ≡ closing (f .mark) (j .entries) (toLink (j .root)) mid
       left-is = left-shut k F op draw store (f .mark) mid closed-by
 
-      pub run-shuts : Shuts f words′
+      pub run-shuts : (row : List ℕ) → length row ≡ rowWords → Shuts f words′ row froms
       unfolding closing
-      run-shuts =
+      run-shuts row row-words =
           let keeps = fetch-closing k (begins .some-size) small op (begins .op-fits) draw is-leaf store (begins .fit) (f .mark) mid (rw (← begins .rounds-are) closed-by) .2 in
           let room : length (join leafFormat (fetch.movedNodes (mid .held)) (mid .waiting)) ≤ placesFor k = rw (← begins .rounds-are, left-is, closing) at (keeps .room) in
           let a = joined-length (fetch.movedNodes (mid .held)) (mid .waiting) in
           let b = length-map (mid .held) (λ (h : fetch.Held). fetch.movedNode (mid .held) (h .node)) in
-          let c = held-length (fromsIn (f .held) (f .came)) (nodesOf (f .held)) (came .paired) in
+          let c = held-length (fromsIn (h .count) froms) (nodesOf h) froms-paired in
           record {
             holds = came .rests .holds;
-            few = came .few;
-            paired = came .paired;
-            room = omega (arith, room, a, b, c, waiting-length (came .rests .holds), begins .small, came .counted);
+            few = omega (arith, came .few, came .counted);
+            row-words = row-words;
+            froms-sized = came .froms-sized;
+            room = omega (arith, room, a, b, c, waiting-length (came .rests .holds), begins .small, held-counted, came .counted);
           }
 
-      pub run-ends-shut : {r : Ran} {words″ : List ℕ} → ShutAs j f words′ words″ r → EndsAs r words″ tree′ trace′
+      pub run-ends-shut : {r : Ran} {words″ : List ℕ} → ShutAs j f h froms words′ words″ r → EndsAs r words″ tree′ trace′
       unfolding closing
       run-ends-shut e =
           let fits : f .leaves ≤ length trace′ = omega (arith, came .no-more, came .trace-sized, long) in
@@ -126,21 +138,21 @@ module _ {j : Job} {n : ℕ} {words tree tape trace : List ℕ} (ok : Runs j n w
 
     -- ---- all fetch rounds went on
     module _ (went : f .mark ≡ 0) where
-      over : Done (after (programOf j) (nodesOf (f .held)))
-      over = is-done (after (programOf j) (nodesOf (f .held))) (came .finished went)
+      over : Done (after (programOf j) (nodesOf h))
+      over = is-done (after (programOf j) (nodesOf h)) (came .finished went)
 
       abbrev O : Outcome ℕ
-      O = outcomeOf j f
+      O = outcomeOf j h
 
       made : over .outcome ≡ O
       made = sym (ap (outcomeIn (toLink (j .root)) (j .entries)) (over .is))
 
       fetched-all : fetchedBy k F op draw store ≡ on mid (done O)
       fetched-all =
-          all-fetched ∙ came .outcome ∙ goes-on (f .mark) mid (after (programOf j) (nodesOf (f .held))) went
+          all-fetched ∙ came .outcome ∙ goes-on (f .mark) mid (after (programOf j) (nodesOf h)) went
           ∙ ap (on mid) (over .is ∙ ap done made)
 
-      pub run-finishes : Finishes j f words′ scratch′ tree′ (keysHeld (heldIn (f .held) (f .came)))
+      pub run-finishes : Finishes j f h words′ scratch′ tree′
       run-finishes =
           let st = stepping k (begins .some-size) small op (begins .op-fits) draw is-leaf store (begins .fit) mid O (rw (← begins .rounds-are) fetched-all) in
           let a = joined-length (O .nodes) (mid .waiting) in
@@ -148,20 +160,23 @@ module _ {j : Job} {n : ℕ} {words tree tape trace : List ℕ} (ok : Runs j n w
             small = begins .small;
             some-rounds = rw (begins .rounds-are) (some-rounds (structureIn j) k (begins .some-size));
             few-rounds = at-most j draw is-leaf begins;
-            rests = came .rests;
-            low = record { few = came .few; low = came .low; root-low = root-low j draw is-leaf begins };
+            holds = came .rests .holds;
+            scratch-sized = came .rests .scratch-sized;
+            order = came .rests .order;
+            held = record { places = came .row-sized; few = came .few; within = omega arith; low = came .low };
+            root-low = root-low j draw is-leaf begins;
             is-tree = st .sound .is-tree;
             proper = st .sound .waiting;
             room = omega (arith, st .few, a, waiting-length (came .rests .holds));
             leaves-are = came .all-shown went;
           }
 
-      left-finished : bucketCall k F op draw store ≡ finishedBy j draw f words′ tree′ trace′
-      left-finished = left-on k F op draw store mid O fetched-all
+      left-finished : bucketCall k F op draw store ≡ finishedBy j draw f h words′ tree′ trace′
+      left-finished = rw (begins .puts-are) (left-on k F op draw store mid O fetched-all)
 
-      pub run-ends-finished : {r : Ran} {words″ tree″ trace″ : List ℕ} → FinishedAs j draw f words′ tree′ trace′ words″ tree″ trace″ r → EndsAs r words″ tree″ trace″
+      pub run-ends-finished : {r : Ran} {words″ tree″ trace″ : List ℕ} → FinishedAs j draw f h words′ tree′ trace′ words″ tree″ trace″ r → EndsAs r words″ tree″ trace″
       run-ends-finished {r} e =
-          let l = finishedBy j draw f words′ tree′ trace′ in
+          let l = finishedBy j draw f h words′ tree′ trace′ in
           let many : r .leaves ≡ length (l .leaves) = ap (λ (x : Ended). x .leaves) (e .ends) in
           let at-fetched : drop F trace′ ≡ drop F trace = rw (← came .all-shown went) (came .untouched) in
           let all : length (l .leaves) ≡ F + (length (l .leaves) - F) = omega (arith, e .enough) in

@@ -1,6 +1,7 @@
 -- What a call leaves after its fetch rounds.
 use mathlib.Core.Path.{_≡_, refl, sym, _∙_, ap, ap₂}
-use mathlib.Core.List.{List, [], _++_, map}
+use mathlib.Core.Bool.{true}
+use mathlib.Core.List.{List, [], _++_}
 use mathlib.Core.Option.{none}
 use Prim.Native.Nat.{ℕ, _+_, _-_, _*_, _≤_}
 use native.Mathlib.Decide.{ℕ-discrete}
@@ -16,18 +17,19 @@ use Rattle.method.specs.Call.{drawsFrom}
 use Rattle.runs.specs.Calls.{draws-length}
 use Rattle.rounds.specs.Round.{join}
 use Rattle.round_laws.specs.Lists.{join-perm}
-use Rattle.leaf_nodes.specs.Convert.{fromLink, toNode}
+use Rattle.leaf_nodes.specs.Convert.{fromLink}
 use Rattle.leaf_nodes.specs.Leaf.{leafFormat}
 use Rattle.calls.specs.Fetch as fetch
 use Rattle.calls.specs.Fetch.{Going, on, closing}
 use Rattle.calls.specs.Call.{afterPuts, putRounds, stepped}
 use Rattle.slots.specs.declared.Link as link
 use Rattle.state.specs.declared.State.{State}
-use Rattle.steps.specs.declared.Outcome as outcome
-use Rattle.steps.specs.Widths.{byteOutcome}
-use Rattle.steps.specs.WidthLaws.{outcome-fits}
-use Rattle.steps.specs.Method.{toLink, toOp, nodesOf, toOutcome, toAnswer}
-use Rattle.steps.specs.Moved.{movedLink, ClosedTo}
+use Rattle.leaf_nodes.specs.Convert.{toLink}
+use Rattle.operations.specs.declared.Outcome as outcome
+use Rattle.operations.specs.Method.{toOutcome, toAnswer}
+use Rattle.slots.specs.Row.{nodesFrom}
+use Rattle.node_rows.specs.Held.{Held, heldIn, nodesOf}
+use Rattle.tag_moves.specs.Moved.{TagsMoved}
 use Rattle.store.specs.declared.Reply.{Reply}
 use Rattle.store.specs.declared.Reply.the-variants.{Refused}
 use Rattle.store.specs.Store.{Ended, replied, replyOf}
@@ -39,12 +41,11 @@ use Rattle.call_rounds.specs.OneRound.{going, endedWith}
 use Rattle.idle_rounds.specs.declared.idle.Idle.{Idle}
 use Rattle.phases.specs.declared.wanting.Job.{Job}
 use Rattle.phases.specs.declared.wanting.Fetched.{Fetched}
-use Rattle.phases.specs.Wanting.{fromsIn, heldIn}
+use Rattle.phases.specs.Wanting.{heldBy}
 use Rattle.phases.specs.Put.{Stepped, Puts}
 use Rattle.idle_rounds.specs.IdleLaws.{goes-on, stops-here}
-use Rattle.call.specs.declared.ending.Ran.{Ran}
-use Rattle.call.specs.Run.{leftBy, endingWith, goingBy, outcomeOf, answered, Shuts, ShutAs, Finishes, finishedBy, FinishedAs}
-use Rattle.call.specs.MovedLaws.{moved-link, moved-nodes}
+use Rattle.call_core.specs.declared.ending.Ran.{Ran}
+use Rattle.call_core.specs.Run.{leftBy, endingWith, goingBy, outcomeOf, answered, Shuts, ShutAs, Finishes, finishedBy, FinishedAs}
 
 -- ---- parts alike
 saved-same : {structure size m m′ n n′ : ℕ} {l l′ : link.Link} {ws ws′ : List (Node ℕ)} → m ≡ m′ → n ≡ n′ → l ≡ l′ → ws ≡ ws′
@@ -67,28 +68,26 @@ pub numbers-first : (n : ℕ) (trace : List ℕ) → n ≤ length trace → leng
 numbers-first n trace h = length-take n trace ∙ omega arith
 
 -- ---- a fetch round closed the store
-module _ (j : Job) (f : Fetched) (words : List ℕ) (shuts : Shuts f words) {o : outcome.Outcome} {words′ : List ℕ} {m : ℕ}
-    (moved : ClosedTo (f .held) (f .came) (j .root) (j .entries) o) (joined : NodesJoined (f .waiting) (o .nodes) (o .count) words words′ m) where
+module _ (j : Job) (f : Fetched) (words row froms : List ℕ) {row′ words′ : List ℕ} {l : link.Link} {m : ℕ}
+    (moved : TagsMoved (f .count) froms (toLink (j .root)) row row′ (toLink l)) (joined : NodesJoined (f .waiting) (nodesFrom row′) (f .count) words words′ m) where
   abbrev held : List fetch.Held
-  held = heldIn (f .held) (f .came)
-
-  same-nodes : map toNode (take (o .count) (o .nodes)) ≡ fetch.movedNodes held
-  same-nodes = moved .nodes ∙ sym (moved-nodes (fromsIn (f .held) (f .came)) (nodesOf (f .held)) (shuts .paired))
+  held = heldBy (heldIn row (f .count)) froms
 
   same-waiting : waitingIn m words′ ≡ join leafFormat (fetch.movedNodes held) (waitingIn (f .waiting) words)
-  same-waiting = joined .waiting ∙ ap (λ (ns : List (Node ℕ)). join leafFormat ns (waitingIn (f .waiting) words)) same-nodes
+  same-waiting = joined .waiting ∙ ap (λ (ns : List (Node ℕ)). join leafFormat ns (waitingIn (f .waiting) words)) (moved .nodes)
 
-  same-root : o .root ≡ fromLink (fetch.movedLink held root (toLink (j .root)))
-  same-root = ap fromLink (moved .root ∙ sym (moved-link (fromsIn (f .held) (f .came)) (nodesOf (f .held)) root (toLink (j .root))))
+  same-root : l ≡ fromLink (fetch.movedLink held root (toLink (j .root)))
+  same-root = ap fromLink (moved .link)
 
-  pub shut-ends : ShutAs j f words words′
-      (record { mark = f .mark; entries = o .entries; root = o .root; waiting = m; reply = Refused (f .mark); leaves = f .leaves })
+  pub shut-ends : ShutAs j f (heldIn row (f .count)) froms words words′
+      (record { ran = true; mark = f .mark; entries = j .entries; root = l; waiting = m; reply = Refused (f .mark); leaves = f .leaves })
   unfolding closing replied
   shut-ends =
       record {
+        ran = refl;
         holds = joined .holds;
         ends = λ tree trace h.
-            ended-same (saved-same refl (moved .kept) same-root same-waiting) refl (sym (numbers-first (f .leaves) trace h)) refl (first-and-rest (f .leaves) trace h);
+            ended-same (saved-same refl refl same-root same-waiting) refl (sym (numbers-first (f .leaves) trace h)) refl (first-and-rest (f .leaves) trace h);
       }
 
 -- ---- the step and the put rounds
@@ -102,17 +101,13 @@ closing-none : (mark entries : ℕ) (l : Link ℕ) (n : ℕ) (words tree leaves 
 unfolding closing join fetch.movedLink
 closing-none mark entries l n words tree leaves = refl
 
-module _ (j : Job) (draw : ℕ → ℕ) (f : Fetched) {words scratch tree keys : List ℕ} (trace : List ℕ) (b : Finishes j f words scratch tree keys)
-    (long : 2 * j .rounds ≤ length trace) (o : outcome.Outcome) (told : toOutcome o ≡ byteOutcome (outcomeOf j f))
-    {words′ : List ℕ} {m : ℕ} (joined : NodesJoined (f .waiting) (o .nodes) (o .count) words words′ m) where
+module _ (j : Job) (draw : ℕ → ℕ) (f : Fetched) (h : Held) {words scratch tree : List ℕ} (trace : List ℕ) (b : Finishes j f h words scratch tree)
+    (long : 2 * j .rounds ≤ length trace) (o : outcome.Outcome) (row : List ℕ) (made : toOutcome o (nodesOf (heldIn row (o .made))) ≡ outcomeOf j h)
+    {words′ : List ℕ} {m : ℕ} (joined : NodesJoined (f .waiting) (nodesFrom row) (o .made) words words′ m) where
   abbrev O : Outcome ℕ
-  O = outcomeOf j f
+  O = outcomeOf j h
 
-  -- Heights are low here: the step is the method's as it stands.
-  made : toOutcome o ≡ O
-  made = told ∙ outcome-fits (toOp (j .op)) (j .tag) (j .limit) (j .entries) (j .root) (f .held) (b .low)
-
-  made-nodes : map toNode (take (o .count) (o .nodes)) ≡ O .nodes
+  made-nodes : nodesOf (heldIn row (o .made)) ≡ O .nodes
   made-nodes = ap (λ (x : Outcome ℕ). x .nodes) made
 
   pub waits-then : waitingIn m words′ ≡ join leafFormat (O .nodes) (waitingIn (f .waiting) words)
@@ -125,15 +120,15 @@ module _ (j : Job) (draw : ℕ → ℕ) (f : Fetched) {words scratch tree keys :
         small = b .small;
         is-tree = b .is-tree;
         holds = joined .holds;
-        scratch-sized = b .rests .scratch-sized;
+        scratch-sized = b .scratch-sized;
         proper = rw waits-then (b .proper);
-        few = omega (arith, waiting-length (joined .holds), ap length waits-then, joined-length (O .nodes) (waitingIn (f .waiting) words), waiting-length (b .rests .holds), b .room);
-        twice = λ e. rw waits-then (join-twice leafFormat (O .nodes) (waitingIn (f .waiting) words) (b .rests .order) (rw waits-then at e));
+        few = omega (arith, waiting-length (joined .holds), ap length waits-then, joined-length (O .nodes) (waitingIn (f .waiting) words), waiting-length (b .holds), b .room);
+        twice = λ e. rw waits-then (join-twice leafFormat (O .nodes) (waitingIn (f .waiting) words) (b .order) (rw waits-then at e));
       }
 
-  module _ {words″ tree″ trace″ : List ℕ} {r : Idle} (puts : Puts (j .size) m draw (j .rounds) words′ tree trace words″ tree″ trace″ r) where
+  module _ {words″ tree″ trace″ : List ℕ} {r : Idle} (puts : Puts (j .size) m draw (j .rounds) (j .puts) words′ tree trace words″ tree″ trace″ r) where
     abbrev draws : List ℕ
-    draws = drawsFrom draw (r .shown) (j .rounds + 1)
+    draws = drawsFrom draw (r .shown) (j .puts)
 
     abbrev leaves″ : List ℕ
     leaves″ = take (f .leaves) trace ++ draws
@@ -142,14 +137,14 @@ module _ (j : Job) (draw : ℕ → ℕ) (f : Fetched) {words scratch tree keys :
     end = going (r .waiting) words″ tree″ [] leaves″
 
     -- What the put rounds came to.
-    came-to : putRounds (j .size) draw (j .rounds) (j .rounds + 1) O (stepped O (goingBy f words tree trace)) ≡ endedWith (r .mark) end (done O)
+    came-to : putRounds (j .size) draw (j .rounds) (j .puts) O (stepped O (going (f .waiting) words tree [] (take (f .leaves) trace))) ≡ endedWith (r .mark) end (done O)
     came-to =
-        ap (λ (ws : List (Node ℕ)). putRounds (j .size) draw (j .rounds) (j .rounds + 1) O (record { tree = tree; waiting = ws; held = []; leaves = take (f .leaves) trace }))
+        ap (λ (ws : List (Node ℕ)). putRounds (j .size) draw (j .rounds) (j .puts) O (record { tree = tree; waiting = ws; held = []; leaves = take (f .leaves) trace }))
         (sym waits-then)
         ∙ puts .rounds (take (f .leaves) trace) O
 
     many : length draws ≡ r .shown
-    many = draws-length draw (r .shown) (j .rounds + 1)
+    many = draws-length draw (r .shown) (j .puts)
 
     leaves-many : length leaves″ ≡ j .rounds + r .shown
     leaves-many =
@@ -169,10 +164,10 @@ module _ (j : Job) (draw : ℕ → ℕ) (f : Fetched) {words scratch tree keys :
     kept-as e = saved-same {ws = waitingIn (r .waiting) words″} (sym e) (ap (λ (x : Outcome ℕ). x .entries) made) (ap (λ (x : Outcome ℕ). fromLink (x .root)) made) refl
 
     abbrev ran : Reply → Ran
-    ran p = record { mark = r .mark; entries = o .entries; root = o .root; waiting = r .waiting; reply = p; leaves = j .rounds + r .shown }
+    ran p = record { ran = true; mark = r .mark; entries = o .entries; root = o .root; waiting = r .waiting; reply = p; leaves = j .rounds + r .shown }
 
     abbrev EndsAs : Reply → Type 0
-    EndsAs p = leftBy (j .structure) (j .size) (ran p) words″ tree″ trace″ ≡ endingWith (j .structure) (j .size) trace (finishedBy j draw f words tree trace)
+    EndsAs p = leftBy (j .structure) (j .size) (ran p) words″ tree″ trace″ ≡ endingWith (j .structure) (j .size) trace (finishedBy j draw f h words tree trace)
 
     -- A put round closed the store.
     finish-shuts : {p : Reply} → (r .mark ≡ 0 → ⊥) → p ≡ Refused (r .mark) → EndsAs p
@@ -191,9 +186,9 @@ module _ (j : Job) (draw : ℕ → ℕ) (f : Fetched) {words scratch tree keys :
         ended-same (kept-as (sym went)) (q ∙ ap (λ (x : Outcome ℕ). replyOf (x .answer)) made) (sym leaves-many) refl trace-is
         ∙ ap (endingWith (j .structure) (j .size) trace) (sym (ap (afterPuts O) (came-to ∙ goes-on (r .mark) end (done O) went)))
 
-    pub finish-ends : {p : Reply} → p ≡ answered (r .mark) (toAnswer (o .answer)) → FinishedAs j draw f words tree trace words″ tree″ trace″ (ran p)
-    finish-ends {p} q = record { holds = puts .holds; enough = omega arith; ends = go (ℕ-discrete (r .mark) 0) }
+    pub finish-ends : {p : Reply} → p ≡ answered (r .mark) (toAnswer (o .answer)) → FinishedAs j draw f h words tree trace words″ tree″ trace″ (ran p)
+    finish-ends {p} q = record { holds = puts .holds; ran = refl; enough = omega arith; ends = go (ℕ-discrete (r .mark) 0) }
       where
         go : Dec (r .mark ≡ 0) → EndsAs p
         go (yes e) = finish-answers e (q ∙ rw (eq-eqb (r .mark) 0 e))
-        go (no h) = finish-shuts h (q ∙ rw (ne-eqb (r .mark) 0 h))
+        go (no d) = finish-shuts d (q ∙ rw (ne-eqb (r .mark) 0 d))

@@ -3,25 +3,28 @@ use buckets::WORDS;
 use phases::put::put_rounds;
 use phases::wanting::Fetched;
 use phases::wanting::Job;
+use node_rows::FETCHES;
+use node_rows::ROW;
+use operations::Answer;
 use slots::Link;
 use stash::join::join_nodes;
-use steps::Answer;
-use steps::fetched::closed;
 use steps::operation::step;
 use store::Reply;
+use tag_moves::move_tags;
 ghost use mathlib.Core.Path.{_≡_};
 ghost use Prim.Native.Nat.{_+_, _*_, _≤_};
 ghost use lib.ListN.{length};
 ghost use Rattle.calls.specs.Call.{drawOf};
-ghost use Rattle.steps.specs.Method.{toAnswer};
+ghost use Rattle.operations.specs.Method.{toAnswer};
 ghost use Rattle.store.specs.Store.{replyOf};
-ghost use Rattle.idle_rounds.specs.Idle.{keysHeld};
-ghost use Rattle.phases.specs.Wanting.{heldIn};
-ghost use Rattle.call.specs.Run.{answered, Shuts, ShutAs, Finishes, FinishedAs};
+ghost use Rattle.node_rows.specs.Row.{words as rowWords};
+ghost use Rattle.node_rows.specs.Held.{heldIn};
+ghost use Rattle.call_core.specs.Run.{answered, Shuts, ShutAs, Finishes, FinishedAs};
 
-// What the rounds and the step of a call leave beside the words of the waiting nodes: the mark, the entries, the root link, how
-// many nodes wait, the reply, and how many leaves were revealed.
+// What a call leaves beside the words of the waiting nodes: whether it made its rounds or was refused, the mark, the entries, the
+// root link, how many nodes wait, the reply, and how many leaves were revealed.
 pub struct Ran {
+    pub ran: bool,
     pub mark: u8,
     pub entries: u16,
     pub root: Link,
@@ -58,20 +61,23 @@ fn reply_after(mark: u8, answer: Answer) -> Reply
 }
 
 // A fetch round closed the store: the held nodes join those waiting, as they were fetched, with only tags moved.
-pub fn shut(job: Job, f: Fetched, w: &mut [u64; WORDS]) -> Ran
-    requires { ⌜ Shuts f (now w) ⌝ }
-    ensures { λ r. ⌜ ShutAs job f (now (w .entry)) (now (w .exit)) r ⌝ }
+pub fn shut(
+    job: Job,
+    f: Fetched,
+    w: &mut [u64; WORDS],
+    held: &mut [u64; ROW],
+    froms: &[u64; FETCHES],
+) -> Ran
+    requires { ⌜ Shuts f (now w) (now held) (now froms) ⌝ }
+    ensures { λ r. ⌜ ShutAs job f (heldIn (now (held .entry)) (f .count)) (now (froms .entry)) (now (w .entry)) (now (w .exit)) r ⌝ }
 {
-    let held = f.held;
-    let came = f.came;
     let old = job.root;
-    let o = closed(held, came, old, job.entries);
-    let nodes = o.nodes;
-    let root = o.root;
-    let waiting = join_nodes(w, f.waiting, nodes, o.count);
+    let root = move_tags(held, f.count, froms, old);
+    let waiting = join_nodes(w, f.waiting, held, f.count);
     Ran {
+        ran: true,
         mark: f.mark,
-        entries: o.entries,
+        entries: job.entries,
         root,
         waiting,
         reply: Reply::Refused(f.mark),
@@ -86,26 +92,29 @@ pub fn finish(
     w: &mut [u64; WORDS],
     s: &mut [u64; WORDS],
     tree: &mut [u8],
+    held: &[u64; ROW],
+    made: &mut [u64; ROW],
     keys: &[u32],
     tape: &[u16],
     trace: &mut [u16],
 ) -> Ran
-    requires { ⌜ (Finishes job f (now w) (now s) (now tree) (keysHeld (heldIn (f .held) (f .came)))) × ((2 * job .rounds + 1 ≤ length (now tape)) × (2 * job .rounds ≤ length (now trace))) ⌝ }
-    ensures { λ r. ⌜ FinishedAs job (drawOf (job .size) (now (tape .entry))) f (now (w .entry)) (now (tree .entry)) (now (trace .entry)) (now (w .exit)) (now (tree .exit)) (now (trace .exit)) r ⌝ }
+    requires { ⌜ (Finishes job f (heldIn (now held) (f .count)) (now w) (now s) (now tree)) × (((length (now held) ≡ rowWords) × (length (now made) ≡ rowWords)) × ((job .puts + job .rounds ≤ length (now tape)) × (2 * job .rounds ≤ length (now trace)))) ⌝ }
+    ensures { λ r. ⌜ FinishedAs job (drawOf (job .size) (now (tape .entry))) f (heldIn (now (held .entry)) (f .count)) (now (w .entry)) (now (tree .entry)) (now (trace .entry)) (now (w .exit)) (now (tree .exit)) (now (trace .exit)) r ⌝ }
 {
     let op = job.op;
     let old = job.root;
-    let held = f.held;
-    let o = step(op, job.limit, job.entries, old, job.tag, held);
-    let nodes = o.nodes;
+    let o = step(op, job.limit, job.entries, old, job.tag, held, f.count, made);
     let root = o.root;
     let entries = o.entries;
     let answer = o.answer;
-    let m = join_nodes(w, f.waiting, nodes, o.count);
-    let r = put_rounds(w, m, s, tree, job.size, job.rounds, keys, tape, trace);
+    let m = join_nodes(w, f.waiting, made, o.made);
+    let r = put_rounds(
+        w, m, s, tree, job.size, job.rounds, job.puts, keys, tape, trace,
+    );
     let reply = reply_after(r.mark, answer);
     let leaves = job.rounds + r.shown;
     Ran {
+        ran: true,
         mark: r.mark,
         entries,
         root,

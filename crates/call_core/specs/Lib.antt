@@ -1,5 +1,4 @@
 pub mod Run
-pub mod MovedLaws
-pub mod EndingLaws
 pub mod RunLaws
+pub mod EndingLaws
 pub mod CallLaws

@@ -1,12 +1,12 @@
 use Rattle.calls.specs.Call.{drawOf}
-use Rattle.call.specs.EndingLaws.{finish-stepped, finish-ends}
+use Rattle.call_core.specs.EndingLaws.{finish-stepped, finish-ends}
 use native.Mathlib.Omega.{arith}
 use borrow.Author.Needs.{needs}
-use Rattle.call.proofs.ending.finish.Statement.{statement}
-use Rattle.call.proofs.ending.finish.Tie as tie
-use Rattle.call.proofs.ending.finish.Reads as reads
-use Rattle.call.proofs.ending.finish.Lts as lts
-use Rattle.call.proofs.ending.reply_after.Reads as reply-after-reads
+use Rattle.call_core.proofs.ending.finish.Statement.{statement}
+use Rattle.call_core.proofs.ending.finish.Tie as tie
+use Rattle.call_core.proofs.ending.finish.Reads as reads
+use Rattle.call_core.proofs.ending.finish.Lts as lts
+use Rattle.call_core.proofs.ending.reply_after.Reads as reply-after-reads
 use Rattle.phases.proofs.put.put_rounds.Reads as put-rounds-reads
 use Rattle.stash.proofs.join.join_nodes.Reads as join-nodes-reads
 use Rattle.steps.proofs.operation.step.Reads as step-reads

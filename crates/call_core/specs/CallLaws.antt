@@ -163,9 +163,9 @@ module _ (s : State) (tree ticket tape trace : List ℕ) where
                   ∙ ap (λ (x : Op). bucketCall (s .size) F (toOp x) (drawOf (s .size) tape) (storeOf s tree)) (a .same)))
 
   -- What the core returns where it refuses.
-  pub refused-as : {r : Ran} {n : ℕ} (words : List ℕ) → r .ran ≡ false → r .reply ≡ Refused n → r .leaves ≡ 0 → called s tree ticket tape trace ≡ refusing n s tree trace
+  pub refused-as : (r : Ran) {n : ℕ} (words : List ℕ) → r .ran ≡ false → r .reply ≡ Refused n → r .leaves ≡ 0 → called s tree ticket tape trace ≡ refusing n s tree trace
       → leftOf s r words tree trace ≡ called s tree ticket tape trace
-  refused-as words ran reply leaves h = rw (ran, reply, leaves, h)
+  refused-as r words ran reply leaves h = rw (ran, reply, leaves, h)
 
 -- ---- all checks were passed
 module _ {s : State} {op : Op} {F : ℕ} {tree ticket tape trace : List ℕ} (ok : Checked s op F tree ticket tape trace) {n : ℕ} {words : List ℕ} (loaded : Loaded s words n) where
@@ -256,7 +256,7 @@ module _ {s : State} {h : Head} {words : List ℕ} (st : StandsFor s h words) wh
     Gives n = called s tree ticket tape trace ≡ refusing n s tree trace
 
     pub gives-3 : (length tree ≡ treeLength (h .size) → ⊥) → Gives 3
-    gives-3 no = refused-3 s tree ticket tape trace (st .not-closed) (st .fit) (rw (st .head) at no)
+    gives-3 other = refused-3 s tree ticket tape trace (st .not-closed) (st .fit) (rw (st .head) at other)
 
     module _ (sized : length tree ≡ treeLength (h .size)) where
       tree-is : length tree ≡ treeLength (s .size)

@@ -5,16 +5,10 @@ use Prim.Native.Nat.{ℕ, _+_, _-_, _*_, _^_, _≤_, _<_}
 use native.Mathlib.Omega.{arith}
 use borrow.Author.Tests.{ne-eqb}
 use lib.ListN.{length, take, drop, replicate, length-map}
-use Rattle.balance.specs.Least.{least}
-use Rattle.balance.specs.Shape.{shaped}
-use Rattle.balance.specs.Greatest.{tallest, greatest}
-use Rattle.balance.specs.GreatestLaws.{greatest-mono}
 use Rattle.method.specs.Prog.{Prog, done, after}
 use Rattle.method.specs.Answer as answer
-use Rattle.method.specs.Answer.{Structure}
 use Rattle.method.specs.Map.{Outcome}
-use Rattle.method.specs.Rounds.{rounds}
-use Rattle.method.specs.Call.{program}
+use Rattle.runs.specs.RoundsLaws.{some-rounds}
 use Rattle.rounds.specs.Round.{join}
 use Rattle.leaf_nodes.specs.Leaf.{leafFormat}
 use Rattle.buckets.specs.Words.{wordCount}
@@ -43,11 +37,6 @@ use Rattle.idle_rounds.specs.Idle.{keysHeld}
 use Rattle.call_core.specs.declared.ending.Ran.{Ran}
 use Rattle.call_core.specs.Run.{leftBy, endingWith, goingBy, outcomeOf, Shuts, ShutAs, Finishes, finishedBy, FinishedAs, Runs}
 use Rattle.call_core.specs.EndingLaws.{joined-length, numbers-first}
-
-some-rounds : (s : Structure) (k : ℕ) → 1 ≤ k → 1 ≤ rounds s k
-unfolding rounds least shaped tallest greatest
-some-rounds answer.map k h = let least-one : 1 ≤ greatest k = greatest-mono h in omega arith
-some-rounds answer.stack k h = omega arith
 
 -- What follows the leaves in the trace buffer is all that an end takes from it.
 ending-on : (structure size : ℕ) (trace trace′ : List ℕ) (l : Left) → drop (length (l .leaves)) trace′ ≡ drop (length (l .leaves)) trace

@@ -24,6 +24,7 @@ use Rattle.method.specs.Rounds.{rounds, spareDraw, putDraw}
 use Rattle.method.specs.Safe.{Within, stops, asks}
 use Rattle.method.specs.Call.{capacity, program}
 use Rattle.runs.specs.SafeLaws.{within-more}
+use Rattle.runs.specs.RoundsLaws.{some-rounds}
 use Rattle.runs.specs.EnoughRounds.{mostWanted, program-within}
 use Rattle.rounds.specs.Round.{join, limit}
 use Rattle.leaf_nodes.specs.Leaf.{leafFormat}
@@ -49,16 +50,11 @@ unfolding highest least shaped tallest greatest
 high-bound answer.map k small = let most : greatest k ≤ 22 = greatest-mono small in omega arith
 high-bound answer.stack k small = omega arith
 
--- A call has as many fetch rounds as its program may want nodes, and at least one.
+-- A call has as many fetch rounds as its program may want nodes.
 enough-rounds : (s : Structure) (k h : ℕ) → h ≤ highest s k → mostWanted s h ≤ rounds s k
 unfolding highest rounds
 enough-rounds answer.map k h low = omega arith
 enough-rounds answer.stack k h low = omega arith
-
-some-rounds : (s : Structure) (k : ℕ) → 1 ≤ k → 1 ≤ rounds s k
-unfolding rounds least shaped tallest greatest
-some-rounds answer.map k h = let least-one : 1 ≤ greatest k = greatest-mono h in omega arith
-some-rounds answer.stack k h = omega arith
 
 -- ---- a call
 -- The entries after the step.

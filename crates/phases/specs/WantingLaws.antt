@@ -55,6 +55,7 @@ use Rattle.node_rows.specs.Heights.{Low, Lows}
 use Rattle.node_rows.specs.HeldLaws.{first-length, first-more, held-more}
 use Rattle.map_nodes.specs.HeightLaws.{lows-append}
 use Rattle.tag_moves.specs.Moved.{heldOf}
+use Rattle.state.specs.FetchingLaws.{rounds-most}
 use Rattle.steps.specs.WantLaws.{wanted-low, tested-low}
 use Rattle.waiting.specs.WaitingLaws.{waiting-length}
 use Rattle.call_rounds.specs.declared.Took.{Took}
@@ -133,11 +134,6 @@ module _ (s : Structure) (entries k : ℕ) (draw : ℕ → ℕ) (p : Prog ℕ (O
       rw all (fetches-split s entries k draw i (F - i) 0 p g ∙ rw (e, zero-add i, ← all))
 
 -- ---- what holds between the fetch rounds, on any content
-most-rounds : (s : Structure) (k : ℕ) → k ≤ 8 → rounds s k ≤ 33
-unfolding rounds least shaped tallest greatest
-most-rounds answer.map k small = let most : greatest k ≤ 11 = greatest-mono small in omega arith
-most-rounds answer.stack k small = omega arith
-
 most-high : (s : Structure) (k : ℕ) → k ≤ 8 → highest s k ≤ 100
 unfolding highest least shaped tallest greatest
 most-high answer.map k small = let most : greatest k ≤ 11 = greatest-mono small in omega arith
@@ -153,7 +149,7 @@ pub record Midway (k i : ℕ) (g : Going) (q : Prog ℕ (Outcome ℕ)) : Type 0 
 
 module _ (j : Job) (draw : ℕ → ℕ) (is-leaf : (d : ℕ) → draw d < 2 ^ j .size) {n : ℕ} {words scratch tree : List ℕ} (b : Begins j draw n words scratch tree) where
   pub at-most : j .rounds ≤ 33
-  at-most = rw (b .rounds-are) (most-rounds (structureIn j) (j .size) (b .small))
+  at-most = rw (b .rounds-are) (rounds-most (structureIn j) (j .size) (b .small))
 
   pub root-low : j .root .height ≤ 100
   root-low = let h = most-high (structureIn j) (j .size) (b .small) in omega (arith, b .fit .low)

@@ -4,6 +4,7 @@ pub mod Natural
 pub mod StackNatural
 pub mod MapNatural
 pub mod Leaves
+pub mod RoundsLaws
 pub mod EnoughRounds
 pub mod Calls
 pub mod Answers

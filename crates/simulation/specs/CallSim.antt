@@ -19,6 +19,7 @@ use Rattle.method.specs.Plain.{Contents}
 use Rattle.method.specs.Map.{Outcome}
 use Rattle.method.specs.Rounds.{rounds, spareDraw}
 use Rattle.method.specs.Call.{capacity, program, Memory, emptyMemory, Fetched, fetches, stepped, answered, Called, call}
+use Rattle.runs.specs.RoundsLaws.{some-rounds}
 use Rattle.runs.specs.SafeLaws.{safe-map}
 use Rattle.runs.specs.Fetches.{keys}
 use Rattle.runs.specs.Calls.{memoryOf}
@@ -39,11 +40,6 @@ use Rattle.simulation.specs.FetchSim.{WentAs, fetches-went}
 use Rattle.simulation.specs.StepSim.{fetches-match}
 
 -- ---- one call
-
-rounds-some : (s : Structure) (k : ℕ) → 1 ≤ k → 1 ≤ rounds s k
-unfolding rounds least shaped tallest greatest
-rounds-some answer.map k h = let tall : 1 ≤ greatest k = greatest-mono h in omega arith
-rounds-some answer.stack k h = omega arith
 
 answered-done : (p : Prog ℕ (Outcome ℕ)) {a : Answer} → answered p ≡ some a → (o : Outcome ℕ) × (p ≡ done o)
 unfolding answered
@@ -99,7 +95,7 @@ module _ {s : Structure} (k : ℕ) (positive : 1 ≤ k) (small : k ≤ 16) (t : 
       let e = outcome .1 in
       let remembers : called .memory ≡ memoryOf o (fetched .nodes) = ap (stepped m (fetched .nodes)) e in
       let nodes : called .memory .nodes ≡ o .nodes ++ fetched .nodes = ap (λ (x : Memory ℕ). x .nodes) remembers in
-      fetches-match s k F (rounds-some s k positive) draw leaves m called o (fetched .nodes) remembers (ap answered e)
+      fetches-match s k F (some-rounds s k positive) draw leaves m called o (fetched .nodes) remembers (ap answered e)
       (fetched .revealed) refl
       (subst (λ (ns : List (Node ℕ)). Distinct (keys ns)) nodes
       (represents 0 s k .distinct-keys _ (called .memory) (call-held k small t m held op draw)))

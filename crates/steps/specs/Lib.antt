@@ -1,1 +1,3 @@
+pub mod Operation
+pub mod OperationLaws
 pub mod WantLaws

@@ -1,0 +1,4 @@
+pub mod Raise
+pub mod RaiseLaws
+pub mod RotationLaws
+pub mod LevelLaws

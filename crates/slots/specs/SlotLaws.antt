@@ -214,7 +214,7 @@ module _ (n : Node) (h : Ranged n) where
   slot-encoded = slot-packed (slotOf n) slot-words ∙ ap (λ (f : Fields). pack widths (numbers f)) slot-fields
 
 -- Words are zero together exactly if their digits put together are none.
-or-zero : (a b : ℕ) → eqb (bitOr a b) 0 ≡ (eqb a 0 && eqb b 0)
+pub or-zero : (a b : ℕ) → eqb (bitOr a b) 0 ≡ (eqb a 0 && eqb b 0)
 or-zero a b = go (eqb a 0) refl (eqb b 0) refl
   where
     s : bitOr a b + bitAnd a b ≡ a + b

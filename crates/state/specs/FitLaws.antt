@@ -1,16 +1,43 @@
 -- Tests over the places of a state, one place at a time.
 use mathlib.Core.Path.{_≡_, refl, sym, _∙_, ap}
-use mathlib.Core.Bool.{Bool, true, false, not, _&&_, and-false, and-true, and-assoc}
+use mathlib.Core.Bool.{Bool, true, false, _&&_, and-false, and-true, and-assoc, and-eq-true-iff}
 use mathlib.Core.List.{List, [], _∷_, _++_, map}
-use Prim.Native.Nat.{ℕ, zero, suc, _+_, _-_, _≤_, _<_}
+use Prim.Native.Nat.{ℕ, zero, suc, _+_, _-_, _^_, _≤_, _<_}
 use native.Mathlib.Omega.{arith}
 use native.Mathlib.Decide.{decLt}
 use lib.Dec.{ltb, leb, eqb}
 use lib.ListN.{getD}
 use borrow.Author.Tests.{lt-ltb, le-ltb, le-leb, lt-leb, ltb-true, leb-true}
-use Rattle.state.specs.declared.Place.{Place}
+use lib.Bits.{bitOr}
 use Rattle.basics.specs.Ascending.{ascending, ascendingFrom}
-use Rattle.state.specs.Fit.{allOf, inRange, placesFrom, noPlace, keysIn}
+use Rattle.slots.specs.declared.Link.{Link}
+use Rattle.slots.specs.declared.Node.{Node}
+use Rattle.slots.specs.SlotLaws.{or-zero}
+use Rattle.rounds.specs.Round.{limit}
+use Rattle.state.specs.declared.Place.{Place}
+use Rattle.state.specs.declared.State.{State}
+use Rattle.state.specs.Fit.{largestStructure, largestSize, zeroLink, zeroNode, allOf, inRange, placesFrom, noPlace, keysIn, rootGood, placesFit, fits}
+use Rattle.state.specs.Head.{headFits}
+
+-- ---- numbers that are zero together
+three-zero : (a b c : ℕ) → eqb (bitOr (bitOr a b) c) 0 ≡ (eqb a 0 && (eqb b 0 && eqb c 0))
+three-zero a b c = rw (or-zero (bitOr a b) c, or-zero a b) (and-assoc (eqb a 0) (eqb b 0) (eqb c 0))
+
+abbrev pub linkBits : Link → ℕ
+linkBits l = bitOr (bitOr (l .height) (l .key)) (l .tag)
+
+abbrev pub nodeBits : Node → ℕ
+nodeBits n = bitOr (bitOr (bitOr (bitOr (n .key) (n .value)) (n .tag)) (linkBits (n .left))) (linkBits (n .right))
+
+pub link-together : (l : Link) → eqb (linkBits l) 0 ≡ zeroLink l
+link-together l = three-zero (l .height) (l .key) (l .tag)
+
+pub node-together : (n : Node) → eqb (nodeBits n) 0 ≡ zeroNode n
+node-together n =
+    three-zero (bitOr (bitOr (n .key) (n .value)) (n .tag)) (linkBits (n .left)) (linkBits (n .right))
+    ∙ rw (three-zero (n .key) (n .value) (n .tag), link-together (n .left), link-together (n .right))
+    (and-assoc (eqb (n .key) 0) (eqb (n .value) 0 && eqb (n .tag) 0) (zeroLink (n .left) && zeroLink (n .right))
+    ∙ ap (λ (t : Bool). eqb (n .key) 0 && t) (and-assoc (eqb (n .value) 0) (eqb (n .tag) 0) (zeroLink (n .left) && zeroLink (n .right))))
 
 -- ---- one place after another
 -- What is left of n places from number i on, after the first.
@@ -84,3 +111,41 @@ in-range-true n most e = go (ltb 0 n) refl (leb n most) refl e
     go true a true b e = (ltb-true 0 n a, leb-true n most b)
     go true a false b e = let z : _≡_ {A = ℕ} 0 1 = cc in absurd (omega arith)
     go false a u b e = let z : _≡_ {A = ℕ} 0 1 = cc in absurd (omega arith)
+
+-- ---- the head and the places
+and-last : (a b c d p t : Bool) → (a && (b && (c && (d && (p && t))))) ≡ ((a && (b && (c && (d && t)))) && p)
+and-last false b c d p t = refl
+and-last true false c d p t = refl
+and-last true true false d p t = refl
+and-last true true true false p t = refl
+and-last true true true true false t = sym (and-false t)
+and-last true true true true true t = sym (and-true t)
+
+-- A state fits if its head does and its places do.
+pub fits-parts : (s : State) → fits s ≡ (headFits (s .structure) (s .size) (s .entries) (s .count) (s .root) && placesFit s)
+unfolding fits headFits
+fits-parts s =
+    and-last (inRange (s .structure) largestStructure) (inRange (s .size) largestSize) (leb (s .entries) (2 ^ s .size - 1)) (leb (s .count) limit) (placesFit s)
+    (ltb (s .root .tag) (2 ^ s .size) && rootGood (s .structure) (s .entries) (s .root))
+
+-- What a head that fits says of the numbers.
+pub record Head (structure size entries count : ℕ) : Type 0 where
+  pub structures : (1 ≤ structure) × (structure ≤ largestStructure)
+  pub sizes : (1 ≤ size) × (size ≤ largestSize)
+  pub few : entries ≤ 2 ^ size - 1
+  pub waiting : count ≤ limit
+
+module _ (structure size entries count : ℕ) (root : Link) where
+  pub head-true : headFits structure size entries count root ≡ true → Head structure size entries count
+  unfolding headFits
+  head-true e =
+      let a = and-eq-true-iff (inRange structure largestStructure) _ .0 e in
+      let b = and-eq-true-iff (inRange size largestSize) _ .0 (a .1) in
+      let c = and-eq-true-iff (leb entries (2 ^ size - 1)) _ .0 (b .1) in
+      let d = and-eq-true-iff (leb count limit) _ .0 (c .1) in
+      record {
+        structures = in-range-true structure largestStructure (a .0);
+        sizes = in-range-true size largestSize (b .0);
+        few = leb-true entries (2 ^ size - 1) (c .0);
+        waiting = leb-true count limit (d .0);
+      }

@@ -1,4 +1,5 @@
 pub mod Fit
+pub mod Head
 pub mod Opening
 pub mod Ticket
 pub mod Fetching

@@ -3,7 +3,6 @@ use super::LARGEST_SIZE;
 use super::LARGEST_STRUCTURE;
 use super::LIMIT;
 use super::Place;
-use super::State;
 use balance::shape_exists;
 use slots::Link;
 use slots::Node;
@@ -11,11 +10,10 @@ use slots::codec::well_formed;
 use slots::tree::leaves;
 ghost use mathlib.Core.Path.{_≡_};
 ghost use mathlib.Core.Bool.{_&&_};
-ghost use mathlib.Core.List.{map};
-ghost use Prim.Native.Nat.{_≤_, _-_, _^_};
+ghost use Prim.Native.Nat.{_≤_, _^_};
 ghost use lib.Dec.{ltb};
-ghost use Rattle.basics.specs.Ascending.{ascending};
-ghost use Rattle.state.specs.Fit.{zeroLink, zeroNode, zeroPlace, placeGood, allOf, keysIn, placesFrom, rootGood, inRange, fits};
+ghost use Rattle.state.specs.Fit.{zeroLink, zeroNode, zeroPlace, placeGood, rootGood, inRange};
+ghost use Rattle.state.specs.Head.{headFits};
 
 pub fn in_range(n: u8, most: u8) -> bool
     ensures { λ r. ⌜ r ≡ inRange n most ⌝ }
@@ -26,39 +24,25 @@ pub fn in_range(n: u8, most: u8) -> bool
     n <= most
 }
 
+// Numbers are zero together exactly if their bits put together are none: one test for all.
 fn zero_link(l: Link) -> bool
     ensures { λ r. ⌜ r ≡ zeroLink l ⌝ }
 {
-    if l.height != 0 {
-        return false;
-    }
-    if l.key != 0 {
-        return false;
-    }
-    l.tag == 0
+    l.height as u64 | l.key as u64 | l.tag as u64 == 0
 }
 
 fn zero_node(n: Node) -> bool
     ensures { λ r. ⌜ r ≡ zeroNode n ⌝ }
 {
-    let left = n.left;
-    let right = n.right;
-    if n.key != 0 {
-        return false;
-    }
-    if n.value != 0 {
-        return false;
-    }
-    if n.tag != 0 {
-        return false;
-    }
-    if !zero_link(left) {
-        return false;
-    }
-    zero_link(right)
+    let l = n.left;
+    let r = n.right;
+    let own = n.key as u64 | n.value | n.tag as u64;
+    let left = l.height as u64 | l.key as u64 | l.tag as u64;
+    let right = r.height as u64 | r.key as u64 | r.tag as u64;
+    own | left | right == 0
 }
 
-fn zero_place(p: Place) -> bool
+pub fn zero_place(p: Place) -> bool
     ensures { λ r. ⌜ r ≡ zeroPlace p ⌝ }
 {
     let n = p.node;
@@ -68,7 +52,7 @@ fn zero_place(p: Place) -> bool
     zero_node(n)
 }
 
-fn place_good(size: usize, p: Place) -> bool
+pub fn place_good(size: usize, p: Place) -> bool
     requires { ⌜ size ≤ 16 ⌝ }
     ensures { λ r. ⌜ r ≡ placeGood size p ⌝ }
 {
@@ -77,56 +61,6 @@ fn place_good(size: usize, p: Place) -> bool
         return false;
     }
     well_formed(size, n)
-}
-
-// The first places of a state are full and not bad.
-fn used_good(state: State, size: usize, count: usize) -> bool
-    requires { ⌜ (size ≤ 16) × (count ≤ 101) ⌝ }
-    ensures { λ r. ⌜ r ≡ allOf (placeGood size) (placesFrom count 0 (state .places)) ⌝ }
-{
-    let mut i = 0;
-    while i < count {
-        let p = state.places[i];
-        if !place_good(size, p) {
-            return false;
-        }
-        i += 1;
-    }
-    true
-}
-
-// Their keys ascend. `least` is the least key that may come next.
-fn used_ascend(state: State, count: usize) -> bool
-    requires { ⌜ count ≤ 101 ⌝ }
-    ensures { λ r. ⌜ r ≡ ascending (keysIn (placesFrom count 0 (state .places))) ⌝ }
-{
-    let mut least: u64 = 0;
-    let mut i = 0;
-    while i < count {
-        let p = state.places[i];
-        let key = p.node.key as u64;
-        if key < least {
-            return false;
-        }
-        least = key + 1;
-        i += 1;
-    }
-    true
-}
-
-fn unused_zero(state: State, count: usize) -> bool
-    requires { ⌜ count ≤ 101 ⌝ }
-    ensures { λ r. ⌜ r ≡ allOf zeroPlace (placesFrom (101 - count) count (state .places)) ⌝ }
-{
-    let mut i = count;
-    while i < 101 {
-        let p = state.places[i];
-        if !zero_place(p) {
-            return false;
-        }
-        i += 1;
-    }
-    true
 }
 
 fn root_good(structure: u8, entries: u16, root: Link) -> bool
@@ -155,41 +89,22 @@ fn root_fits(size: usize, structure: u8, entries: u16, root: Link) -> bool
     root_good(structure, entries, root)
 }
 
-// The waiting places: the used ones are good and ascend, the others are zero.
-fn places_fit(state: State, size: usize, count: usize) -> bool
-    requires { ⌜ (size ≤ 16) × (count ≤ 101) ⌝ }
-    ensures { λ r. ⌜ r ≡ (allOf (placeGood size) (placesFrom count 0 (state .places)) && (ascending (keysIn (placesFrom count 0 (state .places))) && allOf zeroPlace (placesFrom (101 - count) count (state .places)))) ⌝ }
+// Whether a state fits, its places not asked about: stash::places::load asks about those.
+pub fn head_fits(structure: u8, size: u8, entries: u16, count: u16, root: Link) -> bool
+    ensures { λ r. ⌜ r ≡ headFits structure size entries count root ⌝ }
 {
-    if !used_good(state, size, count) {
+    if !in_range(structure, LARGEST_STRUCTURE) {
         return false;
     }
-    if !used_ascend(state, count) {
+    if !in_range(size, LARGEST_SIZE) {
         return false;
     }
-    unused_zero(state, count)
-}
-
-// Whether a state fits.
-pub fn fits_state(state: State) -> bool
-    ensures { λ r. ⌜ r ≡ fits state ⌝ }
-{
-    if !in_range(state.structure, LARGEST_STRUCTURE) {
+    let k = size as usize;
+    if (entries as usize) >= leaves(k) {
         return false;
     }
-    if !in_range(state.size, LARGEST_SIZE) {
+    if (count as usize) > LIMIT {
         return false;
     }
-    let size = state.size as usize;
-    let count = state.count as usize;
-    if (state.entries as usize) >= leaves(size) {
-        return false;
-    }
-    if count > LIMIT {
-        return false;
-    }
-    if !places_fit(state, size, count) {
-        return false;
-    }
-    let root = state.root;
-    root_fits(size, state.structure, state.entries, root)
+    root_fits(k, structure, entries, root)
 }

@@ -1,19 +1,20 @@
--- `state::fit::zero_link` meets its contract, field by field.
-use mathlib.Core.Path.{_≡_, refl, sym, _∙_, ap}
-use borrow.Author.Tests.{eq-eqb, ne-eqb, lt-leb, le-leb, lt-ltb, le-ltb, not-true, not-false}
+-- `state::fit::zero_link` meets its contract: its numbers are zero together.
 use borrow.Author.Needs.{needs}
-use native.Mathlib.Omega.{arith}
+use Rattle.state.specs.FitLaws.{link-together}
 use Rattle.state.proofs.fit.zero_link.Statement.{statement}
 use Rattle.state.proofs.fit.zero_link.Tie as tie
 
+cast-result : tie.Need-cast-result
+cast-result c = search needs
+
+cast-result-2 : tie.Need-cast-result-2
+cast-result-2 c = search needs
+
+cast-result-3 : tie.Need-cast-result-3
+cast-result-3 c = search needs
+
 returns : tie.Need-returns
-returns c = let l = c .before .before .args .l in rw (ne-eqb (l .height) 0 (c .if1 .taken))
-
-returns-2 : tie.Need-returns-2
-returns-2 c = let l = c .before .before .before .before .args .l in rw (eq-eqb (l .height) 0 (c .before .before .if1 .left), ne-eqb (l .key) 0 (c .if2 .taken))
-
-returns-3 : tie.Need-returns-3
-returns-3 c = let l = c .before .before .before .before .before .args .l in rw (eq-eqb (l .height) 0 (c .before .before .before .if1 .left), eq-eqb (l .key) 0 (c .before .if2 .left))
+returns c = link-together (c .before .before .before .args .l)
 
 pub zero-link-spec : {M : Type 1} → statement M
-zero-link-spec = tie.close (tie.spec returns returns-2 returns-3)
+zero-link-spec = tie.close (tie.spec cast-result cast-result-2 cast-result-3 returns)

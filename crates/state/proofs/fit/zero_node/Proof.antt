@@ -1,40 +1,46 @@
--- `state::fit::zero_node` meets its contract, field by field.
-use mathlib.Core.Path.{_≡_, refl, sym, _∙_, ap}
-use borrow.Author.Tests.{eq-eqb, ne-eqb, lt-leb, le-leb, lt-ltb, le-ltb, not-true, not-false}
-use native.Mathlib.Omega.{arith}
+-- `state::fit::zero_node` meets its contract: its numbers are zero together.
 use borrow.Author.Needs.{needs}
+use Rattle.state.specs.FitLaws.{node-together}
 use Rattle.state.proofs.fit.zero_node.Statement.{statement}
 use Rattle.state.proofs.fit.zero_node.Tie as tie
 
+cast-own : tie.Need-cast-own
+cast-own c = search needs
+
+cast-own-2 : tie.Need-cast-own-2
+cast-own-2 c = search needs
+
+cast-left : tie.Need-cast-left
+cast-left c = search needs
+
+cast-left-2 : tie.Need-cast-left-2
+cast-left-2 c = search needs
+
+cast-left-3 : tie.Need-cast-left-3
+cast-left-3 c = search needs
+
+cast-right : tie.Need-cast-right
+cast-right c = search needs
+
+cast-right-2 : tie.Need-cast-right-2
+cast-right-2 c = search needs
+
+cast-right-3 : tie.Need-cast-right-3
+cast-right-3 c = search needs
+
 returns : tie.Need-returns
-returns c = let n = c .before .before .before .before .args .n in rw (ne-eqb (n .key) 0 (c .if1 .taken))
-
-returns-2 : tie.Need-returns-2
-returns-2 c = let n = c .before .before .before .before .before .before .args .n in rw (eq-eqb (n .key) 0 (c .before .before .if1 .left), ne-eqb (n .value) 0 (c .if2 .taken))
-
-returns-3 : tie.Need-returns-3
-returns-3 c = let n = c .before .before .before .before .before .before .before .before .args .n in rw (eq-eqb (n .key) 0 (c .before .before .before .before .if1 .left), eq-eqb (n .value) 0 (c .before .before .if2 .left), ne-eqb (n .tag) 0 (c .if3 .taken))
-
-zero-link-requires : tie.Need-zero-link-requires
-zero-link-requires c κs = search needs
-
-returns-4 : tie.Need-returns-4
-returns-4 c = let n = c .before .before .before .before .before .before .before .before .before .before .args .n in rw (eq-eqb (n .key) 0 (c .before .before .before .before .before .before .if1 .left), eq-eqb (n .value) 0 (c .before .before .before .before .if2 .left), eq-eqb (n .tag) 0 (c .before .before .if3 .left), ← c .before .zero-link .ensures, not-true (c .before .zero-link .result) (c .if4 .taken))
-
-zero-link-requires-2 : tie.Need-zero-link-requires-2
-zero-link-requires-2 c κs = search needs
-
-returns-5 : tie.Need-returns-5
-returns-5 c = let n = c .before .before .before .before .before .before .before .before .before .before .before .args .n in rw (eq-eqb (n .key) 0 (c .before .before .before .before .before .before .before .if1 .left), eq-eqb (n .value) 0 (c .before .before .before .before .before .if2 .left), eq-eqb (n .tag) 0 (c .before .before .before .if3 .left), ← c .before .before .zero-link .ensures, not-false (c .before .before .zero-link .result) (c .before .if4 .left)) (c .zero-link2 .ensures)
+returns c = node-together (c .before .before .before .before .before .before .before .before .before .before .before .args .n)
 
 pub zero-node-spec : {M : Type 1} → statement M
 zero-node-spec =
     tie.close
     (tie.spec
-    returns
-    returns-2
-    returns-3
-    zero-link-requires
-    returns-4
-    zero-link-requires-2
-    returns-5)
+    cast-own
+    cast-own-2
+    cast-left
+    cast-left-2
+    cast-left-3
+    cast-right
+    cast-right-2
+    cast-right-3
+    returns)

@@ -3,9 +3,12 @@ use mathlib.Core.Path.{_≡_, refl}
 use mathlib.Core.Bool.{Bool, true, false}
 use mathlib.Core.List.{List, [], _∷_}
 use Rattle.basics.specs.Choice.{pick}
-use Rattle.method.specs.Node.{Node}
-use Rattle.method.specs.Prog.{Want, Prog, done, want, bind}
-use Rattle.operations.specs.Resume.{Resumed, missing, finished, resume, Ends, follow}
+use Prim.Native.Nat.{ℕ}
+use Rattle.method.specs.Node.{Link, Node}
+use Rattle.method.specs.Prog.{Want, Prog, done, want, bind, after}
+use Rattle.method.specs.Map.{Outcome}
+use Rattle.operations.specs.Method.{wantedIn, outcomeIn}
+use Rattle.operations.specs.Resume.{Resumed, missing, finished, resume, Ends, follow, wantedOf, outcomeOf}
 
 module _ {T A : Type 0} where
   pub resume-done : (a : A) (ns : List (Node T)) → resume (done a) ns ≡ finished a ns
@@ -53,3 +56,16 @@ module _ {T A B : Type 0} where
       go : (r : Resumed T A) → Ends (λ a rest. Ends Q (resume (f a) rest)) r → Ends Q (follow r (λ a rest. resume (f a) rest))
       go (missing w) h = tt
       go (finished a rest) h = h
+
+-- What a program wants after some nodes, and what it comes to.
+pub wanted-after : {A : Type 0} (p : Prog ℕ A) (ns : List (Node ℕ)) → wantedIn (after p ns) ≡ wantedOf (resume p ns)
+unfolding after resume
+wanted-after (done a) ns = refl
+wanted-after (want w k) [] = refl
+wanted-after (want w k) (n ∷ ns) = wanted-after (k n) ns
+
+pub outcome-after : (l : Link ℕ) (entries : ℕ) (p : Prog ℕ (Outcome ℕ)) (ns : List (Node ℕ)) → outcomeIn l entries (after p ns) ≡ outcomeOf l entries (resume p ns)
+unfolding after resume
+outcome-after l entries (done a) ns = refl
+outcome-after l entries (want w k) [] = refl
+outcome-after l entries (want w k) (n ∷ ns) = outcome-after l entries (k n) ns

@@ -1,12 +1,12 @@
 -- The operations by their programs.
 use Prim.Native.Nat.{ℕ, _<_}
-use mathlib.Core.Path.{_≡_, refl, sym, _∙_, ap}
-use mathlib.Core.List.{List, [], _∷_}
+use mathlib.Core.Path.{_≡_, sym, _∙_, ap}
+use mathlib.Core.List.{List}
 use mathlib.Core.Option.{Option, none}
 use native.Mathlib.Omega.{arith}
 use native.Mathlib.Decide.{decLt}
-use Rattle.method.specs.Node.{Link, Node}
-use Rattle.method.specs.Prog.{Want, Prog, done, want, after}
+use Rattle.method.specs.Node.{Link}
+use Rattle.method.specs.Prog.{Want, Prog, after}
 use Rattle.method.specs.Map.{Outcome, getProg, putProg, removeProg}
 use Rattle.method.specs.Stack.{pushProg, popProg}
 use Rattle.method.specs.Call.{program}
@@ -14,7 +14,8 @@ use Rattle.slots.specs.declared.Link as link
 use Rattle.operations.specs.declared.Op.{Op}
 use Rattle.operations.specs.declared.Op.the-variants.{Get, Put, Remove, Push, Pop}
 use Rattle.operations.specs.Method.{toOp, wantedIn, outcomeIn}
-use Rattle.operations.specs.Resume.{Resumed, resume, wantedOf, outcomeOf}
+use Rattle.operations.specs.Resume.{resume, wantedOf, outcomeOf}
+use Rattle.operations.specs.ResumeLaws.{wanted-after, outcome-after}
 use Rattle.node_rows.specs.Held.{Held, heldIn, HeldFrom, nodesOf}
 use Rattle.node_rows.specs.HeldLaws.{row-places}
 use Rattle.map_descent.specs.declared.bottom.Bottom.{Bottom}

@@ -33,6 +33,7 @@ use Rattle.map_descent.specs.declared.descend.Descent.{Descent}
 use Rattle.map_descent.specs.declared.descend.Lowest as search
 use Rattle.map_descent.specs.declared.bottom.Bottom.{Bottom}
 use Rattle.map_descent.specs.Walk.{Walks, trail, byKey, spotOf, Reached, DescendsTo, after, LeftFrom, lowestFrom, LowersTo}
+use Rattle.map_descent.specs.WalkLaws.{held-fits}
 use Rattle.map_descent.specs.PathTo.{waysTo, pathTo}
 use Rattle.map_descent.specs.PathLaws.{path-before, path-past, left-from}
 use Rattle.map_descent.specs.Bottom.{unfinishedAt, bottomAt, pastFound, upFrom, StartsUp}
@@ -102,67 +103,65 @@ module _ (path : List (Step ℕ)) (entries : ℕ) where
 abbrev pub walking : ℕ → Link ℕ → (Spot ℕ → Prog ℕ (Outcome ℕ)) → Prog ℕ (Outcome ℕ)
 walking key l f = bind (walk key (l .height) (start l) []) f
 
-module _ (key : ℕ) (root : link.Link) (h : Held) (walks : Walks root h) (f : Spot ℕ → Prog ℕ (Outcome ℕ)) (d : Descent)
+module _ {key : ℕ} {root : link.Link} {h : Held} (walks : Walks root h) {d : Descent}
     (down : DescendsTo key h (start (toLink root)) (root .height) d) where
+  pub hit-within : d .end ≡ Hit → d .depth < h .count
+  hit-within e = subst (λ (x : End). Reached key h (start (toLink root)) x (d .depth)) e (down .reached)
+
+  pub hit-low : d .end ≡ Hit → Low 100 (heldAt h (d .depth))
+  hit-low e = held-low h (d .depth) 100 (walks .held .low) (hit-within e) (held-fits (walks .held))
+
   passes : List (Step ℕ)
   passes = trail h (start (toLink root)) (byKey key h) (d .depth)
 
-  spot : {e : End} → d .end ≡ e
-      → resume (walking key (toLink root) f) (nodesOf h)
-      ≡ follow (spotOf key h (start (toLink root)) e (toWant (d .want)) (d .depth)) (λ s ns. resume (f s) ns)
-  spot e =
-      resume-bind (walk key (root .height) (start (toLink root)) []) f (nodesOf h)
-      ∙ rw (down .resumes, e)
+  module _ (f : Spot ℕ → Prog ℕ (Outcome ℕ)) where
+    spot : {e : End} → d .end ≡ e
+        → resume (walking key (toLink root) f) (nodesOf h)
+        ≡ follow (spotOf key h (start (toLink root)) e (toWant (d .want)) (d .depth)) (λ s ns. resume (f s) ns)
+    spot e =
+        resume-bind (walk key (root .height) (start (toLink root)) []) f (nodesOf h)
+        ∙ rw (down .resumes, e)
 
-  pub starts-missing : {r : Bottom} → d .end ≡ Missing → r ≡ unfinishedAt (d .want) → StartsUp key root h (walking key (toLink root) f) r
-  starts-missing e g =
-      record { resumes = spot e ∙ rw g; ready = λ x. let z : _≡_ {A = ℕ} 0 1 = cc in absurd (omega arith) }
+    pub starts-missing : {r : Bottom} → d .end ≡ Missing → r ≡ unfinishedAt (d .want) → StartsUp key root h (walking key (toLink root) f) r
+    starts-missing e g =
+        record { resumes = spot e ∙ rw g; ready = λ x. let z : _≡_ {A = ℕ} 0 1 = cc in absurd (omega arith) }
 
-  module _ (rotating : Bool) (b : sub.Sub) (entries : ℕ) (a : answer.Answer) (low : LowSub 100 (toSub b)) (bare : weight (toSub b) ≡ 1) {r : Bottom} where
-    module _ (at : ℕ) (past : d .depth ≤ at) (within : at ≤ h .count) (s : Spot ℕ) where
-      starts-at : resume (walking key (toLink root) f) (nodesOf h) ≡ resume (f s) (drop at (nodesOf h))
-          → f s ≡ way rotating passes (toSub b) entries (toAnswer a) → r ≡ bottomAt rotating b (d .depth) at entries a
-          → StartsUp key root h (walking key (toLink root) f) r
+    module _ {rotating : Bool} {b : sub.Sub} {entries : ℕ} {a : answer.Answer} {r : Bottom} where
+      starts-at : (at : ℕ) (s : Spot ℕ) → resume (walking key (toLink root) f) (nodesOf h) ≡ resume (f s) (drop at (nodesOf h))
+          → r ≡ bottomAt rotating b (d .depth) at entries a → d .depth ≤ at → at ≤ h .count → LowSub 100 (toSub b) → weight (toSub b) ≡ 1
+          → f s ≡ way rotating passes (toSub b) entries (toAnswer a) → StartsUp key root h (walking key (toLink root) f) r
       unfolding passes
-      starts-at p q g =
+      starts-at at s p g past within low bare q =
           rw g
           record {
             resumes = p ∙ rw (q, path-before key h (start (toLink root)) (d .depth) (d .depth) (d .depth) (omega arith));
             ready = λ x. record { passed = past; within = within; low = low; bare = bare };
           }
 
-    pub starts-gap : d .end ≡ Gap
-        → f (gap (toLink (d .want .link)) (trail h (start (toLink root)) (byKey key h) (d .depth)))
-        ≡ way rotating (trail h (start (toLink root)) (byKey key h) (d .depth)) (toSub b) entries (toAnswer a)
-        → r ≡ bottomAt rotating b (d .depth) (d .depth) entries a → StartsUp key root h (walking key (toLink root) f) r
-    unfolding passes
-    starts-gap e q g =
-        starts-at (d .depth) (omega arith) (subst (λ (x : End). Reached key h (start (toLink root)) x (d .depth)) e (down .reached))
-        (gap (toLink (d .want .link)) passes) (spot e) q g
+      pub starts-gap : d .end ≡ Gap → r ≡ bottomAt rotating b (d .depth) (d .depth) entries a → LowSub 100 (toSub b) → weight (toSub b) ≡ 1
+          → f (gap (toLink (d .want .link)) (trail h (start (toLink root)) (byKey key h) (d .depth)))
+          ≡ way rotating (trail h (start (toLink root)) (byKey key h) (d .depth)) (toSub b) entries (toAnswer a)
+          → StartsUp key root h (walking key (toLink root) f) r
+      unfolding passes
+      starts-gap e g =
+          starts-at (d .depth) (gap (toLink (d .want .link)) passes) (spot e) g (omega arith)
+          (subst (λ (x : End). Reached key h (start (toLink root)) x (d .depth)) e (down .reached))
 
-    pub starts-hit : d .end ≡ Hit
-        → f (hit (toWant (d .want)) (heldAt h (d .depth)) (trail h (start (toLink root)) (byKey key h) (d .depth)))
-        ≡ way rotating (trail h (start (toLink root)) (byKey key h) (d .depth)) (toSub b) entries (toAnswer a)
-        → r ≡ bottomAt rotating b (d .depth) (d .depth + 1) entries a → StartsUp key root h (walking key (toLink root) f) r
-    unfolding passes
-    starts-hit e q g =
-        let k = subst (λ (x : End). Reached key h (start (toLink root)) x (d .depth)) e (down .reached) in
-        starts-at (d .depth + 1) (omega arith) (omega (arith, k))
-        (hit (toWant (d .want)) (heldAt h (d .depth)) passes) (spot e ∙ rw (add-one (d .depth))) q g
-
-  pub hit-within : d .end ≡ Hit → d .depth < h .count
-  hit-within e = subst (λ (x : End). Reached key h (start (toLink root)) x (d .depth)) e (down .reached)
-
-  pub hit-low : d .end ≡ Hit → Low 100 (heldAt h (d .depth))
-  hit-low e =
-      held-low h (d .depth) 100 (walks .held .low) (hit-within e) (omega (arith, walks .held .places, walks .held .few))
+      pub starts-hit : d .end ≡ Hit → r ≡ bottomAt rotating b (d .depth) (d .depth + 1) entries a → LowSub 100 (toSub b) → weight (toSub b) ≡ 1
+          → f (hit (toWant (d .want)) (heldAt h (d .depth)) (trail h (start (toLink root)) (byKey key h) (d .depth)))
+          ≡ way rotating (trail h (start (toLink root)) (byKey key h) (d .depth)) (toSub b) entries (toAnswer a)
+          → StartsUp key root h (walking key (toLink root) f) r
+      unfolding passes
+      starts-hit e g =
+          starts-at (d .depth + 1) (hit (toWant (d .want)) (heldAt h (d .depth)) passes) (spot e ∙ rw (add-one (d .depth))) g (omega arith)
+          (omega (arith, hit-within e))
 
 -- ---- a remove that goes past the node with the key
 
-module _ (key : ℕ) (root : link.Link) (h : Held) (walks : Walks root h) (entries : ℕ) (d : Descent)
+module _ {key : ℕ} {root : link.Link} {h : Held} (walks : Walks root h) (entries : ℕ) {d : Descent}
     (down : DescendsTo key h (start (toLink root)) (root .height) d) (e : d .end ≡ Hit)
     (left : heldAt h (d .depth) .left .height ≡ 0 → ⊥) (right : heldAt h (d .depth) .right .height ≡ 0 → ⊥)
-    (y : search.Lowest)
+    {y : search.Lowest}
     (lowers : LowersTo h (d .depth) (below (stepAt (toWant (d .want)) (heldAt h (d .depth)) false)) (heldAt h (d .depth) .right .height) y) where
   abbrev w₀ : Want ℕ
   w₀ = start (toLink root)
@@ -193,7 +192,7 @@ module _ (key : ℕ) (root : link.Link) (h : Held) (walks : Walks root h) (entri
       let rest = drop (suc (d .depth)) (nodesOf h) in
       let from = subst (λ (v : Want ℕ). LeftFrom h w₀ (waysTo key h w₀ (d .depth)) (d .depth) (below (stepAt v n false)))
       (sym (down .wanted)) (left-from key h w₀ (d .depth) (y .last)) in
-      spot key root h walks (removeStep entries) d down e
+      spot walks down (removeStep entries) e
       ∙ ap (λ (q : Prog ℕ (Outcome ℕ)). resume q rest) (remove-both above entries (toWant (d .want)) n left right)
       ∙ resume-bind (bind (lowestFrom (n .right .height) (below p) []) goUp) end rest
       ∙ ap (λ (r : Resumed ℕ (Built ℕ)). follow r (λ b ns. resume (end b) ns))
@@ -229,7 +228,7 @@ module _ (key : ℕ) (root : link.Link) (h : Held) (walks : Walks root h) (entri
                   passed = omega arith;
                   within = omega (arith, k .1);
                   low =
-                      held-low h (y .last) 100 (walks .held .low) (k .1) (omega (arith, walks .held .places, walks .held .few)) .1;
+                      held-low h (y .last) 100 (walks .held .low) (k .1) (held-fits (walks .held)) .1;
                   bare = refl;
                 };
           }

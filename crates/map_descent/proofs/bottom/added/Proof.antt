@@ -1,4 +1,3 @@
-use native.Mathlib.Omega.{arith}
 use borrow.Author.Needs.{needs}
 use Rattle.map_descent.proofs.bottom.added.Statement.{statement}
 use Rattle.map_descent.proofs.bottom.added.Tie as tie
@@ -7,21 +6,17 @@ use Rattle.map_descent.proofs.bottom.added.Lts as lts
 use Rattle.map_descent.proofs.bottom.bottom_at.Reads as bottom-at-reads
 use Rattle.map_descent.proofs.bottom.leaf.Reads as leaf-reads
 
--- src/bottom.rt:170:9
 leaf-requires : tie.Need-leaf-requires
 leaf-requires c κs = search needs
 
--- src/bottom.rt:172:40
 add-bottom-at : tie.Need-add-bottom-at
 add-bottom-at c = search needs
 
--- src/bottom.rt:172:5
 bottom-at-requires : tie.Need-bottom-at-requires
 bottom-at-requires c κs = search needs
 
--- src/bottom.rt:166:1
 returns : tie.Need-returns
-returns c = search needs
+returns c = rw (← c .before .leaf .ensures) (c .bottom-at .ensures)
 
 pub added-spec : {M : Type 1} → statement M
 added-spec = tie.close (tie.spec leaf-requires add-bottom-at bottom-at-requires returns)

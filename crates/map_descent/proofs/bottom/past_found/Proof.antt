@@ -1,3 +1,4 @@
+use Prim.Native.Nat.{_<_}
 use native.Mathlib.Omega.{arith}
 use borrow.Author.Needs.{needs}
 use Rattle.map_descent.proofs.bottom.past_found.Statement.{statement}
@@ -7,33 +8,30 @@ use Rattle.map_descent.proofs.bottom.past_found.Lts as lts
 use Rattle.map_descent.proofs.bottom.unfinished.Reads as unfinished-reads
 use Rattle.node_rows.proofs.node_at.Reads as node-at-reads
 
--- src/bottom.rt:110:23
+-- The next larger key's node is one of the held.
+within : (c : tie.After-enum-told) → c .before .before .args .y .last < 33
+within c = let s = c .before .before in omega (arith, s .pre .1 .few, s .pre .2 (c .enum-told .given .1))
+
 enum-known-wanted : tie.Need-enum-known-wanted
 enum-known-wanted c = search needs
 
--- src/bottom.rt:110:29
 unfinished-requires : tie.Need-unfinished-requires
 unfinished-requires c κs = search needs
 
--- src/bottom.rt:112:17
 enum-told : tie.Need-enum-told
 enum-told c = search needs
 
--- src/bottom.rt:113:17
 node-at-requires : tie.Need-node-at-requires
-node-at-requires c κs = search needs
+node-at-requires c κs = (c .before .before .pre .0, omega (arith, within c))
 
--- src/bottom.rt:121:21
 add-t15 : tie.Need-add-t15
-add-t15 c = search needs
+add-t15 c = omega (arith, within (c .before .before))
 
--- src/bottom.rt:97:1
 returns : tie.Need-returns
-returns c = search needs
+returns c = rw (c .before .before .wanted .given .1) (c .unfinished .ensures)
 
--- src/bottom.rt:97:1
 returns-2 : tie.Need-returns-2
-returns-2 c = search needs
+returns-2 c = rw (c .before .before .enum-told .given .1, c .before .node-at .ensures)
 
 pub past-found-spec : {M : Type 1} → statement M
 past-found-spec =

@@ -1,5 +1,5 @@
 -- One place after another: looked at, and loaded.
-use mathlib.Core.Path.{_≡_, refl, sym, _∙_, ap}
+use mathlib.Core.Path.{_≡_, refl, sym, _∙_}
 use mathlib.Core.Bool.{Bool, true, false, _&&_, and-false, and-eq-true-iff}
 use Prim.Native.Nat.{ℕ, _+_, _-_, _≤_, _<_, min, max}
 use native.Mathlib.Nat.{sub-zero}
@@ -15,7 +15,7 @@ use Rattle.waiting.specs.Waiting.{wordsFor, InWidths}
 use Rattle.state.specs.declared.Place.{Place}
 use Rattle.state.specs.declared.State.{State}
 use Rattle.state.specs.Fit.{zeroPlace, allOf, placeGood, keysIn, places, noPlace, placesFrom, used, unused, placesFit}
-use Rattle.state.specs.FitLaws.{places-end, all-passes, all-fails, all-end, ascendingAt, ascending-start, keys-ascend, keys-fall, keys-end}
+use Rattle.state.specs.FitLaws.{all-passes, all-fails, all-end, ascendingAt, ascending-start, keys-ascend, keys-fall, keys-end}
 use Rattle.stash.specs.Stash.{Loaded}
 use Rattle.stash.specs.StashLaws.{nodeAt, LoadedTo, loaded-none, loaded-more, loaded-all}
 

@@ -1,12 +1,11 @@
 -- `stash::places::load` meets its contract. The invariant: the first i places are looked at.
-use mathlib.Core.Path.{_≡_, refl, sym, _∙_, ap}
+use mathlib.Core.Path.{_≡_, sym, _∙_, ap}
 use mathlib.Core.Logic.{⊎-elim}
 use mathlib.Core.Bool.{Bool, _&&_}
 use Prim.Native.Nat.{ℕ, _-_}
 use lib.Dec.{leb}
 use lib.ListN.{set}
 use Rattle.slots.specs.Row.{slotsOf}
-use Rattle.state.specs.declared.Place.{Place}
 use Rattle.state.specs.Fit.{placeGood}
 use borrow.Author.Tests.{not-true, not-false}
 use Rattle.stash.specs.LoadLaws.{at, LookedAt, looked-none, not-loaded, used-unfit, unused-unfit, used-more, unused-more, looked-all}
@@ -21,7 +20,7 @@ Inv-loop size w₀ state n least₀ i₀ w least i = LookedAt state i least w
 abbrev μ-loop : tie.MeasureT-loop
 μ-loop size w₀ state n least₀ i₀ w least i = 101 - i
 
--- The size that is asked about is the state's.
+-- What is asked of a used place, at the size that is handed over: it is the state's.
 abbrev used-test : (c : tie.At-loop Inv-loop μ-loop) (size : ℕ) → Bool
 used-test c size =
     let p = at (c .before .args .t1) (c .loop .i) in

@@ -1,7 +1,6 @@
 -- `stash::places::used_fits` meets its contract, test by test.
 use mathlib.Core.Path.{_≡_, sym, _∙_}
 use borrow.Author.Tests.{not-true, not-false}
-use native.Mathlib.Omega.{arith}
 use borrow.Author.Needs.{needs}
 use Rattle.stash.proofs.places.used_fits.Statement.{statement}
 use Rattle.stash.proofs.places.used_fits.Tie as tie

@@ -1,3 +1,4 @@
 pub mod Stash
 pub mod StashLaws
+pub mod LoadLaws
 pub mod SaveLaws

@@ -9,7 +9,7 @@ use borrow.Author.Tests.{not-true, eqb-true, leb-true}
 use lib.Dec.{eqb, leb}
 use lib.ListN.{length, take, drop, getD, set, replicate, length-map, length-append, length-replicate, length-drop, getD-replicate, take-append-drop, drop-of-length-le, List·getD-append, List·getD-map}
 use lib.Seq.{take-suc, drop-cons, drop-drop, drop-append-add, set-at, append-snoc, getD-append-add, getD-take, length-take-le}
-use Rattle.slots.specs.Slot.{fieldsIn, nodeOf, slotBytes}
+use Rattle.slots.specs.Slot.{fieldsIn, nodeOf, slotBytes, noLink}
 use Rattle.slots.specs.declared.Slot.{Slot}
 use Rattle.slots.specs.declared.Link.{Link}
 use Rattle.slots.specs.declared.Node as node
@@ -22,7 +22,7 @@ use Rattle.waiting.specs.Waiting.{nodeIn, waitingIn, Holds}
 use Rattle.waiting.specs.WaitingLaws.{waiting-length}
 use Rattle.state.specs.declared.Place.{Place}
 use Rattle.state.specs.declared.State.{State}
-use Rattle.state.specs.Fit.{largestStructure, largestSize, inRange, zeroLink, zeroNode, zeroPlace, allOf, placeGood, keysIn, places, noLink, noPlace, placesFrom, used, unused, placesFit, fits}
+use Rattle.state.specs.Fit.{largestStructure, largestSize, inRange, zeroLink, zeroNode, zeroPlace, allOf, placeGood, keysIn, places, noPlace, placesFrom, used, unused, placesFit, fits}
 use Rattle.basics.specs.Ascending.{ascending}
 use Rattle.store.specs.Store.{placed, stateLeft}
 use Rattle.stash.specs.Stash.{saved}

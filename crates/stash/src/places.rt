@@ -5,16 +5,20 @@ use buckets::stash_words::get;
 use buckets::stash_words::put;
 use slots::Link;
 use slots::codec::node_of;
+use state::PLACES;
 use state::Place;
 use state::State;
+use state::fit::place_good;
+use state::fit::zero_place;
 use state::opening::no_place;
 ghost use mathlib.Core.Path.{_≡_};
-ghost use mathlib.Core.Bool.{true};
+ghost use mathlib.Core.Bool.{true, _&&_};
 ghost use Prim.Native.Nat.{max, _≤_};
+ghost use lib.Dec.{leb};
 ghost use lib.ListN.{length};
-ghost use Rattle.buckets.specs.Words.{places, wordCount};
+ghost use Rattle.buckets.specs.Words.{wordCount};
 ghost use Rattle.waiting.specs.Waiting.{waitingIn, Holds};
-ghost use Rattle.state.specs.Fit.{fits};
+ghost use Rattle.state.specs.Fit.{placeGood, placesFit, fits};
 ghost use Rattle.stash.specs.Stash.{Loaded, saved};
 
 // The greater of two numbers.
@@ -24,20 +28,42 @@ fn greater(a: usize, b: usize) -> usize
     if a < b { b } else { a }
 }
 
-// The waiting nodes of a state as words; how many they are.
-pub fn load(state: State, w: &mut [u64; WORDS]) -> usize
-    requires { ⌜ (length (now w) ≡ wordCount) × (state .count ≤ places) ⌝ }
-    ensures { λ r. ⌜ Loaded state (now (w .exit)) r ⌝ }
+// Whether a used place is good and its key at least `least`, one more than the key before it.
+fn used_fits(p: Place, size: usize, least: u64) -> bool
+    requires { ⌜ size ≤ 16 ⌝ }
+    ensures { λ r. ⌜ r ≡ (placeGood size p && leb least (p .node .key)) ⌝ }
+{
+    if !place_good(size, p) {
+        return false;
+    }
+    least <= p.node.key as u64
+}
+
+// Whether the places of a state fit; if they do, its waiting nodes are words then.
+pub fn load(state: State, size: usize, w: &mut [u64; WORDS]) -> bool
+    requires { ⌜ (length (now w) ≡ wordCount) × ((size ≤ 16) × ((state .size ≡ size) × (state .count ≤ 64))) ⌝ }
+    ensures { λ r. ⌜ (r ≡ placesFit state) × (r ≡ true → Loaded state (now (w .exit)) (state .count)) ⌝ }
 {
     let n = state.count as usize;
+    let mut least: u64 = 0;
     let mut i = 0;
-    while i < n {
+    while i < PLACES {
         let p = state.places[i];
-        let node = p.node;
-        put(w, i, words_of(node));
+        if i < n {
+            if !used_fits(p, size, least) {
+                return false;
+            }
+            let node = p.node;
+            put(w, i, words_of(node));
+            least = node.key as u64 + 1;
+        } else {
+            if !zero_place(p) {
+                return false;
+            }
+        }
         i += 1;
     }
-    n
+    true
 }
 
 // The state that a call leaves: of the state before it, with this mark, entries and root link, and with the first n slots as its

@@ -1,7 +1,7 @@
--- Tests over the places of a state, one place at a time.
+-- Whether a state fits: its head and its places, and those one at a time.
 use mathlib.Core.Path.{_≡_, refl, sym, _∙_, ap}
 use mathlib.Core.Bool.{Bool, true, false, _&&_, and-false, and-true, and-assoc, and-eq-true-iff}
-use mathlib.Core.List.{List, [], _∷_, _++_, map}
+use mathlib.Core.List.{List, [], _∷_}
 use Prim.Native.Nat.{ℕ, zero, suc, _+_, _-_, _^_, _≤_, _<_}
 use native.Mathlib.Omega.{arith}
 use native.Mathlib.Decide.{decLt}
@@ -135,17 +135,17 @@ pub record Head (structure size entries count : ℕ) : Type 0 where
   pub few : entries ≤ 2 ^ size - 1
   pub waiting : count ≤ limit
 
-module _ (structure size entries count : ℕ) (root : Link) where
-  pub head-true : headFits structure size entries count root ≡ true → Head structure size entries count
-  unfolding headFits
-  head-true e =
-      let a = and-eq-true-iff (inRange structure largestStructure) _ .0 e in
-      let b = and-eq-true-iff (inRange size largestSize) _ .0 (a .1) in
-      let c = and-eq-true-iff (leb entries (2 ^ size - 1)) _ .0 (b .1) in
-      let d = and-eq-true-iff (leb count limit) _ .0 (c .1) in
-      record {
-        structures = in-range-true structure largestStructure (a .0);
-        sizes = in-range-true size largestSize (b .0);
-        few = leb-true entries (2 ^ size - 1) (c .0);
-        waiting = leb-true count limit (d .0);
-      }
+pub head-true : (structure size entries count : ℕ) (root : Link) → headFits structure size entries count root ≡ true
+    → Head structure size entries count
+unfolding headFits
+head-true structure size entries count root e =
+    let a = and-eq-true-iff (inRange structure largestStructure) _ .0 e in
+    let b = and-eq-true-iff (inRange size largestSize) _ .0 (a .1) in
+    let c = and-eq-true-iff (leb entries (2 ^ size - 1)) _ .0 (b .1) in
+    let d = and-eq-true-iff (leb count limit) _ .0 (c .1) in
+    record {
+      structures = in-range-true structure largestStructure (a .0);
+      sizes = in-range-true size largestSize (b .0);
+      few = leb-true entries (2 ^ size - 1) (c .0);
+      waiting = leb-true count limit (d .0);
+    }

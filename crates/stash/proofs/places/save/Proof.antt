@@ -1,9 +1,8 @@
 -- `stash::places::save` meets its contract. The invariant: the first i places are as they are saved, and the others as they were.
-use mathlib.Core.Path.{_≡_, refl, _∙_}
+use mathlib.Core.Path.{_≡_, refl, sym, _∙_}
 use Prim.Native.Nat.{_-_, _≤_}
-use lib.ListN.{length}
+use lib.ListN.{length, length-map}
 use mathlib.Core.Logic.{⊎-elim}
-use Rattle.steps.proofs.Places.{unmapped}
 use Rattle.stash.specs.SaveLaws.{fit-places, savedTo, saved-node, saved-none, saved-all}
 use borrow.Author.Needs.{needs}
 use native.Mathlib.Omega.{arith}
@@ -17,7 +16,7 @@ abbrev μ-loop : tie.MeasureT-loop
 μ-loop mark entries root w n after₀ none end i₀ after i = end - i
 
 sized : (s : tie.Start Inv-loop μ-loop) → length (s .args .state .places) ≡ 101
-sized s = unmapped _ (s .args .state .places) (s .good .0 .1 .1 .1 .1 .1 .1 .1 .1 .0 .1 .0 .1)
+sized s = sym (length-map (s .args .state .places) _) ∙ (s .good .0 .1 .1 .1 .1 .1 .1 .1 .1 .0 .1 .0 .1)
 
 few : (s : tie.Start Inv-loop μ-loop) → s .args .state .count ≤ 64
 few s = fit-places (s .args .state) (s .pre .0) .few

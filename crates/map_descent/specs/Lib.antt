@@ -1,3 +1,7 @@
 pub mod Walk
+pub mod WalkLaws
+pub mod LowestLaws
 pub mod PathTo
+pub mod PathLaws
 pub mod Bottom
+pub mod BottomLaws

@@ -1,0 +1,22 @@
+use borrow.Author.Needs.{needs}
+use Rattle.map_descent.proofs.bottom.added.Statement.{statement}
+use Rattle.map_descent.proofs.bottom.added.Tie as tie
+use Rattle.map_descent.proofs.bottom.added.Reads as reads
+use Rattle.map_descent.proofs.bottom.added.Lts as lts
+use Rattle.map_descent.proofs.bottom.bottom_at.Reads as bottom-at-reads
+use Rattle.map_descent.proofs.bottom.leaf.Reads as leaf-reads
+
+leaf-requires : tie.Need-leaf-requires
+leaf-requires c κs = search needs
+
+add-bottom-at : tie.Need-add-bottom-at
+add-bottom-at c = search needs
+
+bottom-at-requires : tie.Need-bottom-at-requires
+bottom-at-requires c κs = search needs
+
+returns : tie.Need-returns
+returns c = rw (← c .before .leaf .ensures) (c .bottom-at .ensures)
+
+pub added-spec : {M : Type 1} → statement M
+added-spec = tie.close (tie.spec leaf-requires add-bottom-at bottom-at-requires returns)

@@ -38,6 +38,7 @@ use Rattle.rotations.specs.LevelLaws.{Kept, raise-kept, rest-kept}
 use Rattle.map_descent.specs.declared.bottom.Bottom.{Bottom}
 use Rattle.map_descent.specs.Walk.{Walks}
 use Rattle.map_descent.specs.PathTo.{stepTo, pathTo}
+use Rattle.map_descent.specs.PathLaws.{path-more}
 use Rattle.map_descent.specs.Bottom.{Ready, wayUp}
 use Rattle.map_ascent.specs.Climb.{Lists, stepsTo, ClimbsTo, Climbing}
 
@@ -100,10 +101,6 @@ level-room aside o = simp length-append (omega arith)
 -- ---- turn by turn
 
 module _ (key : ℕ) (root : link.Link) (h : Held) (b : Bottom) (walks : Walks root h) (ready : Ready key root h b) where
-  path-step : (i : ℕ) → stepsTo key root h b (suc i) ≡ stepTo key h (start (toLink root)) (b .found) (b .length) i ∷ stepsTo key root h b i
-  unfolding pathTo
-  path-step i = refl
-
   path-none : stepsTo key root h b 0 ≡ []
   unfolding pathTo
   path-none = refl
@@ -145,7 +142,7 @@ module _ (key : ℕ) (root : link.Link) (h : Held) (b : Bottom) (walks : Walks r
           ≡ follow (resume (level (b .rotating) (toStep p) (toSub s)) (drop next (nodesOf h)))
           (λ r end. resume (upward (b .rotating) (stepsTo key root h b i) (r .sub) (nodesOf (heldIn ws count) ++ r .out)) end)
       resumes-step =
-          sym (now .resumes) ∙ rw (path-step i, ← at .0)
+          sym (now .resumes) ∙ rw (path-more key h (start (toLink root)) (b .found) (b .length) i, ← at .0)
           (upward-step (b .rotating) (toStep p) (stepsTo key root h b i) (toSub s) (nodesOf (heldIn ws count)) (drop next (nodesOf h)))
 
       module _ {r : Raised} (raises : Raises (level (b .rotating) (toStep p) (toSub s)) h next r) where

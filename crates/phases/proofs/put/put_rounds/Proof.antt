@@ -13,9 +13,6 @@ use Rattle.idle_rounds.proofs.idle.draw_at.Reads as draw-at-reads
 use Rattle.idle_rounds.proofs.idle.idle_rounds.Reads as idle-rounds-reads
 
 -- src/put.rt:28:17
-add-first : tie.Need-add-first
-add-first c = search needs
-
 -- src/put.rt:29:9
 ascends-requires : tie.Need-ascends-requires
 ascends-requires c κs = search needs
@@ -46,7 +43,7 @@ returns c =
     let s = c .before .before .before .before .before .before .before .before in
     let a = s .args in
     let draw = drawOf (a .size) (a .tape .now) in
-    puts-twice (a .size) (a .n) draw (a .rounds) (a .w .now) (a .tree .now) (a .trace .now) (s .pre .0) (sym (c .before .before .ascends .ensures) ∙ not-true (c .before .before .ascends .result) (c .before .if1 .taken)) (s .pre .1 .0) (c .draw-at .result) (c .draw-at .ensures .0)
+    puts-twice (a .size) (a .n) draw (a .rounds) (a .first) (a .w .now) (a .tree .now) (a .trace .now) (s .pre .0) (sym (c .before .before .ascends .ensures) ∙ not-true (c .before .before .ascends .result) (c .before .if1 .taken)) (s .pre .1 .0) (c .draw-at .result) (c .draw-at .ensures .0)
 
 -- src/put.rt:37:38
 sub-idle-rounds : tie.Need-sub-idle-rounds
@@ -82,13 +79,12 @@ returns-2 c =
     let s = c .before .before .before .before .before .before .before .before .before .before .before .before .before .before .before .before .before in
     let a = s .args in
     let draw = drawOf (a .size) (a .tape .now) in
-    puts-idled (a .size) (a .n) draw (a .rounds) (a .w .now) (a .tree .now) (a .trace .now) (c .before .before .before .before .idle-rounds .ensures)
+    puts-idled (a .size) (a .n) draw (a .rounds) (a .first) (a .w .now) (a .tree .now) (a .trace .now) (c .before .before .before .before .idle-rounds .ensures)
 
 pub put-rounds-spec : {M : Type 1} → statement M
 put-rounds-spec =
     tie.close
     (tie.spec
-    add-first
     ascends-requires
     draw-at-requires
     cast-trace

@@ -68,8 +68,8 @@ returns-3 c =
     let a = d .before .args in
     let e = c .before .before .enum-told3 .given .1 in
     rw (get-is (a .key) (a .entries) (toLink (a .root)))
-    (starts-hit (d .before .pre .1) (d .descend .ensures) (λ x. done (getStep (a .entries) x)) e (rw (c .before .node-at .ensures) at (c .at-node .ensures))
-    (hit-low (d .before .pre .1) (d .descend .ensures) e, (tt, tt)) refl (get-hit _ (a .entries) (toWant (d .descend .result .want)) _))
+    (starts-hit (d .before .pre .1) (d .descend .ensures) (λ x. done (getStep (a .entries) x)) e (c .before .node-at .ensures) (c .at-node .ensures)
+    (hit-low (d .before .pre .1) (d .descend .ensures) e (c .before .node-at .ensures), (tt, tt)) refl (get-hit _ (a .entries) (toWant (d .descend .result .want)) _))
 
 pub get-spec : {M : Type 1} → statement M
 get-spec =

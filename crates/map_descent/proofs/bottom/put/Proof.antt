@@ -72,8 +72,8 @@ returns-2 c =
     let a = d .before .args in
     let e = c .before .before .before .enum-told3 .given .1 in
     rw (put-is (a .key) (a .value) (a .tag) (a .entries) (a .limit) (toLink (a .root)))
-    (starts-hit (d .before .pre .1) (d .descend .ensures) (step (d .before)) e (rw (c .before .before .node-at .ensures) at (c .replaced .ensures))
-    (hit-low (d .before .pre .1) (d .descend .ensures) e, (tt, tt)) refl
+    (starts-hit (d .before .pre .1) (d .descend .ensures) (step (d .before)) e (c .before .before .node-at .ensures) (c .replaced .ensures)
+    (hit-low (d .before .pre .1) (d .descend .ensures) e (c .before .before .node-at .ensures), (tt, tt)) refl
     (put-replaced _ (a .entries) (a .key) (a .value) (a .tag) (a .limit) (toWant (d .descend .result .want)) _ (c .before .if2 .taken)))
 
 at-node-requires : tie.Need-at-node-requires
@@ -101,8 +101,8 @@ returns-5 c =
     let a = d .before .args in
     let e = c .before .before .before .enum-told3 .given .1 in
     rw (put-is (a .key) (a .value) (a .tag) (a .entries) (a .limit) (toLink (a .root)))
-    (starts-hit (d .before .pre .1) (d .descend .ensures) (step (d .before)) e (rw (c .before .before .node-at .ensures) at (c .at-node .ensures))
-    (hit-low (d .before .pre .1) (d .descend .ensures) e, (tt, tt)) refl
+    (starts-hit (d .before .pre .1) (d .descend .ensures) (step (d .before)) e (c .before .before .node-at .ensures) (c .at-node .ensures)
+    (hit-low (d .before .pre .1) (d .descend .ensures) e (c .before .before .node-at .ensures), (tt, tt)) refl
     (put-hit-full _ (a .entries) (a .key) (a .value) (a .tag) (a .limit) (toWant (d .descend .result .want)) _ (c .before .if2 .left)))
 
 pub put-spec : {M : Type 1} → statement M

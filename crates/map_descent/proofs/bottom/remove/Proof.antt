@@ -61,9 +61,9 @@ returns c =
     let e = n .before .enum-told3 .given .1 in
     let is = n .node-at .ensures in
     rw (remove-is (a .key) (a .entries) (toLink (a .root)))
-    (starts-hit (d .before .pre .1) (d .descend .ensures) (removeStep (a .entries)) e (rw is at (c .taken-out .ensures))
-    (hit-low (d .before .pre .1) (d .descend .ensures) e .1) refl
-    (rw (o .one-less .ensures) (remove-left _ (a .entries) (toWant (d .descend .result .want)) _ (rw is at (c .before .if1 .taken)))))
+    (starts-hit (d .before .pre .1) (d .descend .ensures) (removeStep (a .entries)) e is (c .taken-out .ensures)
+    (hit-low (d .before .pre .1) (d .descend .ensures) e is .1) refl
+    (rw (o .one-less .ensures) (remove-left _ (a .entries) (toWant (d .descend .result .want)) _ (c .before .if1 .taken))))
 
 taken-out-requires-2 : tie.Need-taken-out-requires-2
 taken-out-requires-2 c κs = within (c .before .before .before .before .before .before .before .before)
@@ -77,10 +77,10 @@ returns-2 c =
     let e = n .before .enum-told3 .given .1 in
     let is = n .node-at .ensures in
     rw (remove-is (a .key) (a .entries) (toLink (a .root)))
-    (starts-hit (d .before .pre .1) (d .descend .ensures) (removeStep (a .entries)) e (rw is at (c .taken-out2 .ensures))
-    (hit-low (d .before .pre .1) (d .descend .ensures) e .0) refl
+    (starts-hit (d .before .pre .1) (d .descend .ensures) (removeStep (a .entries)) e is (c .taken-out2 .ensures)
+    (hit-low (d .before .pre .1) (d .descend .ensures) e is .0) refl
     (rw (o .one-less .ensures)
-    (remove-right _ (a .entries) (toWant (d .descend .result .want)) _ (rw is at (c .before .before .before .if1 .left)) (rw is at (c .before .if2 .taken)))))
+    (remove-right _ (a .entries) (toWant (d .descend .result .want)) _ (c .before .before .before .if1 .left) (c .before .if2 .taken))))
 
 next-larger-requires : tie.Need-next-larger-requires
 next-larger-requires c κs =

@@ -71,10 +71,11 @@ loop-less c = search needs
 loop-again : tie.Need-loop-again Inv-loop μ-loop
 loop-again c =
     let l = c .before .before .before .before in
-    let a = l .before .before .before .args in
-    (want-is (a .key) (heldOf (l .before .before .before)) (toWant (l .before .before .start .result)) (a .found) (l .before .loop .j) (l .before .loop .inv .0)
-    (c .before .before .before .node-at .ensures) (c .before .before .goes-left .ensures) (c .before .step-at .ensures) (c .below .ensures),
-    omega (arith, l .loop-test .taken))
+    let a = l .before .before .before .args in (
+      want-is (a .key) (heldOf (l .before .before .before)) (toWant (l .before .before .start .result)) (a .found) (l .before .loop .j) (l .before .loop .inv .0)
+          (c .before .before .before .node-at .ensures) (c .before .before .goes-left .ensures) (c .before .step-at .ensures) (c .below .ensures),
+      omega (arith, l .loop-test .taken),
+    )
 
 node-at-requires-2 : tie.Need-node-at-requires-2 Inv-loop μ-loop
 node-at-requires-2 c κs =

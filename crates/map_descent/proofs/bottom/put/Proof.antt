@@ -10,15 +10,6 @@ use Rattle.operations.specs.Method.{toWant}
 use Rattle.map_descent.specs.BottomLaws.{put-is, put-new, put-gap-full, put-replaced, put-hit-full, starts-missing, starts-gap, starts-hit, hit-within, hit-low}
 use Rattle.map_descent.proofs.bottom.put.Statement.{statement}
 use Rattle.map_descent.proofs.bottom.put.Tie as tie
-use Rattle.map_descent.proofs.bottom.put.Reads as reads
-use Rattle.map_descent.proofs.bottom.put.Lts as lts
-use Rattle.map_descent.proofs.bottom.added.Reads as added-reads
-use Rattle.map_descent.proofs.bottom.at_gap.Reads as at-gap-reads
-use Rattle.map_descent.proofs.bottom.at_node.Reads as at-node-reads
-use Rattle.map_descent.proofs.bottom.replaced.Reads as replaced-reads
-use Rattle.map_descent.proofs.bottom.unfinished.Reads as unfinished-reads
-use Rattle.map_descent.proofs.descend.descend.Reads as descend-reads
-use Rattle.node_rows.proofs.node_at.Reads as node-at-reads
 
 -- The node with the key is one of the held.
 within : (c : tie.After-enum-told3) → c .before .before .before .descend .result .depth < 33

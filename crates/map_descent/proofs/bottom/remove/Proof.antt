@@ -8,16 +8,6 @@ use Rattle.operations.specs.Method.{toWant}
 use Rattle.map_descent.specs.BottomLaws.{remove-is, remove-gap, remove-left, remove-right, starts-missing, starts-gap, starts-hit, starts-past, hit-within, hit-low}
 use Rattle.map_descent.proofs.bottom.remove.Statement.{statement}
 use Rattle.map_descent.proofs.bottom.remove.Tie as tie
-use Rattle.map_descent.proofs.bottom.remove.Reads as reads
-use Rattle.map_descent.proofs.bottom.remove.Lts as lts
-use Rattle.map_descent.proofs.bottom.at_gap.Reads as at-gap-reads
-use Rattle.map_descent.proofs.bottom.one_less.Reads as one-less-reads
-use Rattle.map_descent.proofs.bottom.past_found.Reads as past-found-reads
-use Rattle.map_descent.proofs.bottom.taken_out.Reads as taken-out-reads
-use Rattle.map_descent.proofs.bottom.unfinished.Reads as unfinished-reads
-use Rattle.map_descent.proofs.descend.descend.Reads as descend-reads
-use Rattle.map_descent.proofs.descend.next_larger.Reads as next-larger-reads
-use Rattle.node_rows.proofs.node_at.Reads as node-at-reads
 
 -- The node with the key is one of the held.
 within : (c : tie.After-enum-told3) → c .before .before .before .descend .result .depth < 33

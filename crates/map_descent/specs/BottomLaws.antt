@@ -6,18 +6,20 @@ use mathlib.Core.Path.{_≡_, refl, sym, _∙_, ap, subst}
 use mathlib.Core.Bool.{Bool, true, false}
 use mathlib.Core.List.{List, [], _∷_, _++_}
 use mathlib.Core.Option.{none}
-use lib.ListN.{drop}
+use lib.ListN.{getD, drop}
 use borrow.Author.Tests.{eq-eqb, ne-eqb, lt-ltb, le-ltb}
 use Rattle.method.specs.Node.{Link, Node, absent, withValue}
 use Rattle.method.specs.Prog.{Want, Prog, done, want, bind}
 use Rattle.method.specs.Answer as method
 use Rattle.method.specs.Map.{Outcome, Step, Sub, stub, top, Built, Spot, gap, hit, Lowest, start, stepAt, below, walk, climb, unwound, finish, getStep, getProg, putStep, putProg, swapped, takeOut, removeStep, removeProg}
 use Rattle.slots.specs.declared.Link as link
+use Rattle.slots.specs.declared.Node as node
+use Rattle.slots.specs.Slot.{noNode}
 use Rattle.map_nodes.specs.declared.Sub as sub
 use Rattle.operations.specs.declared.Answer as answer
 use Rattle.operations.specs.declared.Wanted.{Wanted}
 use Rattle.operations.specs.declared.Wanted.the-variants.{Done, Fetch}
-use Rattle.leaf_nodes.specs.Convert.{toLink}
+use Rattle.leaf_nodes.specs.Convert.{toLink, toNode}
 use Rattle.operations.specs.Method.{toWant, toAnswer}
 use Rattle.operations.specs.Resume.{Resumed, resume, follow, resumedAs}
 use Rattle.operations.specs.ResumeLaws.{resume-bind}
@@ -108,8 +110,8 @@ module _ {key : ℕ} {root : link.Link} {h : Held} (walks : Walks root h) {d : D
   pub hit-within : d .end ≡ Hit → d .depth < h .count
   hit-within e = subst (λ (x : End). Reached key h (start (toLink root)) x (d .depth)) e (down .reached)
 
-  pub hit-low : d .end ≡ Hit → Low 100 (heldAt h (d .depth))
-  hit-low e = held-low h (d .depth) 100 (walks .held .low) (hit-within e) (held-fits (walks .held))
+  pub hit-low : {n : node.Node} → d .end ≡ Hit → n ≡ getD (h .nodes) (d .depth) noNode → Low 100 (toNode n)
+  hit-low e is = rw is (held-low h (d .depth) 100 (walks .held .low) (hit-within e) (held-fits (walks .held)))
 
   passes : List (Step ℕ)
   passes = trail h (start (toLink root)) (byKey key h) (d .depth)
@@ -147,13 +149,14 @@ module _ {key : ℕ} {root : link.Link} {h : Held} (walks : Walks root h) {d : D
           starts-at (d .depth) (gap (toLink (d .want .link)) passes) (spot e) g (omega arith)
           (subst (λ (x : End). Reached key h (start (toLink root)) x (d .depth)) e (down .reached))
 
-      pub starts-hit : d .end ≡ Hit → r ≡ bottomAt rotating b (d .depth) (d .depth + 1) entries a → LowSub 100 (toSub b) → weight (toSub b) ≡ 1
-          → f (hit (toWant (d .want)) (heldAt h (d .depth)) (trail h (start (toLink root)) (byKey key h) (d .depth)))
+      pub starts-hit : {n : node.Node} → d .end ≡ Hit → n ≡ getD (h .nodes) (d .depth) noNode
+          → r ≡ bottomAt rotating b (d .depth) (d .depth + 1) entries a → LowSub 100 (toSub b) → weight (toSub b) ≡ 1
+          → f (hit (toWant (d .want)) (toNode n) (trail h (start (toLink root)) (byKey key h) (d .depth)))
           ≡ way rotating (trail h (start (toLink root)) (byKey key h) (d .depth)) (toSub b) entries (toAnswer a)
           → StartsUp key root h (walking key (toLink root) f) r
       unfolding passes
-      starts-hit e g =
-          starts-at (d .depth + 1) (hit (toWant (d .want)) (heldAt h (d .depth)) passes) (spot e ∙ rw (add-one (d .depth))) g (omega arith)
+      starts-hit {n} e is g =
+          starts-at (d .depth + 1) (hit (toWant (d .want)) (toNode n) passes) (spot e ∙ rw (add-one (d .depth), is)) g (omega arith)
           (omega (arith, hit-within e))
 
 -- ---- a remove that goes past the node with the key

@@ -3,12 +3,11 @@ use Prim.Native.Nat.{ℕ, zero, suc, _+_, _≤_, _<_}
 use native.Mathlib.Omega.{arith}
 use native.Mathlib.Decide.{decLt}
 use native.Mathlib.Numerals.{add-one}
-use mathlib.Core.Path.{_≡_, refl, sym, _∙_, ap, ap₂, subst}
+use mathlib.Core.Path.{_≡_, refl, sym, _∙_, ap, ap₂}
 use mathlib.Core.Bool.{Bool, true, false}
 use mathlib.Core.List.{List, [], _∷_, _++_}
 use lib.Dec.{eqb, ltb}
-use lib.ListN.{length, getD, set, length-set}
-use lib.Seq.{getD-set-same, getD-set-other}
+use lib.ListN.{getD}
 use borrow.Author.Tests.{eq-eqb, ne-eqb, lt-ltb, le-ltb}
 use Rattle.basics.specs.Choice.{pick}
 use Rattle.method.specs.Node.{Node}
@@ -20,7 +19,6 @@ use Rattle.leaf_nodes.specs.Convert.{toNode}
 use Rattle.node_rows.specs.Heights.{Low}
 use Rattle.node_rows.specs.Held.{Held, heldAt, HeldFrom}
 use Rattle.node_rows.specs.HeldLaws.{held-low}
-use Rattle.map_nodes.specs.Method.{toStep}
 use Rattle.map_descent.specs.Walk.{wantAt, passed, trail, byKey, after, LeftFrom}
 use Rattle.map_descent.specs.WalkLaws.{held-fits, want-first, want-next, trail-none, trail-next}
 use Rattle.map_descent.specs.LowestLaws.{after-found, after-next}
@@ -28,11 +26,11 @@ use Rattle.map_descent.specs.PathTo.{waysTo, stepTo, pathTo}
 
 -- ---- one step
 
-path-none : (key : ℕ) (h : Held) (w : Want ℕ) (found last : ℕ) → pathTo key h w found last 0 ≡ []
+-- The path over no node, and over one node more.
+pub path-none : (key : ℕ) (h : Held) (w : Want ℕ) (found last : ℕ) → pathTo key h w found last 0 ≡ []
 unfolding pathTo
 path-none key h w found last = refl
 
--- The path goes over one node more.
 pub path-more : (key : ℕ) (h : Held) (w : Want ℕ) (found last i : ℕ)
     → pathTo key h w found last (suc i) ≡ stepTo key h w found last i ∷ pathTo key h w found last i
 unfolding pathTo

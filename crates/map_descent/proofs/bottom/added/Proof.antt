@@ -1,10 +1,6 @@
 use borrow.Author.Needs.{needs}
 use Rattle.map_descent.proofs.bottom.added.Statement.{statement}
 use Rattle.map_descent.proofs.bottom.added.Tie as tie
-use Rattle.map_descent.proofs.bottom.added.Reads as reads
-use Rattle.map_descent.proofs.bottom.added.Lts as lts
-use Rattle.map_descent.proofs.bottom.bottom_at.Reads as bottom-at-reads
-use Rattle.map_descent.proofs.bottom.leaf.Reads as leaf-reads
 
 leaf-requires : tie.Need-leaf-requires
 leaf-requires c κs = search needs

@@ -9,13 +9,6 @@ use Rattle.operations.specs.Method.{toWant}
 use Rattle.map_descent.specs.BottomLaws.{get-is, get-gap, get-hit, starts-missing, starts-gap, starts-hit, hit-within, hit-low}
 use Rattle.map_descent.proofs.bottom.get.Statement.{statement}
 use Rattle.map_descent.proofs.bottom.get.Tie as tie
-use Rattle.map_descent.proofs.bottom.get.Reads as reads
-use Rattle.map_descent.proofs.bottom.get.Lts as lts
-use Rattle.map_descent.proofs.bottom.at_gap.Reads as at-gap-reads
-use Rattle.map_descent.proofs.bottom.at_node.Reads as at-node-reads
-use Rattle.map_descent.proofs.bottom.unfinished.Reads as unfinished-reads
-use Rattle.map_descent.proofs.descend.descend.Reads as descend-reads
-use Rattle.node_rows.proofs.node_at.Reads as node-at-reads
 
 -- The node with the key is one of the held.
 within : (c : tie.After-enum-told3) → c .before .before .before .descend .result .depth < 33
@@ -68,8 +61,8 @@ returns-3 c =
     let a = d .before .args in
     let e = c .before .before .enum-told3 .given .1 in
     rw (get-is (a .key) (a .entries) (toLink (a .root)))
-    (starts-hit (d .before .pre .1) (d .descend .ensures) (λ x. done (getStep (a .entries) x)) e (rw (c .before .node-at .ensures) at (c .at-node .ensures))
-    (hit-low (d .before .pre .1) (d .descend .ensures) e, (tt, tt)) refl (get-hit _ (a .entries) (toWant (d .descend .result .want)) _))
+    (starts-hit (d .before .pre .1) (d .descend .ensures) (λ x. done (getStep (a .entries) x)) e (c .before .node-at .ensures) (c .at-node .ensures)
+    (hit-low (d .before .pre .1) (d .descend .ensures) e (c .before .node-at .ensures), (tt, tt)) refl (get-hit _ (a .entries) (toWant (d .descend .result .want)) _))
 
 pub get-spec : {M : Type 1} → statement M
 get-spec =

@@ -3,10 +3,6 @@ use native.Mathlib.Omega.{arith}
 use borrow.Author.Needs.{needs}
 use Rattle.map_descent.proofs.bottom.past_found.Statement.{statement}
 use Rattle.map_descent.proofs.bottom.past_found.Tie as tie
-use Rattle.map_descent.proofs.bottom.past_found.Reads as reads
-use Rattle.map_descent.proofs.bottom.past_found.Lts as lts
-use Rattle.map_descent.proofs.bottom.unfinished.Reads as unfinished-reads
-use Rattle.node_rows.proofs.node_at.Reads as node-at-reads
 
 -- The next larger key's node is one of the held.
 within : (c : tie.After-enum-told) → c .before .before .args .y .last < 33

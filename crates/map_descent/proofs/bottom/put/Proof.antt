@@ -10,15 +10,6 @@ use Rattle.operations.specs.Method.{toWant}
 use Rattle.map_descent.specs.BottomLaws.{put-is, put-new, put-gap-full, put-replaced, put-hit-full, starts-missing, starts-gap, starts-hit, hit-within, hit-low}
 use Rattle.map_descent.proofs.bottom.put.Statement.{statement}
 use Rattle.map_descent.proofs.bottom.put.Tie as tie
-use Rattle.map_descent.proofs.bottom.put.Reads as reads
-use Rattle.map_descent.proofs.bottom.put.Lts as lts
-use Rattle.map_descent.proofs.bottom.added.Reads as added-reads
-use Rattle.map_descent.proofs.bottom.at_gap.Reads as at-gap-reads
-use Rattle.map_descent.proofs.bottom.at_node.Reads as at-node-reads
-use Rattle.map_descent.proofs.bottom.replaced.Reads as replaced-reads
-use Rattle.map_descent.proofs.bottom.unfinished.Reads as unfinished-reads
-use Rattle.map_descent.proofs.descend.descend.Reads as descend-reads
-use Rattle.node_rows.proofs.node_at.Reads as node-at-reads
 
 -- The node with the key is one of the held.
 within : (c : tie.After-enum-told3) → c .before .before .before .descend .result .depth < 33
@@ -72,8 +63,8 @@ returns-2 c =
     let a = d .before .args in
     let e = c .before .before .before .enum-told3 .given .1 in
     rw (put-is (a .key) (a .value) (a .tag) (a .entries) (a .limit) (toLink (a .root)))
-    (starts-hit (d .before .pre .1) (d .descend .ensures) (step (d .before)) e (rw (c .before .before .node-at .ensures) at (c .replaced .ensures))
-    (hit-low (d .before .pre .1) (d .descend .ensures) e, (tt, tt)) refl
+    (starts-hit (d .before .pre .1) (d .descend .ensures) (step (d .before)) e (c .before .before .node-at .ensures) (c .replaced .ensures)
+    (hit-low (d .before .pre .1) (d .descend .ensures) e (c .before .before .node-at .ensures), (tt, tt)) refl
     (put-replaced _ (a .entries) (a .key) (a .value) (a .tag) (a .limit) (toWant (d .descend .result .want)) _ (c .before .if2 .taken)))
 
 at-node-requires : tie.Need-at-node-requires
@@ -101,8 +92,8 @@ returns-5 c =
     let a = d .before .args in
     let e = c .before .before .before .enum-told3 .given .1 in
     rw (put-is (a .key) (a .value) (a .tag) (a .entries) (a .limit) (toLink (a .root)))
-    (starts-hit (d .before .pre .1) (d .descend .ensures) (step (d .before)) e (rw (c .before .before .node-at .ensures) at (c .at-node .ensures))
-    (hit-low (d .before .pre .1) (d .descend .ensures) e, (tt, tt)) refl
+    (starts-hit (d .before .pre .1) (d .descend .ensures) (step (d .before)) e (c .before .before .node-at .ensures) (c .at-node .ensures)
+    (hit-low (d .before .pre .1) (d .descend .ensures) e (c .before .before .node-at .ensures), (tt, tt)) refl
     (put-hit-full _ (a .entries) (a .key) (a .value) (a .tag) (a .limit) (toWant (d .descend .result .want)) _ (c .before .if2 .left)))
 
 pub put-spec : {M : Type 1} → statement M

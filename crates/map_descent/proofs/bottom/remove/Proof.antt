@@ -8,16 +8,6 @@ use Rattle.operations.specs.Method.{toWant}
 use Rattle.map_descent.specs.BottomLaws.{remove-is, remove-gap, remove-left, remove-right, starts-missing, starts-gap, starts-hit, starts-past, hit-within, hit-low}
 use Rattle.map_descent.proofs.bottom.remove.Statement.{statement}
 use Rattle.map_descent.proofs.bottom.remove.Tie as tie
-use Rattle.map_descent.proofs.bottom.remove.Reads as reads
-use Rattle.map_descent.proofs.bottom.remove.Lts as lts
-use Rattle.map_descent.proofs.bottom.at_gap.Reads as at-gap-reads
-use Rattle.map_descent.proofs.bottom.one_less.Reads as one-less-reads
-use Rattle.map_descent.proofs.bottom.past_found.Reads as past-found-reads
-use Rattle.map_descent.proofs.bottom.taken_out.Reads as taken-out-reads
-use Rattle.map_descent.proofs.bottom.unfinished.Reads as unfinished-reads
-use Rattle.map_descent.proofs.descend.descend.Reads as descend-reads
-use Rattle.map_descent.proofs.descend.next_larger.Reads as next-larger-reads
-use Rattle.node_rows.proofs.node_at.Reads as node-at-reads
 
 -- The node with the key is one of the held.
 within : (c : tie.After-enum-told3) → c .before .before .before .descend .result .depth < 33
@@ -61,9 +51,9 @@ returns c =
     let e = n .before .enum-told3 .given .1 in
     let is = n .node-at .ensures in
     rw (remove-is (a .key) (a .entries) (toLink (a .root)))
-    (starts-hit (d .before .pre .1) (d .descend .ensures) (removeStep (a .entries)) e (rw is at (c .taken-out .ensures))
-    (hit-low (d .before .pre .1) (d .descend .ensures) e .1) refl
-    (rw (o .one-less .ensures) (remove-left _ (a .entries) (toWant (d .descend .result .want)) _ (rw is at (c .before .if1 .taken)))))
+    (starts-hit (d .before .pre .1) (d .descend .ensures) (removeStep (a .entries)) e is (c .taken-out .ensures)
+    (hit-low (d .before .pre .1) (d .descend .ensures) e is .1) refl
+    (rw (o .one-less .ensures) (remove-left _ (a .entries) (toWant (d .descend .result .want)) _ (c .before .if1 .taken))))
 
 taken-out-requires-2 : tie.Need-taken-out-requires-2
 taken-out-requires-2 c κs = within (c .before .before .before .before .before .before .before .before)
@@ -77,10 +67,10 @@ returns-2 c =
     let e = n .before .enum-told3 .given .1 in
     let is = n .node-at .ensures in
     rw (remove-is (a .key) (a .entries) (toLink (a .root)))
-    (starts-hit (d .before .pre .1) (d .descend .ensures) (removeStep (a .entries)) e (rw is at (c .taken-out2 .ensures))
-    (hit-low (d .before .pre .1) (d .descend .ensures) e .0) refl
+    (starts-hit (d .before .pre .1) (d .descend .ensures) (removeStep (a .entries)) e is (c .taken-out2 .ensures)
+    (hit-low (d .before .pre .1) (d .descend .ensures) e is .0) refl
     (rw (o .one-less .ensures)
-    (remove-right _ (a .entries) (toWant (d .descend .result .want)) _ (rw is at (c .before .before .before .if1 .left)) (rw is at (c .before .if2 .taken)))))
+    (remove-right _ (a .entries) (toWant (d .descend .result .want)) _ (c .before .before .before .if1 .left) (c .before .if2 .taken))))
 
 next-larger-requires : tie.Need-next-larger-requires
 next-larger-requires c κs =

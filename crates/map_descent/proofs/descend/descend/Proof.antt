@@ -4,20 +4,12 @@ use native.Mathlib.Omega.{arith}
 use borrow.Author.Needs.{needs}
 use Rattle.method.specs.Prog.{Want}
 use Rattle.method.specs.Map.{start, below}
-use Rattle.leaf_nodes.specs.Convert.{toLink}
 use Rattle.operations.specs.Method.{toWant}
-use Rattle.node_rows.specs.Held.{Held, heldIn}
-use Rattle.map_descent.specs.declared.descend.Descent.{Descent}
-use Rattle.map_descent.specs.Walk.{DescendsTo, Descending}
+use Rattle.node_rows.specs.Held.{heldIn}
+use Rattle.map_descent.specs.Walk.{Descending}
 use Rattle.map_descent.specs.WalkLaws.{descends-from, descend-start, descend-gap, descend-spent, descend-missing, descend-hit, descend-turn}
 use Rattle.map_descent.proofs.descend.descend.Statement.{statement}
 use Rattle.map_descent.proofs.descend.descend.Tie as tie
-use Rattle.map_descent.proofs.descend.descend.Reads as reads
-use Rattle.map_descent.proofs.descend.descend.Lts as lts
-use Rattle.map_nodes.proofs.wants.below.Reads as below-reads
-use Rattle.map_nodes.proofs.wants.start.Reads as start-reads
-use Rattle.map_nodes.proofs.wants.step_at.Reads as step-at-reads
-use Rattle.node_rows.proofs.node_at.Reads as node-at-reads
 
 abbrev Inv-loop : tie.InvT-loop
 Inv-loop key held count want₀ fuel₀ i₀ want fuel i =

@@ -9,11 +9,6 @@ use Rattle.map_descent.specs.Walk.{Lowering}
 use Rattle.map_descent.specs.LowestLaws.{lowers-from, lower-start, lower-missing, lower-spent, lower-end, lower-turn}
 use Rattle.map_descent.proofs.descend.next_larger.Statement.{statement}
 use Rattle.map_descent.proofs.descend.next_larger.Tie as tie
-use Rattle.map_descent.proofs.descend.next_larger.Reads as reads
-use Rattle.map_descent.proofs.descend.next_larger.Lts as lts
-use Rattle.map_nodes.proofs.wants.below.Reads as below-reads
-use Rattle.map_nodes.proofs.wants.step_at.Reads as step-at-reads
-use Rattle.node_rows.proofs.node_at.Reads as node-at-reads
 
 abbrev Inv-loop : tie.InvT-loop
 Inv-loop found held count next₀ fuel₀ i₀ next fuel i =

@@ -1,5 +1,5 @@
 use mathlib.Core.Path.{_≡_, sym, _∙_, ap, subst}
-use Prim.Native.Nat.{ℕ, _-_, _≤_, _<_}
+use Prim.Native.Nat.{ℕ, _-_, _≤_}
 use native.Mathlib.Omega.{arith}
 use borrow.Author.Needs.{needs}
 use Rattle.method.specs.Prog.{Want}
@@ -13,14 +13,6 @@ use Rattle.map_descent.specs.PathTo.{waysTo, stepTo}
 use Rattle.map_descent.specs.PathLaws.{low-step, step-is, want-is}
 use Rattle.map_descent.proofs.path_steps.step_to.Statement.{statement}
 use Rattle.map_descent.proofs.path_steps.step_to.Tie as tie
-use Rattle.map_descent.proofs.path_steps.step_to.Reads as reads
-use Rattle.map_descent.proofs.path_steps.step_to.Lts as lts
-use Rattle.map_descent.proofs.path_steps.exchanged.Reads as exchanged-reads
-use Rattle.map_descent.proofs.path_steps.goes_left.Reads as goes-left-reads
-use Rattle.map_nodes.proofs.wants.below.Reads as below-reads
-use Rattle.map_nodes.proofs.wants.start.Reads as start-reads
-use Rattle.map_nodes.proofs.wants.step_at.Reads as step-at-reads
-use Rattle.node_rows.proofs.node_at.Reads as node-at-reads
 
 abbrev Inv-loop : tie.InvT-loop
 Inv-loop key held count found last i want₀ j₀ want j =
@@ -71,10 +63,11 @@ loop-less c = search needs
 loop-again : tie.Need-loop-again Inv-loop μ-loop
 loop-again c =
     let l = c .before .before .before .before in
-    let a = l .before .before .before .args in
-    (want-is (a .key) (heldOf (l .before .before .before)) (toWant (l .before .before .start .result)) (a .found) (l .before .loop .j) (l .before .loop .inv .0)
-    (c .before .before .before .node-at .ensures) (c .before .before .goes-left .ensures) (c .before .step-at .ensures) (c .below .ensures),
-    omega (arith, l .loop-test .taken))
+    let a = l .before .before .before .args in (
+      want-is (a .key) (heldOf (l .before .before .before)) (toWant (l .before .before .start .result)) (a .found) (l .before .loop .j) (l .before .loop .inv .0)
+          (c .before .before .before .node-at .ensures) (c .before .before .goes-left .ensures) (c .before .step-at .ensures) (c .below .ensures),
+      omega (arith, l .loop-test .taken),
+    )
 
 node-at-requires-2 : tie.Need-node-at-requires-2 Inv-loop μ-loop
 node-at-requires-2 c κs =

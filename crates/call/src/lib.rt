@@ -32,7 +32,13 @@ pub fn call(state: State, tree: &mut [u8], ticket: &[u8], tape: &[u16], trace: &
         return refused(state, 1);
     }
     let root = state.root;
-    if !head_fits(state.structure, state.size, state.entries, state.count, root) {
+    if !head_fits(
+        state.structure,
+        state.size,
+        state.entries,
+        state.count,
+        root,
+    ) {
         return refused(state, 2);
     }
     let mut w = [0u64; WORDS];

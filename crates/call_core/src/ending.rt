@@ -1,11 +1,11 @@
 // What a call leaves after its fetch rounds: the store closed, or the step made and the put rounds run.
 use buckets::WORDS;
-use phases::put::put_rounds;
-use phases::wanting::Fetched;
-use phases::wanting::Job;
 use node_rows::FETCHES;
 use node_rows::ROW;
 use operations::Answer;
+use phases::put::put_rounds;
+use phases::wanting::Fetched;
+use phases::wanting::Job;
 use slots::Link;
 use stash::join::join_nodes;
 use steps::operation::step;
@@ -103,13 +103,31 @@ pub fn finish(
 {
     let op = job.op;
     let old = job.root;
-    let o = step(op, job.limit, job.entries, old, job.tag, held, f.count, made);
+    let o = step(
+        op,
+        job.limit,
+        job.entries,
+        old,
+        job.tag,
+        held,
+        f.count,
+        made,
+    );
     let root = o.root;
     let entries = o.entries;
     let answer = o.answer;
     let m = join_nodes(w, f.waiting, made, o.made);
     let r = put_rounds(
-        w, m, s, tree, job.size, job.rounds, job.puts, keys, tape, trace,
+        w,
+        m,
+        s,
+        tree,
+        job.size,
+        job.rounds,
+        job.puts,
+        keys,
+        tape,
+        trace,
     );
     let reply = reply_after(r.mark, answer);
     let leaves = job.rounds + r.shown;

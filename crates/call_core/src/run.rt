@@ -4,11 +4,11 @@ use super::ending::finish;
 use super::ending::shut;
 use buckets::WORDS;
 use idle_rounds::idle::draw_at;
-use phases::fetch::fetch_rounds;
-use phases::wanting::Job;
 use node_rows::FETCHES;
 use node_rows::ROW;
 use operations::Op;
+use phases::fetch::fetch_rounds;
+use phases::wanting::Job;
 use slots::Link;
 use slots::tree::leaves;
 use state::fetching::spare_of;
@@ -84,6 +84,15 @@ pub fn run(
         return shut(job, f, w, &mut held, &froms);
     }
     finish(
-        job, f, w, &mut s, tree, &held, &mut made, &keys, tape, trace,
+        job,
+        f,
+        w,
+        &mut s,
+        tree,
+        &held,
+        &mut made,
+        &keys,
+        tape,
+        trace,
     )
 }

@@ -30,9 +30,7 @@ pub fn fetch_rounds(
     requires { ⌜ (Begins job (drawOf (job .size) (now tape)) n (now w) (now s) (now tree)) × ((RowsSized (now held) (now made)) × ((length (now froms) ≡ fetches) × ((length (now keys) ≡ fetches) × ((job .puts + job .rounds ≤ length (now tape)) × (2 * job .rounds ≤ length (now trace)))))) ⌝ }
     ensures { λ r. ⌜ (Fetches job (drawOf (job .size) (now (tape .entry))) n (now (w .entry)) (now (tree .entry)) (now (trace .entry)) (heldIn (now (held .exit)) (r .count)) (now (froms .exit)) (now (w .exit)) (now (s .exit)) (now (tree .exit)) (now (trace .exit)) r) × (RowsSized (now (held .exit)) (now (made .exit))) ⌝ }
 {
-    let mut f = want_rounds(
-        job, w, n, s, tree, held, froms, made, keys, tape, trace,
-    );
+    let mut f = want_rounds(job, w, n, s, tree, held, froms, made, keys, tape, trace);
     if f.mark != 0 {
         return f;
     }

@@ -1,5 +1,3 @@
-use Prim.Native.Nat.{_^_, _≤_}
-use lib.Pow.{pow-mono}
 use native.Mathlib.Omega.{arith}
 use borrow.Author.Needs.{needs}
 use Rattle.call_core.proofs.run.job_for.Statement.{statement}
@@ -8,34 +6,49 @@ use Rattle.call_core.proofs.run.job_for.Reads as reads
 use Rattle.call_core.proofs.run.job_for.Lts as lts
 use Rattle.idle_rounds.proofs.idle.draw_at.Reads as draw-at-reads
 use Rattle.slots.proofs.tree.leaves.Reads as leaves-reads
+use Rattle.state.proofs.fetching.spare_of.Reads as spare-of-reads
 
--- src/run.rt:49:18
+-- src/run.rt:38:18
 leaves-requires : tie.Need-leaves-requires
 leaves-requires c κs = search needs
 
--- src/run.rt:49:18
+-- src/run.rt:38:18
 sub-limit : tie.Need-sub-limit
 sub-limit c = search needs
 
--- src/run.rt:49:17
+-- src/run.rt:38:17
 cast-limit : tie.Need-cast-limit
-cast-limit c =
-    let s = c .before .before in
-    let most : 2 ^ s .args .size ≤ 2 ^ 8 = pow-mono (s .pre .0) in
-    omega (arith, most, c .leaves .ensures)
+cast-limit c = search needs
 
--- src/run.rt:50:15
+-- src/run.rt:39:15
 draw-at-requires : tie.Need-draw-at-requires
 draw-at-requires c κs = search needs
 
--- src/run.rt:50:15
+-- src/run.rt:39:15
 cast-tag : tie.Need-cast-tag
 cast-tag c = search needs
 
--- src/run.rt:37:1
+-- src/run.rt:49:24
+spare-of-requires : tie.Need-spare-of-requires
+spare-of-requires c κs = search needs
+
+-- src/run.rt:49:15
+add-t10 : tie.Need-add-t10
+add-t10 c = search needs
+
+-- src/run.rt:26:1
 returns : tie.Need-returns
-returns c = rw (c .before .leaves .ensures .0, c .draw-at .ensures .0)
+returns c = search needs
 
 pub job-for-spec : {M : Type 1} → statement M
 job-for-spec =
-    tie.close (tie.spec leaves-requires sub-limit cast-limit draw-at-requires cast-tag returns)
+    tie.close
+    (tie.spec
+    leaves-requires
+    sub-limit
+    cast-limit
+    draw-at-requires
+    cast-tag
+    spare-of-requires
+    add-t10
+    returns)

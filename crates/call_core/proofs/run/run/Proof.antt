@@ -1,7 +1,5 @@
-use mathlib.Core.Path.{refl}
-use Rattle.call_core.specs.RunLaws.{run-shuts, run-ends-shut, run-finishes, run-ends-finished}
-use native.Mathlib.Omega.{arith}
 use borrow.Author.Needs.{needs}
+use native.Mathlib.Omega.{arith}
 use Rattle.call_core.proofs.run.run.Statement.{statement}
 use Rattle.call_core.proofs.run.run.Tie as tie
 use Rattle.call_core.proofs.run.run.Reads as reads
@@ -10,56 +8,49 @@ use Rattle.call_core.proofs.ending.finish.Reads as finish-reads
 use Rattle.call_core.proofs.ending.shut.Reads as shut-reads
 use Rattle.phases.proofs.fetch.fetch_rounds.Reads as fetch-rounds-reads
 
--- src/run.rt:77:51
+-- src/run.rt:79:9
 slice-aggregate-fetch-rounds : tie.Need-slice-aggregate-fetch-rounds
 slice-aggregate-fetch-rounds c = search needs
 
--- src/run.rt:77:9
+-- src/run.rt:70:9
 fetch-rounds-requires : tie.Need-fetch-rounds-requires
-fetch-rounds-requires c κs =
-    let ok = c .before .before .before .before .before .before .before .before .pre in
-    (ok .begins refl, (refl, (ok .tape-long, ok .trace-long)))
+fetch-rounds-requires c κs = search needs
 
--- src/run.rt:79:9
+-- src/run.rt:84:9
 shut-requires : tie.Need-shut-requires
-shut-requires c κs = run-shuts (c .before .before .before .before .before .before .before .before .before .before .before .before .before .before .before .before .before .pre) (c .before .before .before .before .before .before .before .before .fetch-rounds .ensures) (λ e. omega (arith, e, c .before .if1 .taken))
+shut-requires c κs = search needs
 
--- src/run.rt:79:9
+-- src/run.rt:84:9
 same-length : tie.Need-same-length
 same-length c = search needs
 
--- src/run.rt:79:9
+-- src/run.rt:84:9
 same-length-2 : tie.Need-same-length-2
 same-length-2 c = search needs
 
--- src/run.rt:79:9
+-- src/run.rt:84:9
 returns : tie.Need-returns
-returns c = (run-ends-shut (c .before .before .before .before .before .before .before .before .before .before .before .before .before .before .before .before .before .before .pre) (c .before .before .before .before .before .before .before .before .before .fetch-rounds .ensures) (λ e. omega (arith, e, c .before .before .if1 .taken)) (c .shut .ensures), c .shut .ensures .holds)
+returns c = search needs
 
--- src/run.rt:81:37
+-- src/run.rt:87:52
 slice-aggregate-finish : tie.Need-slice-aggregate-finish
 slice-aggregate-finish c = search needs
 
--- src/run.rt:81:5
+-- src/run.rt:86:5
 finish-requires : tie.Need-finish-requires
-finish-requires c κs =
-    let ok = c .before .before .before .before .before .before .before .before .before .before .before .before .before .before .before .before .before .before .before .before .before .pre in
-    let came = c .before .before .before .before .before .before .before .before .before .before .before .before .fetch-rounds .ensures in
-    (run-finishes ok came (omega (arith, c .before .before .before .before .before .if1 .left)), (ok .tape-long, omega (arith, ok .trace-long, came .trace-sized)))
+finish-requires c κs = search needs
 
--- src/run.rt:64:1
+-- src/run.rt:54:1
 same-length-3 : tie.Need-same-length-3
 same-length-3 c = search needs
 
--- src/run.rt:64:1
+-- src/run.rt:54:1
 same-length-4 : tie.Need-same-length-4
 same-length-4 c = search needs
 
--- src/run.rt:64:1
+-- src/run.rt:54:1
 returns-2 : tie.Need-returns-2
-returns-2 c =
-    let done = c .before .before .before .before .finish .ensures in
-    (run-ends-finished (c .before .before .before .before .before .before .before .before .before .before .before .before .before .before .before .before .before .before .before .before .before .before .before .before .before .before .pre) (c .before .before .before .before .before .before .before .before .before .before .before .before .before .before .before .before .before .fetch-rounds .ensures) (omega (arith, c .before .before .before .before .before .before .before .before .before .before .if1 .left)) done, done .holds)
+returns-2 c = search needs
 
 pub run-spec : {M : Type 1} → statement M
 run-spec =

@@ -1,6 +1,8 @@
--- `bench_calls::run_opened` is safe and ends: a tape of 2F + 1 numbers and a trace buffer of 2F.
+-- `bench_calls::run_opened` is safe and ends: a tape of as many numbers as a call has draws, and a trace buffer of 2F.
 use mathlib.Core.Path.{sym}
-use Prim.Native.Nat.{_+_, _*_}
+use Prim.Native.Nat.{_*_}
+use Rattle.state.specs.Fetching.{mostDraws}
+use Rattle.walk_lines.specs.Lines.{mostLeaves}
 use Rattle.walk_lines.specs.WalkLaws.{fresh-length}
 use native.Mathlib.Omega.{arith}
 use borrow.Author.Needs.{needs}
@@ -13,8 +15,8 @@ rounds-of-requires c κs = search needs
 mul-leaves : tie.Need-mul-leaves
 mul-leaves c = search needs
 
-add-draws : tie.Need-add-draws
-add-draws c = search needs
+draws-of-requires : tie.Need-draws-of-requires
+draws-of-requires c κs = search needs
 
 slice-aggregate-run : tie.Need-slice-aggregate-run
 slice-aggregate-run c = search needs
@@ -24,16 +26,16 @@ array-borrow-prefix-tape c = search needs
 
 slice-aggregate-run-2 : tie.Need-slice-aggregate-run-2
 slice-aggregate-run-2 c =
-    let f = c .before .before .before .rounds-of in
-    sym (fresh-length (2 * f .result + 1) 67 (omega (arith, f .ensures .1)))
+    let d = c .before .before .before .draws-of in
+    sym (fresh-length (d .result) mostDraws (d .ensures .1))
 
 array-borrow-prefix-trace : tie.Need-array-borrow-prefix-trace
 array-borrow-prefix-trace c = search needs
 
 slice-aggregate-run-3 : tie.Need-slice-aggregate-run-3
 slice-aggregate-run-3 c =
-    let f = c .before .before .before .before .rounds-of in
-    sym (fresh-length (2 * f .result) 66 (omega (arith, f .ensures .1)))
+    let f = c .before .before .before .before .before .rounds-of in
+    sym (fresh-length (2 * f .result) mostLeaves (omega (arith, f .ensures .1)))
 
 run-requires : tie.Need-run-requires
 run-requires c κs = search needs
@@ -50,7 +52,7 @@ run-opened-spec =
     (tie.spec
     rounds-of-requires
     mul-leaves
-    add-draws
+    draws-of-requires
     slice-aggregate-run
     array-borrow-prefix-tape
     slice-aggregate-run-2

@@ -1,23 +1,43 @@
--- `walk::read_call` is safe, and keeps the store's structure and size: what stays unread of the buffer is lent to nobody.
-use mathlib.Core.Path.{sym, _∙_, ap}
-use Prim.Native.Nat.{_≤_}
+-- `walk::read_call` is safe, and keeps the store's size: what stays unread of the buffer is lent to nobody.
+use mathlib.Core.Path.{_≡_, sym, _∙_, ap}
+use mathlib.Core.List.{List, _++_}
+use Prim.Native.Nat.{ℕ, _≤_}
+use lib.ListN.{length, take, length-append}
+use Rattle.state.specs.declared.State.{State}
+use Rattle.walk_lines.specs.Input.{longestRecord}
+use Rattle.walk_lines.specs.WalkLaws.{fresh-length, filled-length, call-keeps}
 use native.Mathlib.Omega.{arith}
 use borrow.Author.Needs.{needs}
-use lib.ListN.{length-append}
-use Rattle.state.specs.declared.State.{State}
-use Rattle.walk_lines.specs.WalkLaws.{fresh-length, filled-length, call-keeps}
 use Rattle.walk.proofs.read_call.Statement.{statement}
 use Rattle.walk.proofs.read_call.Tie as tie
 
--- A call has at most as many bytes as the buffer.
-fits : (s : tie.Start) → s .args .wanted ≤ 147
-fits s = omega (arith, s .pre .0, s .pre .1, s .pre .2)
+-- ---- once a call's length is known
+module _ (c : tie.After-record-length) where
+  abbrev start : tie.Start
+  start = c .before .before
+
+  abbrev wanted : ℕ
+  wanted = c .record-length .result
+
+  fits : wanted ≤ longestRecord
+  fits = c .record-length .ensures .1
+
+-- ---- once it is read
+module _ (c : tie.After-read-full) where
+  abbrev sized : tie.After-record-length
+  sized = c .before .before
+
+  read-length : (rest : List ℕ) → length (take (wanted sized) (c .read-full .last .1 .0 ++ rest)) ≡ wanted sized
+  read-length rest = filled-length (c .read-full .last .1 .0) rest (wanted sized) longestRecord (fits sized) (c .read-full .kept .1 .0)
+
+record-length-requires : tie.Need-record-length-requires
+record-length-requires c κs = search needs
 
 array-borrow-prefix-input : tie.Need-array-borrow-prefix-input
 array-borrow-prefix-input c = search needs
 
 slice-aggregate-read-full : tie.Need-slice-aggregate-read-full
-slice-aggregate-read-full c = let s = c .before .before in sym (fresh-length (s .args .wanted) 147 (fits s))
+slice-aggregate-read-full c = let l = c .before in sym (fresh-length (wanted l) longestRecord (fits l))
 
 read-full-requires : tie.Need-read-full-requires
 read-full-requires c κs = search needs
@@ -40,14 +60,11 @@ enum-told-3 c = search needs
 array-share-prefix-input : tie.Need-array-share-prefix-input
 array-share-prefix-input c =
     let r = c .before .before .before .before .before in
-    let s = r .before .before .before in
-    rw length-append (omega (arith, r .read-full .kept .1 .0, fresh-length (s .args .wanted) 147 (fits s)))
+    let l = sized r in
+    rw length-append (omega (arith, r .read-full .kept .1 .0, fresh-length (wanted l) longestRecord (fits l)))
 
 slice-aggregate-walk-call : tie.Need-slice-aggregate-walk-call
-slice-aggregate-walk-call c =
-    let r = c .before .before .before .before .before .before in
-    let s = r .before .before .before in
-    sym (filled-length (r .read-full .last .1 .0) _ (s .args .wanted) 147 (fits s) (r .read-full .kept .1 .0))
+slice-aggregate-walk-call c = sym (read-length (c .before .before .before .before .before .before) _)
 
 slice-aggregate-walk-call-2 : tie.Need-slice-aggregate-walk-call-2
 slice-aggregate-walk-call-2 c = search needs
@@ -55,12 +72,8 @@ slice-aggregate-walk-call-2 c = search needs
 walk-call-requires : tie.Need-walk-call-requires
 walk-call-requires c κs =
     let r = c .before .before .before .before .before .before .before in
-    let s = r .before .before .before in (
-      s .pre .0,
-      s .pre .1,
-      rw (filled-length (r .read-full .last .1 .0) _ (s .args .wanted) 147 (fits s) (r .read-full .kept .1 .0)) (omega (arith, s .pre .2)),
-      search needs,
-    )
+    let l = sized r in
+    (start l .pre, rw (read-length r _) (omega (arith, l .record-length .ensures .0)), search needs)
 
 array-share-prefix-out : tie.Need-array-share-prefix-out
 array-share-prefix-out c = search needs
@@ -83,14 +96,14 @@ same-length c = search needs
 returns-3 : tie.Need-returns-3
 returns-3 c =
     let w = c .before .before .before .before .before .before in
-    let e = w .walk-call .ensures .1 .state in
-    let k = call-keeps (w .before .before .before .before .before .before .before .before .before .before .before .args .state) _ _ _ _ in
-    (ap (λ (s : State). s .structure) e ∙ k .structure, ap (λ (s : State). s .size) e ∙ k .size)
+    let l = w .before .before .before .before .before .before .before .before .before .before in
+    ap (λ (s : State). s .size) (w .walk-call .ensures .1 .state) ∙ call-keeps (start l .args .state) _ _ _ _ .size
 
 pub read-call-spec : {M : Type 1} → statement M
 read-call-spec =
     tie.close
     (tie.spec
+    record-length-requires
     array-borrow-prefix-input
     slice-aggregate-read-full
     read-full-requires

@@ -1,37 +1,58 @@
--- `walk::walk_call` meets its contract: a tape of 2F + 1 numbers and a trace buffer of 2F.
-use mathlib.Core.Path.{sym}
-use Prim.Native.Nat.{_+_, _*_}
+-- `walk::walk_call` meets its contract: a tape of as many numbers as the call has draws, and a trace buffer of 2F.
+use mathlib.Core.Path.{_≡_, sym}
+use Prim.Native.Nat.{ℕ, _*_}
+use lib.ListN.{length, take, replicate}
+use Rattle.state.specs.Fetching.{mostDraws}
+use Rattle.walk_lines.specs.Lines.{mostLeaves}
 use Rattle.walk_lines.specs.WalkLaws.{fresh-length, call-in}
 use native.Mathlib.Omega.{arith}
 use borrow.Author.Needs.{needs}
 use Rattle.walk.proofs.walk_call.Statement.{statement}
 use Rattle.walk.proofs.walk_call.Tie as tie
 
+-- ---- once both are known
+module _ (c : tie.After-draws-of) where
+  abbrev start : tie.Start
+  start = c .before .before .before .before .before
+
+  abbrev fetches : ℕ
+  fetches = c .before .rounds-of .result
+
+  abbrev draws : ℕ
+  draws = c .draws-of .result
+
+  tape-length : length (take {A = ℕ} draws (replicate mostDraws 0)) ≡ draws
+  tape-length = fresh-length draws mostDraws (c .draws-of .ensures .1)
+
+  trace-length : length (take {A = ℕ} (2 * fetches) (replicate mostLeaves 0)) ≡ 2 * fetches
+  trace-length = fresh-length (2 * fetches) mostLeaves (omega (arith, c .before .rounds-of .ensures .1))
+
+rounds-of-requires : tie.Need-rounds-of-requires
+rounds-of-requires c κs = search needs
+
 mul-leaves : tie.Need-mul-leaves
 mul-leaves c = search needs
 
-add-draws : tie.Need-add-draws
-add-draws c = search needs
+draws-of-requires : tie.Need-draws-of-requires
+draws-of-requires c κs = search needs
 
 array-borrow-prefix-tape : tie.Need-array-borrow-prefix-tape
 array-borrow-prefix-tape c = search needs
 
 slice-aggregate-make-call : tie.Need-slice-aggregate-make-call
-slice-aggregate-make-call c = sym (fresh-length (2 * c .before .before .before .before .before .args .fetches + 1) 67 (omega (arith, c .before .before .before .before .before .pre .1)))
+slice-aggregate-make-call c = sym (tape-length (c .before .before))
 
 array-borrow-prefix-trace : tie.Need-array-borrow-prefix-trace
 array-borrow-prefix-trace c = search needs
 
 slice-aggregate-make-call-2 : tie.Need-slice-aggregate-make-call-2
-slice-aggregate-make-call-2 c = sym (fresh-length (2 * c .before .before .before .before .before .before .args .fetches) 66 (omega (arith, c .before .before .before .before .before .before .pre .1)))
+slice-aggregate-make-call-2 c = sym (trace-length (c .before .before .before))
 
 make-call-requires : tie.Need-make-call-requires
 make-call-requires c κs =
-    let s = c .before .before .before .before .before .before .before in (
-      omega (arith, s .pre .0, s .pre .2, fresh-length (2 * s .args .fetches + 1) 67 (omega (arith, s .pre .1))),
-      omega (arith, s .pre .1, fresh-length (2 * s .args .fetches) 66 (omega (arith, s .pre .1))),
-      s .pre .3,
-    )
+    let d = c .before .before .before .before in
+    let p = start d .pre in
+    (omega (arith, p .1, d .draws-of .ensures .0, tape-length d), omega (arith, d .before .rounds-of .ensures .1, trace-length d), p .2)
 
 same-length : tie.Need-same-length
 same-length c = search needs
@@ -42,16 +63,19 @@ same-length-2 c = search needs
 returns : tie.Need-returns
 returns c =
     let m = c .before .before .before .before .before .before in
-    let s = m .before .before .before .before .before .before .before .before in
-    let a = s .args in
-    (m .make-call .ensures .0, rw (← call-in (a .state) (a .tree .now) (a .input .now) (a .fetches) (s .pre .0) (omega (arith, s .pre .1))) (m .make-call .ensures .1))
+    let d = m .before .before .before .before .before in
+    let a = start d .args in
+    let f = d .before .rounds-of .ensures in
+    let e = d .draws-of .ensures in
+    (m .make-call .ensures .0, rw (← call-in (a .state) (a .tree .now) (a .input .now) (fetches d) (draws d) (f .0) (omega (arith, f .1)) (e .0) (e .1)) (m .make-call .ensures .1))
 
 pub walk-call-spec : {M : Type 1} → statement M
 walk-call-spec =
     tie.close
     (tie.spec
+    rounds-of-requires
     mul-leaves
-    add-draws
+    draws-of-requires
     array-borrow-prefix-tape
     slice-aggregate-make-call
     array-borrow-prefix-trace

@@ -4,10 +4,11 @@
 use libc::STDERR_FILENO;
 use libc::STDIN_FILENO;
 use libc::STDOUT_FILENO;
+use operations::Answer;
 use state::State;
+use state::fetching::draws_of;
 use state::fetching::rounds_of;
 use state::opening::open;
-use steps::Answer;
 use store::Called;
 use store::Reply;
 use tickets::TICKET_LENGTH;
@@ -178,7 +179,7 @@ fn run_opened(opened: State, tree: &mut [u8])
     requires { ⌜ (1 ≤ opened .size) × (opened .size ≤ largestSize) ⌝ }
 {
     let leaves = 2 * rounds_of(opened.structure, opened.size);
-    let draws = leaves + 1;
+    let draws = draws_of(opened.structure, opened.size);
     let mut block = [0u8; BLOCK];
     let mut tape = [0u16; MOST_DRAWS];
     let mut trace = [0u16; MOST_LEAVES];

@@ -1,18 +1,22 @@
 // Runs scripts of calls over a small memory of nodes that stands for a store, and prints each call's answer and then the
 // tree. A script is pairs of characters: + puts a key, - removes it, ? gets it, < pushes and > pops (their second
 // character says nothing). The value that a call puts or pushes is its number in the script.
-use calls::call;
 use memory::Memory;
 use memory::empty;
+use operations::Op;
+use playing::call;
 use show::print_answer;
 use show::print_call;
+use show::print_too_high;
 use show::print_tree;
-use steps::Op;
 ghost use Prim.Native.Nat.{_≤_};
 
-mod calls;
 mod memory;
+mod playing;
 mod show;
+
+// The operations take no link that is higher. No root link of a map or a stack of so few entries is.
+const HIGHEST: u8 = 100;
 
 // A key is a character's code less that of 0, so that the digits are the keys 0 to 9.
 fn key_of(character: u8) -> u32 {
@@ -34,7 +38,7 @@ fn op_of(sign: u8, key: u32, value: u64) -> Op {
 
 // One call of a script.
 fn play_call(memory: Memory, sign: u8, character: u8, number: u64) -> Memory
-    requires { ⌜ memory .count ≤ 16 ⌝ }
+    requires { ⌜ (memory .count ≤ 16) × (memory .root .height ≤ 100) ⌝ }
     ensures { λ r. ⌜ r .count ≤ 16 ⌝ }
 {
     let tag = (number % 256) as u16;
@@ -50,6 +54,11 @@ fn play(script: &[u8]) {
     let calls = script.len() / 2;
     let mut i: usize = 0;
     while i < calls {
+        let root = m.root;
+        if root.height > HIGHEST {
+            print_too_high();
+            return;
+        }
         let sign = script[2 * i];
         let character = script[2 * i + 1];
         m = play_call(m, sign, character, i as u64 + 1);

@@ -1,8 +1,14 @@
 // The nodes that no call holds, in no order.
+use node_rows::ROW;
+use node_rows::node_at;
+use operations::Outcome;
 use slots::Link;
 use slots::Node;
-use steps::Outcome;
+use slots::codec::no_node;
+ghost use mathlib.Core.Path.{_≡_};
 ghost use Prim.Native.Nat.{_≤_, _<_};
+ghost use lib.ListN.{length};
+ghost use Rattle.node_rows.specs.Row.{places, words};
 
 pub struct Memory {
     pub nodes: [Node; 16],
@@ -14,7 +20,7 @@ pub struct Memory {
 pub fn empty() -> Memory
     ensures { λ r. ⌜ r .count ≤ 16 ⌝ }
 {
-    let none = steps::climb::blank_node();
+    let none = no_node();
     let nodes = [none; 16];
     let root = none.left;
     Memory {
@@ -68,16 +74,15 @@ fn with_node(memory: Memory, n: Node) -> Memory
     m
 }
 
-// The memory with what a step makes.
-pub fn put_back(memory: Memory, o: Outcome) -> Memory
-    requires { ⌜ (memory .count ≤ 16) × (o .count ≤ 34) ⌝ }
+// The memory with what a step makes, whose nodes are in a row.
+pub fn put_back(memory: Memory, o: Outcome, made: &[u64; ROW]) -> Memory
+    requires { ⌜ (memory .count ≤ 16) × (o .made ≤ places) × (length (now made) ≡ words) ⌝ }
     ensures { λ r. ⌜ r .count ≤ 16 ⌝ }
 {
     let mut m = memory;
     let mut i: usize = 0;
-    while i < o.count {
-        let n = o.nodes[i];
-        m = with_node(m, n);
+    while i < o.made {
+        m = with_node(m, node_at(made, i));
         i += 1;
     }
     let root = o.root;

@@ -2,9 +2,9 @@
 use super::memory::Memory;
 use super::memory::next_from;
 use libc::STDOUT_FILENO;
+use operations::Answer;
 use slots::Link;
 use slots::Node;
-use steps::Answer;
 ghost use Prim.Native.Nat.{_≤_};
 
 fn text(words: &[u8]) {
@@ -46,6 +46,11 @@ pub fn print_answer(answer: Answer) {
         Answer::Empty => text(b"empty\n"),
         Answer::Full => text(b"full\n"),
     }
+}
+
+// What is said of a root link that is too high for the operations.
+pub fn print_too_high() {
+    text(b"the root link is too high\n");
 }
 
 // A link: the key that it leads to and its height.

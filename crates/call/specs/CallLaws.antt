@@ -31,7 +31,7 @@ module _ (s : State) where
     fit-by-places e = fits-parts s ∙ rw good (sym e)
 
     pub stands : {words : List ℕ} → s .mark ≡ 0 → {b : Bool} → b ≡ placesFit s → b ≡ true → Loaded s words (s .count) → StandsFor s (headOf s) words
-    stands open e b loaded = record { head = refl; not-closed = open; fit = fit-by-places e ∙ b; loaded = loaded }
+    stands unmarked e b loaded = record { head = refl; not-closed = unmarked; fit = fit-by-places e ∙ b; loaded = loaded }
 
   module _ (tree ticket tape trace : List ℕ) where
     pub refuses : {r : Called} {n : ℕ} → r ≡ record { state = s; reply = Refused n; leaves = 0 } → called s tree ticket tape trace ≡ refusing n s tree trace

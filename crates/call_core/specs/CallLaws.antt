@@ -17,6 +17,7 @@ use Rattle.method.specs.Node.{Node}
 use Rattle.method.specs.Answer as method
 use Rattle.method.specs.Answer.{Structure, get, put, remove, push, pop}
 use Rattle.method.specs.Rounds.{rounds, spare, putDraw}
+use Rattle.runs.specs.RoundsLaws.{some-rounds}
 use Rattle.round_laws.specs.Sorted.{ascending-distinct}
 use Rattle.round_laws.specs.ReadHalf.{distinct-none-twice}
 use Rattle.leaf_nodes.specs.Leaf.{leafFormat}
@@ -44,7 +45,7 @@ use Rattle.phases.specs.Wanting.{storeAt}
 use Rattle.store.specs.declared.Reply.the-variants.{Refused}
 use Rattle.call_core.specs.declared.Head.{Head}
 use Rattle.call_core.specs.declared.ending.Ran.{Ran}
-use Rattle.call_core.specs.Run.{StandsFor, leftOf, leftBy, endingWith, jobFor, Runs}
+use Rattle.call_core.specs.Run.{StandsFor, Stands, leftOf, CallsAs, leftBy, endingWith, jobFor, Runs}
 
 -- Numbers each of which is below 256 are bytes.
 pub bytes-of : (l : List ℕ) → ((i : ℕ) → getD l i 0 < 256) → Bytes l
@@ -162,11 +163,6 @@ module _ (s : State) (tree ticket tape trace : List ℕ) where
                   (sym (call-back (a .asks) (s .size) F (drawOf (s .size) tape) (storeOf s tree))
                   ∙ ap (λ (x : Op). bucketCall (s .size) F (toOp x) (drawOf (s .size) tape) (storeOf s tree)) (a .same)))
 
-  -- What the core returns where it refuses.
-  pub refused-as : (r : Ran) {n : ℕ} (words : List ℕ) → r .ran ≡ false → r .reply ≡ Refused n → r .leaves ≡ 0 → called s tree ticket tape trace ≡ refusing n s tree trace
-      → leftOf s r words tree trace ≡ called s tree ticket tape trace
-  refused-as r words ran reply leaves h = rw (ran, reply, leaves, h)
-
 -- ---- all checks were passed
 module _ {s : State} {op : Op} {F : ℕ} {tree ticket tape trace : List ℕ} (ok : Checked s op F tree ticket tape trace) {n : ℕ} {words : List ℕ} (loaded : Loaded s words n) where
   abbrev k : ℕ
@@ -251,6 +247,9 @@ module _ {s : State} {h : Head} {words : List ℕ} (st : StandsFor s h words) wh
   pub head-sizes : (1 ≤ h .size) × (h .size ≤ 8)
   head-sizes = let q = fit-state s (st .fit) .size in rw (st .head) q
 
+  pub head-rounds : {F : ℕ} → F ≡ roundsOf (h .structure) (h .size) → 1 ≤ F
+  head-rounds e = rw e (some-rounds (numbered (h .structure)) (h .size) (head-sizes .0))
+
   module _ (tree ticket tape trace : List ℕ) where
     abbrev Gives : ℕ → Type 0
     Gives n = called s tree ticket tape trace ≡ refusing n s tree trace
@@ -311,3 +310,12 @@ pub head-left : {s : State} {h : Head} {words : List ℕ} (st : StandsFor s h wo
     (bucketCall (h .size) F (toOp op) (drawOf (h .size) tape) (storeAt (jobFor (h .structure) (h .size) (h .entries) (h .root) op F tape) (h .waiting) words tree))
     → leftOf s r words′ tree′ trace′ ≡ called s tree ticket tape trace
 head-left st ok r words′ ran q = then-left ok (st .loaded) r words′ ran (rw (st .head) at q)
+
+-- ---- what the core returns
+module _ {h : Head} {words tree ticket tape trace : List ℕ} (st : Stands h words) where
+  -- It refuses.
+  pub core-refuses : (n : ℕ) {r : Ran}
+      → r ≡ record { ran = false; mark = 0; entries = h .entries; root = h .root; waiting = h .waiting; reply = Refused n; leaves = 0 }
+      → ((s : State) → StandsFor s h words → called s tree ticket tape trace ≡ refusing n s tree trace)
+      → CallsAs h words tree ticket tape trace words tree trace r
+  core-refuses n e gives = rw e (record { calls = λ s x. sym (gives s x); holds = rw (st .for .head) (st .for .loaded .holds) })

@@ -10,6 +10,7 @@ use node_rows::node_at;
 use operations::Answer;
 use operations::Want;
 use operations::Wanted;
+use operations::one_less;
 use slots::Link;
 use slots::Node;
 ghost use mathlib.Core.Path.{_≡_};
@@ -223,15 +224,6 @@ pub fn put(
             at_node(n, depth, entries, Answer::Full)
         }
     }
-}
-
-fn one_less(entries: u16) -> u16
-    ensures { λ r. ⌜ r ≡ pred entries ⌝ }
-{
-    if entries == 0 {
-        return 0;
-    }
-    entries - 1
 }
 
 // The place of the node with the key: its only child's link, or an absent one, takes that.

@@ -1,11 +1,11 @@
 // The walk down by key over the fetched nodes.
 use map_nodes::wants::below;
-use map_nodes::wants::start;
 use map_nodes::wants::step_at;
 use node_rows::ROW;
 use node_rows::node_at;
 use operations::Want;
 use operations::Wanted;
+use operations::start;
 use slots::Link;
 ghost use mathlib.Core.Path.{_≡_};
 ghost use Prim.Native.Nat.{_<_};

@@ -1,10 +1,10 @@
 // The steps of a walk down that has come to its end, one by one.
 use map_nodes::Step;
 use map_nodes::wants::below;
-use map_nodes::wants::start;
 use map_nodes::wants::step_at;
 use node_rows::ROW;
 use node_rows::node_at;
+use operations::start;
 use slots::Link;
 use slots::Node;
 ghost use mathlib.Core.Path.{_≡_};

@@ -12,18 +12,6 @@ ghost use Rattle.leaf_nodes.specs.Convert.{toLink, toNode};
 ghost use Rattle.operations.specs.Method.{toWant};
 ghost use Rattle.map_nodes.specs.Method.{toStep};
 
-// The root link's node.
-pub fn start(root: Link) -> Want
-    ensures { λ r. ⌜ toWant r ≡ map.start (toLink root) ⌝ }
-{
-    Want {
-        link: root,
-        from: From::Root,
-        low: Bound::Open,
-        high: Bound::Open,
-    }
-}
-
 // The step over a node that was wanted, on to a side.
 pub fn step_at(want: Want, n: Node, left: bool) -> Step
     ensures { λ r. ⌜ toStep r ≡ map.stepAt (toWant want) (toNode n) left ⌝ }

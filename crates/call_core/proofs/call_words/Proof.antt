@@ -1,3 +1,8 @@
+use mathlib.Core.Path.{refl, sym, _∙_}
+use Rattle.operations.specs.declared.Op.{Op}
+use Rattle.state.specs.declared.State.{State}
+use Rattle.call_core.specs.Run.{StandsFor}
+use Rattle.call_core.specs.CallLaws.{Checked, bytes-of, head-sizes, head-rounds, gives-3, gives-4, gives-5, gives-6, gives-7, all-checked, head-runs, head-left, core-refuses}
 use borrow.Author.Needs.{needs}
 use native.Mathlib.Omega.{arith}
 use Rattle.call_core.proofs.call_words.Statement.{statement}
@@ -12,13 +17,31 @@ use Rattle.state.proofs.fetching.draws_of.Reads as draws-of-reads
 use Rattle.state.proofs.fetching.rounds_of.Reads as rounds-of-reads
 use Rattle.tickets.proofs.read_ticket.Reads as read-ticket-reads
 
+-- ---- where all checks were passed
+module _ (c : tie.Else4) where
+  abbrev start : tie.Start
+  start = c .before .before .before .before .before .before .before .before .before .before .before .before .before .before .before .before
+
+  abbrev op : Op
+  op = c .before .before .before .before .before .asked .given .0 .0
+
+  ok : (s : State) → StandsFor s (start .args .head) (start .args .w .now) → Checked s op (c .before .rounds-of .result) (start .args .tree .now) (start .args .ticket .now) (start .args .tape .now) (start .args .trace .now)
+  ok s st =
+      let a = start .args in
+      let widths = c .before .before .before .before .before .before .before .before .before .before .before .struct-known .given .1 .1 .1 .0 in
+      all-checked st (a .tree .now) (a .ticket .now) (a .tape .now) (a .trace .now) (omega (arith, c .before .before .before .before .before .before .before .before .before .if1 .left, c .before .before .before .before .before .before .before .before .before .before .tree-length .ensures)) (omega (arith, c .before .before .before .before .before .before .before .before .if2 .left)) op
+      (sym (c .before .before .before .before .before .before .before .read-ticket .ensures) ∙ c .before .before .before .before .before .asked .given .1) (c .before .rounds-of .result) (c .before .rounds-of .ensures .0)
+      (omega (arith, c .before .before .if3 .left, c .before .before .before .draws-of .ensures .0, c .before .rounds-of .ensures .0)) (omega (arith, c .if4 .left))
+      (bytes-of (a .tree .now) (λ i. omega (arith, c .before .before .before .before .before .before .before .before .before .before .before .before .before .before .before .slice-known .given i))) (bytes-of (a .ticket .now) (λ i. omega (arith, c .before .before .before .before .before .before .before .before .before .before .before .before .before .before .shared-slice-known .given i)))
+      (omega (arith, widths), (omega (arith, widths), omega (arith, widths)))
+
 -- src/lib.rt:58:16
 cast-size : tie.Need-cast-size
 cast-size c = search needs
 
 -- src/lib.rt:59:22
 tree-length-requires : tie.Need-tree-length-requires
-tree-length-requires c κs = search needs
+tree-length-requires c κs = omega (arith, head-sizes (c .before .before .before .before .before .pre .for))
 
 -- src/lib.rt:60:9
 refused-requires : tie.Need-refused-requires
@@ -26,7 +49,10 @@ refused-requires c κs = search needs
 
 -- src/lib.rt:60:9
 returns : tie.Need-returns
-returns c = search needs
+returns c =
+    let s = c .before .before .before .before .before .before .before .before in
+    let a = s .args in
+    core-refuses (s .pre) 3 (c .refused .ensures) (λ x st. gives-3 st (a .tree .now) (a .ticket .now) (a .tape .now) (a .trace .now) (λ e. omega (arith, e, c .before .if1 .taken, c .before .before .tree-length .ensures)))
 
 -- src/lib.rt:63:9
 refused-requires-2 : tie.Need-refused-requires-2
@@ -34,7 +60,11 @@ refused-requires-2 c κs = search needs
 
 -- src/lib.rt:63:9
 returns-2 : tie.Need-returns-2
-returns-2 c = search needs
+returns-2 c =
+    let s = c .before .before .before .before .before .before .before .before .before in
+    let a = s .args in
+    core-refuses (s .pre) 4 (c .refused2 .ensures)
+    (λ x st. gives-4 st (a .tree .now) (a .ticket .now) (a .tape .now) (a .trace .now) (omega (arith, c .before .before .if1 .left, c .before .before .before .tree-length .ensures)) (λ e. omega (arith, e, c .before .if2 .taken)))
 
 -- src/lib.rt:65:9
 read-ticket-requires : tie.Need-read-ticket-requires
@@ -54,11 +84,15 @@ refused-requires-3 c κs = search needs
 
 -- src/lib.rt:67:9
 returns-3 : tie.Need-returns-3
-returns-3 c = search needs
+returns-3 c =
+    let s = c .before .before .before .before .before .before .before .before .before .before .before .before in
+    let a = s .args in
+    core-refuses (s .pre) 5 (c .refused3 .ensures)
+    (λ x st. gives-5 st (a .tree .now) (a .ticket .now) (a .tape .now) (a .trace .now) (omega (arith, c .before .before .before .before .before .if1 .left, c .before .before .before .before .before .before .tree-length .ensures)) (omega (arith, c .before .before .before .before .if2 .left)) (sym (c .before .before .before .read-ticket .ensures) ∙ c .before .enum-told .given .1))
 
 -- src/lib.rt:69:21
 draws-of-requires : tie.Need-draws-of-requires
-draws-of-requires c κs = search needs
+draws-of-requires c κs = head-sizes (c .before .before .before .before .before .before .before .before .before .before .before .before .pre .for)
 
 -- src/lib.rt:70:9
 refused-requires-4 : tie.Need-refused-requires-4
@@ -66,11 +100,16 @@ refused-requires-4 c κs = search needs
 
 -- src/lib.rt:70:9
 returns-4 : tie.Need-returns-4
-returns-4 c = search needs
+returns-4 c =
+    let s = c .before .before .before .before .before .before .before .before .before .before .before .before .before .before .before in
+    let a = s .args in
+    core-refuses (s .pre) 6 (c .refused4 .ensures)
+    (λ x st. gives-6 st (a .tree .now) (a .ticket .now) (a .tape .now) (a .trace .now) (omega (arith, c .before .before .before .before .before .before .before .before .if1 .left, c .before .before .before .before .before .before .before .before .before .tree-length .ensures)) (omega (arith, c .before .before .before .before .before .before .before .if2 .left)) (c .before .before .before .before .asked .given .0 .0)
+    (sym (c .before .before .before .before .before .before .read-ticket .ensures) ∙ c .before .before .before .before .asked .given .1) _ refl (omega (arith, c .before .if3 .taken, c .before .before .draws-of .ensures .0)))
 
 -- src/lib.rt:72:9
 rounds-of-requires : tie.Need-rounds-of-requires
-rounds-of-requires c κs = search needs
+rounds-of-requires c κs = head-sizes (c .before .before .before .before .before .before .before .before .before .before .before .before .before .before .pre .for)
 
 -- src/lib.rt:73:22
 mul-if4 : tie.Need-mul-if4
@@ -82,11 +121,21 @@ refused-requires-5 c κs = search needs
 
 -- src/lib.rt:74:9
 returns-5 : tie.Need-returns-5
-returns-5 c = search needs
+returns-5 c =
+    let s = c .before .before .before .before .before .before .before .before .before .before .before .before .before .before .before .before .before in
+    let a = s .args in
+    core-refuses (s .pre) 7 (c .refused5 .ensures)
+    (λ x st. gives-7 st (a .tree .now) (a .ticket .now) (a .tape .now) (a .trace .now) (omega (arith, c .before .before .before .before .before .before .before .before .before .before .if1 .left, c .before .before .before .before .before .before .before .before .before .before .before .tree-length .ensures)) (omega (arith, c .before .before .before .before .before .before .before .before .before .if2 .left)) (c .before .before .before .before .before .before .asked .given .0 .0)
+    (sym (c .before .before .before .before .before .before .before .before .read-ticket .ensures) ∙ c .before .before .before .before .before .before .asked .given .1) (c .before .before .rounds-of .result) (c .before .before .rounds-of .ensures .0)
+    (omega (arith, c .before .before .before .if3 .left, c .before .before .before .before .draws-of .ensures .0, c .before .before .rounds-of .ensures .0)) (omega (arith, c .before .if4 .taken)))
 
 -- src/lib.rt:77:9
 job-for-requires : tie.Need-job-for-requires
-job-for-requires c κs = search needs
+job-for-requires c κs =
+    let k = c .before in
+    let st = start k .pre .for in
+    let some = head-rounds st (k .before .rounds-of .ensures .0) in
+    (head-sizes st .1, (k .before .rounds-of .ensures .1, omega (arith, ok k _ st .tape-long)))
 
 -- src/lib.rt:78:22
 cast-run : tie.Need-cast-run
@@ -94,7 +143,10 @@ cast-run c = search needs
 
 -- src/lib.rt:78:5
 run-requires : tie.Need-run-requires
-run-requires c κs = search needs
+run-requires c κs =
+    let k = c .before .before .before .before .before .before in
+    let st = start k .pre .for in
+    rw (c .before .before .before .before .job-for .ensures) (head-runs st (ok k _ st))
 
 -- src/lib.rt:47:1
 same-length : tie.Need-same-length
@@ -106,7 +158,13 @@ same-length-2 c = search needs
 
 -- src/lib.rt:47:1
 returns-6 : tie.Need-returns-6
-returns-6 c = search needs
+returns-6 c =
+    let k = c .before .before .before .before .before .before .before .before .before .before .before in
+    let r = c .before .before .before .before .run in
+    record {
+      calls = λ s st. head-left st (ok k s st) (r .result) _ (r .ensures .1 .1) (rw (c .before .before .before .before .before .before .before .before .before .job-for .ensures) at (r .ensures .0));
+      holds = r .ensures .1 .0;
+    }
 
 pub call-words-spec : {M : Type 1} → statement M
 call-words-spec =

@@ -1,6 +1,6 @@
 use mathlib.Core.Path.{sym, ap}
-use Rattle.steps.specs.declared.Answer.{Answer}
-use Rattle.steps.specs.Method.{toAnswer}
+use Rattle.operations.specs.declared.Answer.{Answer}
+use Rattle.operations.specs.Method.{toAnswer}
 use Rattle.store.specs.Store.{replyOf}
 use native.Mathlib.Omega.{arith}
 use borrow.Author.Needs.{needs}

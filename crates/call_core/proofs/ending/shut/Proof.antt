@@ -1,3 +1,4 @@
+use Rattle.call_core.specs.EndingLaws.{shut-ends}
 use native.Mathlib.Omega.{arith}
 use borrow.Author.Needs.{needs}
 use Rattle.call_core.proofs.ending.shut.Statement.{statement}
@@ -17,7 +18,10 @@ join-nodes-requires c κs = search needs
 
 -- src/ending.rt:64:1
 returns : tie.Need-returns
-returns c = search needs
+returns c =
+    let s = c .before .before .before .before .before .before in
+    let a = s .args in
+    shut-ends (a .job) (a .f) (a .w .now) (a .held .now) (a .froms .now) (c .before .before .before .move-tags .ensures) (c .join-nodes .ensures)
 
 pub shut-spec : {M : Type 1} → statement M
 shut-spec = tie.close (tie.spec move-tags-requires join-nodes-requires returns)

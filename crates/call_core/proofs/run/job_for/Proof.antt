@@ -1,3 +1,5 @@
+use Prim.Native.Nat.{_^_, _≤_}
+use lib.Pow.{pow-mono}
 use native.Mathlib.Omega.{arith}
 use borrow.Author.Needs.{needs}
 use Rattle.call_core.proofs.run.job_for.Statement.{statement}
@@ -18,7 +20,10 @@ sub-limit c = search needs
 
 -- src/run.rt:38:17
 cast-limit : tie.Need-cast-limit
-cast-limit c = search needs
+cast-limit c =
+    let s = c .before .before in
+    let most : 2 ^ s .args .size ≤ 2 ^ 8 = pow-mono (s .pre .0) in
+    omega (arith, most, c .leaves .ensures)
 
 -- src/run.rt:39:15
 draw-at-requires : tie.Need-draw-at-requires
@@ -38,7 +43,7 @@ add-t10 c = search needs
 
 -- src/run.rt:26:1
 returns : tie.Need-returns
-returns c = search needs
+returns c = rw (c .before .before .leaves .ensures .0, c .before .draw-at .ensures .0, c .spare-of .ensures .0)
 
 pub job-for-spec : {M : Type 1} → statement M
 job-for-spec =

@@ -1,3 +1,5 @@
+use mathlib.Core.Path.{refl}
+use Rattle.call_core.specs.RunLaws.{run-shuts, run-ends-shut, run-finishes, run-ends-finished}
 use borrow.Author.Needs.{needs}
 use native.Mathlib.Omega.{arith}
 use Rattle.call_core.proofs.run.run.Statement.{statement}
@@ -14,11 +16,15 @@ slice-aggregate-fetch-rounds c = search needs
 
 -- src/run.rt:70:9
 fetch-rounds-requires : tie.Need-fetch-rounds-requires
-fetch-rounds-requires c κs = search needs
+fetch-rounds-requires c κs =
+    let ok = c .before .before .before .before .before .before .before .before .before .before .before .pre in
+    (ok .begins refl, ((refl, refl), (refl, (refl, (ok .tape-long, ok .trace-long)))))
 
 -- src/run.rt:84:9
 shut-requires : tie.Need-shut-requires
-shut-requires c κs = search needs
+shut-requires c κs =
+    let f = c .before .before .before .before .before .before .before .before .before .before .fetch-rounds .ensures in
+    run-shuts (c .before .before .before .before .before .before .before .before .before .before .before .before .before .before .before .before .before .before .before .before .before .before .pre) (f .0) (λ e. omega (arith, e, c .before .before .before .if1 .taken)) _ (f .1 .0)
 
 -- src/run.rt:84:9
 same-length : tie.Need-same-length
@@ -30,7 +36,9 @@ same-length-2 c = search needs
 
 -- src/run.rt:84:9
 returns : tie.Need-returns
-returns c = search needs
+returns c =
+    let f = c .before .before .before .before .before .before .before .before .before .before .before .fetch-rounds .ensures in
+    (run-ends-shut (c .before .before .before .before .before .before .before .before .before .before .before .before .before .before .before .before .before .before .before .before .before .before .before .pre) (f .0) (λ e. omega (arith, e, c .before .before .before .before .if1 .taken)) (c .shut .ensures), (c .shut .ensures .holds, c .shut .ensures .ran))
 
 -- src/run.rt:87:52
 slice-aggregate-finish : tie.Need-slice-aggregate-finish
@@ -38,7 +46,10 @@ slice-aggregate-finish c = search needs
 
 -- src/run.rt:86:5
 finish-requires : tie.Need-finish-requires
-finish-requires c κs = search needs
+finish-requires c κs =
+    let ok = c .before .before .before .before .before .before .before .before .before .before .before .before .before .before .before .before .before .before .before .before .before .before .before .before .before .before .pre in
+    let f = c .before .before .before .before .before .before .before .before .before .before .before .before .before .before .fetch-rounds .ensures in
+    (run-finishes ok (f .0) (omega (arith, c .before .before .before .before .before .before .before .if1 .left)), (f .1, (ok .tape-long, omega (arith, ok .trace-long, f .0 .trace-sized))))
 
 -- src/run.rt:54:1
 same-length-3 : tie.Need-same-length-3
@@ -50,7 +61,9 @@ same-length-4 c = search needs
 
 -- src/run.rt:54:1
 returns-2 : tie.Need-returns-2
-returns-2 c = search needs
+returns-2 c =
+    let done = c .before .before .before .before .finish .ensures in
+    (run-ends-finished (c .before .before .before .before .before .before .before .before .before .before .before .before .before .before .before .before .before .before .before .before .before .before .before .before .before .before .before .before .before .before .before .pre) (c .before .before .before .before .before .before .before .before .before .before .before .before .before .before .before .before .before .before .before .fetch-rounds .ensures .0) (omega (arith, c .before .before .before .before .before .before .before .before .before .before .before .before .if1 .left)) done, (done .holds, done .ran))
 
 pub run-spec : {M : Type 1} → statement M
 run-spec =

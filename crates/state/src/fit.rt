@@ -5,14 +5,13 @@ use super::LIMIT;
 use super::Place;
 use balance::shape_exists;
 use slots::Link;
-use slots::Node;
 use slots::codec::well_formed;
 use slots::tree::leaves;
 ghost use mathlib.Core.Path.{_≡_};
 ghost use mathlib.Core.Bool.{_&&_};
 ghost use Prim.Native.Nat.{_≤_, _^_};
 ghost use lib.Dec.{ltb};
-ghost use Rattle.state.specs.Fit.{zeroLink, zeroNode, zeroPlace, placeGood, rootGood, inRange};
+ghost use Rattle.state.specs.Fit.{zeroLink, zeroPlace, placeGood, rootGood, inRange};
 ghost use Rattle.state.specs.Head.{headFits};
 
 pub fn in_range(n: u8, most: u8) -> bool
@@ -31,25 +30,17 @@ fn zero_link(l: Link) -> bool
     l.height as u64 | l.key as u64 | l.tag as u64 == 0
 }
 
-fn zero_node(n: Node) -> bool
-    ensures { λ r. ⌜ r ≡ zeroNode n ⌝ }
-{
-    let l = n.left;
-    let r = n.right;
-    let own = n.key as u64 | n.value | n.tag as u64;
-    let left = l.height as u64 | l.key as u64 | l.tag as u64;
-    let right = r.height as u64 | r.key as u64 | r.tag as u64;
-    own | left | right == 0
-}
-
+// A place that is all zero: one test of its numbers together.
 pub fn zero_place(p: Place) -> bool
     ensures { λ r. ⌜ r ≡ zeroPlace p ⌝ }
 {
-    let n = p.node;
     if p.full {
         return false;
     }
-    zero_node(n)
+    let own = p.node.key as u64 | p.node.value | p.node.tag as u64;
+    let left = p.node.left.height as u64 | p.node.left.key as u64 | p.node.left.tag as u64;
+    let right = p.node.right.height as u64 | p.node.right.key as u64 | p.node.right.tag as u64;
+    own | left | right == 0
 }
 
 pub fn place_good(size: usize, p: Place) -> bool

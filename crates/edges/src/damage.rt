@@ -9,7 +9,6 @@ use slots::bucket::write_slot;
 use state::State;
 use state::opening::open;
 ghost use Prim.Native.Nat.{_+_, _≤_};
-ghost use lib.ListN.{length};
 
 // The bytes where buckets 6 and 7 start: those of leaves 2 and 3.
 const BUCKET_6: usize = 640;

@@ -3,7 +3,6 @@ use slots::Link;
 use slots::Node;
 use state::Place;
 use state::State;
-use state::opening::no_place;
 use state::opening::open;
 ghost use Prim.Native.Nat.{_<_};
 

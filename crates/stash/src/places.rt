@@ -39,7 +39,8 @@ fn used_fits(p: Place, size: usize, least: u64) -> bool
     least <= p.node.key as u64
 }
 
-// Whether the places of a state fit; if they do, its waiting nodes are words then.
+// Whether the places of a state fit; if they do, its waiting nodes are words then. One pass: the used places, then the others. Both
+// loops stand here, since a second function would be handed its own copy of the state.
 pub fn load(state: State, size: usize, w: &mut [u64; WORDS]) -> bool
     requires { ⌜ (length (now w) ≡ wordCount) × ((size ≤ 16) × ((state .size ≡ size) × (state .count ≤ 64))) ⌝ }
     ensures { λ r. ⌜ (r ≡ placesFit state) × (r ≡ true → Loaded state (now (w .exit)) (state .count)) ⌝ }
@@ -47,19 +48,20 @@ pub fn load(state: State, size: usize, w: &mut [u64; WORDS]) -> bool
     let n = state.count as usize;
     let mut least: u64 = 0;
     let mut i = 0;
-    while i < PLACES {
+    while i < n {
         let p = state.places[i];
-        if i < n {
-            if !used_fits(p, size, least) {
-                return false;
-            }
-            let node = p.node;
-            put(w, i, words_of(node));
-            least = node.key as u64 + 1;
-        } else {
-            if !zero_place(p) {
-                return false;
-            }
+        if !used_fits(p, size, least) {
+            return false;
+        }
+        let node = p.node;
+        put(w, i, words_of(node));
+        least = node.key as u64 + 1;
+        i += 1;
+    }
+    while i < PLACES {
+        let q = state.places[i];
+        if !zero_place(q) {
+            return false;
         }
         i += 1;
     }

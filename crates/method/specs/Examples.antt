@@ -13,7 +13,7 @@ use Rattle.method.specs.Prog.{bind}
 use Rattle.method.specs.Answer.{Structure, map, stack, Op, get, put, remove, push, pop, absent, new, full, pushed, popped, empty}
 use Rattle.method.specs.Map.{walk, single, double, turn, raise, climb, unwind, unwound, getStep, getProg, putStep, putProg, lowest, takeOut, removeStep, removeProg}
 use Rattle.method.specs.Stack.{pushProg, popProg}
-use Rattle.method.specs.Rounds.{rounds, spare}
+use Rattle.method.specs.Rounds.{rounds, spare, putDraw, draws}
 use Rattle.method.specs.Call.{capacity, program, emptyMemory, takeKey, fetches, drawsFrom, stepped, answered, call, run, Ran}
 use Rattle.method.specs.Origin.{drawn, origins, names, leafOf, leafRun}
 
@@ -46,6 +46,11 @@ one key = node leaf key leaf
 map-rounds : list.map (rounds map) (1 ∷ 2 ∷ 3 ∷ 4 ∷ 5 ∷ 6 ∷ 7 ∷ 8 ∷ []) ≡ 3 ∷ 6 ∷ 12 ∷ 15 ∷ 18 ∷ 24 ∷ 27 ∷ 33 ∷ []
 unfolding after
 map-rounds = refl
+
+-- The draws of a call, and that of the first put round: for a map of size 2 (F = 6) and a stack.
+worked-draws : (draws map 2 ≡ 13) × (putDraw map 6 0 ≡ 7) × (draws stack 2 ≡ 3) × (putDraw stack 1 0 ≡ 2)
+unfolding after
+worked-draws = (refl, refl, refl, refl)
 
 -- A fresh map of size 2, get 7, tape 0 to 12.
 get-absent : after 2 (λ d. d % 4) (get 7 ∷ []) .answers ≡ some absent ∷ []

@@ -9,8 +9,8 @@ use single_rounds::Closed;
 use single_rounds::round;
 use single_rounds::take_round;
 use single_rounds::wait;
-use slots::Link;
 use slots::Node;
+use slots::codec::no_link;
 ghost use mathlib.Core.Path.{_≡_};
 ghost use mathlib.Core.Bool.{false};
 ghost use Prim.Native.Nat.{_≤_, _<_};
@@ -68,11 +68,7 @@ fn failed(seed: u64) -> Turns
 }
 
 fn new_node(key: u32, tag: u8) -> Node {
-    let none = Link {
-        height: 0,
-        key: 0,
-        tag: 0,
-    };
+    let none = no_link();
     Node {
         key,
         value: key as u64,

@@ -13,6 +13,7 @@ use operations::Wanted;
 use operations::one_less;
 use slots::Link;
 use slots::Node;
+use slots::codec::no_link;
 ghost use mathlib.Core.Path.{_≡_};
 ghost use mathlib.Core.Bool.{true, false};
 ghost use Prim.Native.Nat.{_+_, _<_, pred};
@@ -149,11 +150,7 @@ pub fn get(key: u32, entries: u16, root: Link, held: &[u64; ROW], count: usize) 
 fn leaf(key: u32, value: u64, tag: u16) -> Node
     ensures { λ r. ⌜ r ≡ leafOf key value tag ⌝ }
 {
-    let none = Link {
-        key: 0,
-        tag: 0,
-        height: 0,
-    };
+    let none = no_link();
     Node {
         value,
         key,

@@ -59,6 +59,17 @@ pub record Begins (j : Job) (draw : ℕ → ℕ) (n : ℕ) (words scratch tree :
   pub fit : FitStore (structureIn j) (j .size) (storeAt j n words tree)
   pub rests : Rests n words scratch []
 
+-- The rows that the code lends: the held nodes, and one for scratch.
+abbrev pub RowsSized : (held made : List ℕ) → Type 0
+RowsSized held made = (length held ≡ rowWords) × (length made ≡ rowWords)
+
+-- What the fetch rounds are lent: the rows have their lengths, and the tape and the trace buffer are long enough.
+abbrev pub CanFetch : Job → ℕ → (words scratch tree held froms made keys tape trace : List ℕ) → Type 0
+CanFetch j n words scratch tree held froms made keys tape trace =
+    Begins j (drawOf (j .size) tape) n words scratch tree
+    × (RowsSized held made
+    × ((length froms ≡ fetches) × ((length keys ≡ fetches) × ((j .puts + j .rounds ≤ length tape) × (2 * j .rounds ≤ length trace)))))
+
 -- After as many rounds as nodes are held, each of which wanted one.
 pub record Walked (j : Job) (draw : ℕ → ℕ) (n : ℕ) (words₀ tree₀ trace₀ : List ℕ) (h : Held) (froms : List ℕ) (m : ℕ) (words scratch tree keys trace : List ℕ) : Type 0 where
   pub upto : h .count ≤ j .rounds
@@ -89,10 +100,6 @@ pub record Fetches (j : Job) (draw : ℕ → ℕ) (n : ℕ) (words tree trace : 
   pub all-shown : r .mark ≡ 0 → r .leaves ≡ j .rounds
   pub trace-sized : length trace′ ≡ length trace
   pub untouched : drop (r .leaves) trace′ ≡ drop (r .leaves) trace
-
--- The rows that the code lends: the held nodes, and one for scratch.
-abbrev pub RowsSized : (held made : List ℕ) → Type 0
-RowsSized held made = (length held ≡ rowWords) × (length made ≡ rowWords)
 
 -- The rounds that want a node: if they go on none is wanted any more, else they came to what all of them come to.
 pub record Walks (j : Job) (draw : ℕ → ℕ) (n : ℕ) (words tree trace : List ℕ) (h : Held) (froms words′ scratch′ tree′ keys′ trace′ : List ℕ) (r : Fetched) : Type 0 where

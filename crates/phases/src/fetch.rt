@@ -6,13 +6,9 @@ use buckets::WORDS;
 use idle_rounds::idle::idle_rounds;
 use node_rows::FETCHES;
 use node_rows::ROW;
-ghost use mathlib.Core.Path.{_≡_};
-ghost use Prim.Native.Nat.{_+_, _*_, _≤_};
-ghost use lib.ListN.{length};
 ghost use Rattle.calls.specs.Call.{drawOf};
-ghost use Rattle.node_rows.specs.Row.{fetches};
 ghost use Rattle.node_rows.specs.Held.{heldIn};
-ghost use Rattle.phases.specs.Wanting.{Begins, RowsSized, Fetches};
+ghost use Rattle.phases.specs.Wanting.{CanFetch, RowsSized, Fetches};
 
 pub fn fetch_rounds(
     job: Job,
@@ -27,7 +23,7 @@ pub fn fetch_rounds(
     tape: &[u16],
     trace: &mut [u16],
 ) -> Fetched
-    requires { ⌜ (Begins job (drawOf (job .size) (now tape)) n (now w) (now s) (now tree)) × ((RowsSized (now held) (now made)) × ((length (now froms) ≡ fetches) × ((length (now keys) ≡ fetches) × ((job .puts + job .rounds ≤ length (now tape)) × (2 * job .rounds ≤ length (now trace)))))) ⌝ }
+    requires { ⌜ CanFetch job n (now w) (now s) (now tree) (now held) (now froms) (now made) (now keys) (now tape) (now trace) ⌝ }
     ensures { λ r. ⌜ (Fetches job (drawOf (job .size) (now (tape .entry))) n (now (w .entry)) (now (tree .entry)) (now (trace .entry)) (heldIn (now (held .exit)) (r .count)) (now (froms .exit)) (now (w .exit)) (now (s .exit)) (now (tree .exit)) (now (trace .exit)) r) × (RowsSized (now (held .exit)) (now (made .exit))) ⌝ }
 {
     let mut f = want_rounds(job, w, n, s, tree, held, froms, made, keys, tape, trace);

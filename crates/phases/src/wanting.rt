@@ -11,12 +11,9 @@ use operations::Wanted;
 use slots::Link;
 use steps::operation::wanted;
 ghost use mathlib.Core.Path.{_≡_};
-ghost use Prim.Native.Nat.{_+_, _*_, _≤_};
-ghost use lib.ListN.{length};
 ghost use Rattle.calls.specs.Call.{drawOf};
-ghost use Rattle.node_rows.specs.Row.{fetches};
 ghost use Rattle.node_rows.specs.Held.{heldIn};
-ghost use Rattle.phases.specs.Wanting.{Begins, RowsSized, Walks};
+ghost use Rattle.phases.specs.Wanting.{CanFetch, RowsSized, Walks};
 
 // What the rounds of a call are for: the operation, the store's structure and size, how many fetch rounds there are, the capacity,
 // the entries and the root link, the tag that a new node would get, and the draw of the first put round.
@@ -68,7 +65,7 @@ pub fn want_rounds(
     tape: &[u16],
     trace: &mut [u16],
 ) -> Fetched
-    requires { ⌜ (Begins job (drawOf (job .size) (now tape)) n (now w) (now s) (now tree)) × ((RowsSized (now held) (now made)) × ((length (now froms) ≡ fetches) × ((length (now keys) ≡ fetches) × ((job .puts + job .rounds ≤ length (now tape)) × (2 * job .rounds ≤ length (now trace)))))) ⌝ }
+    requires { ⌜ CanFetch job n (now w) (now s) (now tree) (now held) (now froms) (now made) (now keys) (now tape) (now trace) ⌝ }
     ensures { λ r. ⌜ (Walks job (drawOf (job .size) (now (tape .entry))) n (now (w .entry)) (now (tree .entry)) (now (trace .entry)) (heldIn (now (held .exit)) (r .count)) (now (froms .exit)) (now (w .exit)) (now (s .exit)) (now (tree .exit)) (now (keys .exit)) (now (trace .exit)) r) × (RowsSized (now (held .exit)) (now (made .exit))) ⌝ }
 {
     let op = job.op;

@@ -11,11 +11,11 @@ use single_rounds::Closed;
 use single_rounds::round;
 use single_rounds::take_round;
 use single_rounds::wait;
-use slots::Link;
 use slots::Node;
 use slots::Reading;
 use slots::SLOT_LENGTH;
 use slots::bucket::read_slot;
+use slots::codec::no_link;
 use slots::codec::node_of;
 ghost use mathlib.Core.Path.{_≡_};
 ghost use Prim.Native.Nat.{_≤_};
@@ -129,11 +129,7 @@ fn print_store(kind: u8, mark: u8, w: &[u64; WORDS], n: usize, tree: &[u8])
 
 // ---- the script
 fn new_node(key: u16, tag: u16) -> Node {
-    let none = Link {
-        height: 0,
-        key: 0,
-        tag: 0,
-    };
+    let none = no_link();
     Node {
         key: key as u32,
         value: 49 + (key as u64),

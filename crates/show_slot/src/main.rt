@@ -1,8 +1,8 @@
 // Writes a node to a slot of a small tree, prints the slot's bytes, and reads the node back.
 use libc::STDOUT_FILENO;
-use slots::Link;
 use slots::Node;
 use slots::Reading;
+use slots::codec::no_link;
 
 fn line(label: &[u8], n: u64) {
     io::write_all(STDOUT_FILENO, label);
@@ -41,11 +41,7 @@ fn print_reading(r: Reading) {
 
 // The node of document 01's worked push, in bucket 3 of a tree of size 2.
 fn main() {
-    let none = Link {
-        height: 0,
-        key: 0,
-        tag: 0,
-    };
+    let none = no_link();
     let node = Node {
         key: 1,
         value: 50,

@@ -4,20 +4,20 @@ use mathlib.Core.List.{List, map}
 use Prim.Native.Nat.{ℕ, _≤_}
 use lib.ListN.{length, take}
 use Rattle.basics.specs.Distinct.{All}
-use Rattle.slots.specs.Slot.{fieldsIn, nodeOf, slotBytes, slotOf}
+use Rattle.slots.specs.Slot.{slotOf}
 use Rattle.slots.specs.SlotLaws.{Ranged}
 use Rattle.slots.specs.declared.Slot.{Slot}
 use Rattle.method.specs.Node.{Node}
 use Rattle.leaf_nodes.specs.Convert.{toNode, fromNode}
 use Rattle.buckets.specs.Words.{places, wordCount}
-use Rattle.slots.specs.Row.{slotsOf}
+use Rattle.slots.specs.Row.{slotsOf, nodeFrom}
 
 -- The words of a node, and the node that words hold.
 abbrev pub wordsFor : Node ℕ → Slot
 wordsFor n = slotOf (fromNode n)
 
 abbrev pub nodeIn : Slot → Node ℕ
-nodeIn x = toNode (nodeOf (fieldsIn (slotBytes x)))
+nodeIn x = toNode (nodeFrom x)
 
 -- A node whose numbers are within their widths.
 abbrev pub InWidths : Node ℕ → Type 0

@@ -7,7 +7,8 @@ use native.Mathlib.Omega.{arith}
 use lib.ListN.{length, take, length-map, length-take}
 use Rattle.basics.specs.Distinct.{All}
 use Rattle.slots.specs.Slot.{Fields, fieldsIn, fieldsOf, nodeOf, readSlot, slotBytes, slotOf, encode}
-use Rattle.slots.specs.SlotLaws.{Ranged, node-fields, fields-encoded, slot-encoded}
+use Rattle.slots.specs.SlotLaws.{Ranged, fields-encoded, slot-encoded}
+use Rattle.slots.specs.RowLaws.{node-from-slot}
 use Rattle.slots.specs.declared.Slot.{Slot}
 use Rattle.slots.specs.declared.Node as node
 use Rattle.slots.specs.declared.Reading.{Reading}
@@ -31,7 +32,7 @@ words-fields-in n r = ap fieldsIn (slot-encoded n r) ∙ fields-encoded n r
 
 -- A node's words hold it.
 pub node-in-words : (n : Node ℕ) → InWidths n → nodeIn (wordsFor n) ≡ n
-node-in-words n r = ap (λ (f : Fields). toNode (nodeOf f)) (words-fields-in (fromNode n) r) ∙ ap toNode (node-fields (fromNode n))
+node-in-words n r = ap toNode (node-from-slot (fromNode n) r)
 
 nodes-in-words : (ns : List (Node ℕ)) → All InWidths ns → map nodeIn (map wordsFor ns) ≡ ns
 nodes-in-words [] r = refl

@@ -27,11 +27,11 @@ module _ (s : State) where
   unfit-head e = fits-parts s ∙ rw e
 
   module _ (good : head ≡ true) where
-    pub fit-by-places : {b : Bool} → b ≡ placesFit s → fits s ≡ b
-    fit-by-places e = fits-parts s ∙ rw good (sym e)
+    pub fit-by-places : {b : Bool} → placesFit s ≡ b → fits s ≡ b
+    fit-by-places e = fits-parts s ∙ rw good e
 
-    pub stands : {words : List ℕ} → s .mark ≡ 0 → {b : Bool} → b ≡ placesFit s → b ≡ true → Loaded s words (s .count) → StandsFor s (headOf s) words
-    stands unmarked e b loaded = record { head = refl; not-closed = unmarked; fit = fit-by-places e ∙ b; loaded = loaded }
+    pub stands : {words : List ℕ} → s .mark ≡ 0 → placesFit s ≡ true → Loaded s words (s .count) → StandsFor s (headOf s) words
+    stands unmarked e loaded = record { head = refl; not-closed = unmarked; fit = fit-by-places e; loaded = loaded }
 
   module _ (tree ticket tape trace : List ℕ) where
     pub refuses : {r : Called} {n : ℕ} → r ≡ record { state = s; reply = Refused n; leaves = 0 } → called s tree ticket tape trace ≡ refusing n s tree trace

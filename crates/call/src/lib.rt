@@ -1,35 +1,37 @@
 // Calls on a store whose state is a struct: the state's checks, the core over words, and what is left.
 use buckets::WORDS;
+use buckets::stash_words::get;
+use buckets::stash_words::put;
 use call_core::Head;
 use call_core::call_words;
-use stash::places::load;
-use stash::places::save;
+use slots::codec::node_of;
+use stash::places::greater;
+use stash::places::used_fits;
+use stash::words_of;
+use state::PLACES;
+use state::Place;
 use state::State;
 use state::fit::head_fits;
+use state::fit::zero_place;
+use state::opening::no_place;
 use store::Called;
 use store::Reply;
 ghost use mathlib.Core.Path.{_≡_};
-ghost use Rattle.store.specs.declared.Reply.the-variants.{Refused};
 ghost use Rattle.store.specs.Store.{called};
 ghost use Rattle.call.specs.Run.{endedAs};
 
-// A refusal 1 or 2: nothing changes, and no leaf is revealed.
-fn refused(state: State, number: u8) -> Called
-    ensures { λ r. ⌜ r ≡ record { state = state; reply = Refused number; leaves = 0 } ⌝ }
-{
-    Called {
-        state,
-        reply: Reply::Refused(number),
-        leaves: 0,
-    }
-}
-
 // One call: an answer or one numbered refusal. The store does all the checking; see `called` for every case.
+// Three loops stand here, since a function that is handed the state is handed a copy of it: the used places are looked at and their
+// nodes put into words, the other places are looked at, and in the end the waiting nodes are saved into the state that came.
 pub fn call(state: State, tree: &mut [u8], ticket: &[u8], tape: &[u16], trace: &mut [u16]) -> Called
     ensures { λ r. ⌜ endedAs r (now (tree .exit)) (now (trace .exit)) ≡ called state (now (tree .entry)) (now (ticket .entry)) (now (tape .entry)) (now (trace .entry)) ⌝ }
 {
     if state.mark != 0 {
-        return refused(state, 1);
+        return Called {
+            state,
+            reply: Reply::Refused(1),
+            leaves: 0,
+        };
     }
     let root = state.root;
     if !head_fits(
@@ -39,11 +41,42 @@ pub fn call(state: State, tree: &mut [u8], ticket: &[u8], tape: &[u16], trace: &
         state.count,
         root,
     ) {
-        return refused(state, 2);
+        return Called {
+            state,
+            reply: Reply::Refused(2),
+            leaves: 0,
+        };
     }
+    // The waiting nodes as words, and whether the places fit.
+    let size = state.size as usize;
+    let n = state.count as usize;
     let mut w = [0u64; WORDS];
-    if !load(state, state.size as usize, &mut w) {
-        return refused(state, 2);
+    let mut least: u64 = 0;
+    let mut i = 0;
+    while i < n {
+        let p = state.places[i];
+        if !used_fits(p, size, least) {
+            return Called {
+                state,
+                reply: Reply::Refused(2),
+                leaves: 0,
+            };
+        }
+        let node = p.node;
+        put(&mut w, i, words_of(node));
+        least = node.key as u64 + 1;
+        i += 1;
+    }
+    while i < PLACES {
+        let q = state.places[i];
+        if !zero_place(q) {
+            return Called {
+                state,
+                reply: Reply::Refused(2),
+                leaves: 0,
+            };
+        }
+        i += 1;
     }
     let head = Head {
         structure: state.structure,
@@ -61,8 +94,26 @@ pub fn call(state: State, tree: &mut [u8], ticket: &[u8], tape: &[u16], trace: &
             leaves: r.leaves,
         };
     }
+    // The state that is left. Past the nodes that wait now and those that waited before, its places are unused already.
     let after = r.root;
-    let left = save(state, r.mark, r.entries, after, &w, r.waiting);
+    let m = r.waiting;
+    let none = no_place();
+    let end = greater(m, n);
+    let mut left = state;
+    let mut j = 0;
+    while j < end {
+        if j < m {
+            let node = node_of(get(&w, j));
+            left.places[j] = Place { full: true, node };
+        } else {
+            left.places[j] = none;
+        }
+        j += 1;
+    }
+    left.mark = r.mark;
+    left.entries = r.entries;
+    left.root = after;
+    left.count = m as u16;
     Called {
         state: left,
         reply,

@@ -54,10 +54,6 @@ module _ (s : State) where
         blanks = rw high;
       }
 
-  -- Nothing is said of the words where the places do not fit.
-  pub not-loaded : (words : List ℕ) → placesFit s ≡ false → (false ≡ placesFit s) × (false ≡ true → Loaded s words (s .count))
-  not-loaded words e = (sym e, λ f. let z : _≡_ {A = ℕ} 0 1 = cc in absurd (omega arith))
-
   module _ (i least : ℕ) (words : List ℕ) (l : LookedAt i least words) where
     -- A place that does not fit.
     pub used-unfit : i < s .count → (placeGood (s .size) (at i) && leb least (at i .node .key)) ≡ false → placesFit s ≡ false
@@ -105,11 +101,11 @@ module _ (s : State) where
           blanks = rw high' (sym (all-passes zeroPlace places i (s .places) k e) ∙ rw high at (l .blanks));
         }
 
-    pub looked-all : places ≤ i → s .count ≤ places → (true ≡ placesFit s) × (true ≡ true → Loaded s words (s .count))
+    pub looked-all : places ≤ i → s .count ≤ places → (placesFit s ≡ true) × Loaded s words (s .count)
     looked-all h few =
         let low : min i (s .count) ≡ s .count = omega arith in
         let high : max i (s .count) ≡ i = omega arith in
         let a : allOf (placeGood (s .size)) (used s) ≡ true = sym (l .goods) ∙ all-end (placeGood (s .size)) (s .count) i (s .places) (omega arith) in
         let b : ascending (keysIn (used s)) ≡ true = sym (l .keys) ∙ keys-end (s .count) i least (s .places) (omega arith) in
         let c : allOf zeroPlace (unused s) ≡ true = sym (rw high at (l .blanks)) ∙ all-end zeroPlace places i (s .places) h in
-        (rw (a, b, c), λ _. loaded-all s words (s .count) (rw low at (l .loaded)) refl)
+        (rw (a, b, c), loaded-all s words (s .count) (rw low at (l .loaded)) refl)

@@ -11,7 +11,7 @@ pub mod join;
 pub mod places;
 
 // The words of a node, whose numbers are within their widths.
-fn words_of(n: Node) -> Slot
+pub fn words_of(n: Node) -> Slot
     ensures { λ r. ⌜ InWidths (toNode n) × (r ≡ wordsFor (toNode n)) ⌝ }
 {
     slot_of(n)

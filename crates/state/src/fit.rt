@@ -80,7 +80,7 @@ fn root_fits(size: usize, structure: u8, entries: u16, root: Link) -> bool
     root_good(structure, entries, root)
 }
 
-// Whether a state fits, its places not asked about: stash::places::load asks about those.
+// Whether a state fits, its places not asked about: `call` asks about those.
 pub fn head_fits(structure: u8, size: u8, entries: u16, count: u16, root: Link) -> bool
     ensures { λ r. ⌜ r ≡ headFits structure size entries count root ⌝ }
 {

@@ -1,134 +1,376 @@
-use mathlib.Core.Path.{refl, sym, _∙_}
+-- `call` meets its contract. Two loops look at the places and load them, the third saves them.
+use mathlib.Core.Path.{_≡_, refl, sym, _∙_, ap}
+use mathlib.Core.Bool.{true, false}
+use mathlib.Core.Logic.{⊎-elim}
+use Prim.Native.Nat.{_-_, _≤_, _<_}
+use lib.ListN.{length, set, length-map}
 use borrow.Author.Tests.{not-true, not-false}
+use borrow.Author.Needs.{needs}
+use native.Mathlib.Omega.{arith}
+use Rattle.slots.specs.Row.{slotsOf}
+use Rattle.state.specs.Fit.{placesFit}
+use Rattle.state.specs.Head.{headFits}
+use Rattle.store.specs.declared.Reply.the-variants.{Refused}
+use Rattle.store.specs.Store.{called}
+use Rattle.call.specs.Run.{endedAs}
 use Rattle.state.specs.FitLaws.{head-true}
+use Rattle.stash.specs.LoadLaws.{LookedAt, looked-none, used-unfit, unused-unfit, used-more, unused-more, looked-all}
+use Rattle.stash.specs.SaveLaws.{fit-places, savedTo, saved-node, saved-none, saved-all}
 use Rattle.call_core.specs.Run.{headOf, StandsFor}
 use Rattle.call_core.specs.CallLaws.{refused-1, refused-2}
 use Rattle.call.specs.CallLaws.{unfit-head, fit-by-places, stands, refuses, kept, changed}
-use native.Mathlib.Omega.{arith}
-use borrow.Author.Needs.{needs}
 use Rattle.call.proofs.call.Statement.{statement}
 use Rattle.call.proofs.call.Tie as tie
 use Rattle.call.proofs.call.Reads as reads
 use Rattle.call.proofs.call.Lts as lts
-use Rattle.call.proofs.refused.Reads as refused-reads
+use Rattle.buckets.proofs.stash_words.get.Reads as get-reads
+use Rattle.buckets.proofs.stash_words.put.Reads as put-reads
 use Rattle.call_core.proofs.call_words.Reads as call-words-reads
-use Rattle.stash.proofs.places.load.Reads as load-reads
-use Rattle.stash.proofs.places.save.Reads as save-reads
+use Rattle.slots.proofs.codec.node_of.Reads as node-of-reads
+use Rattle.stash.proofs.places.greater.Reads as greater-reads
+use Rattle.stash.proofs.places.used_fits.Reads as used-fits-reads
+use Rattle.stash.proofs.words_of.Reads as words-of-reads
 use Rattle.state.proofs.fit.head_fits.Reads as head-fits-reads
+use Rattle.state.proofs.fit.zero_place.Reads as zero-place-reads
+use Rattle.state.proofs.opening.no_place.Reads as no-place-reads
 
--- Where the state fits.
-stand : (c : tie.Else3) → StandsFor (c .before .before .before .before .before .before .before .before .before .before .before .before .before .args .state) (headOf (c .before .before .before .before .before .before .before .before .before .before .before .before .before .args .state)) (c .before .load .last .1 .1 .0)
+abbrev Inv-loop : tie.InvT-loop
+Inv-loop tree ticket tape trace state root size n w₀ least₀ i₀ w least i = LookedAt state i least w × (i ≤ 64)
+
+abbrev μ-loop : tie.MeasureT-loop
+μ-loop tree ticket tape trace state root size n w₀ least₀ i₀ w least i = n - i
+
+abbrev Inv-loop2 : tie.InvT-loop2
+Inv-loop2 tree ticket tape trace state root size n w least i₀ i = LookedAt state i least w × (state .count ≤ i)
+
+abbrev μ-loop2 : tie.MeasureT-loop2
+μ-loop2 tree ticket tape trace state root size n w least i₀ i = 101 - i
+
+abbrev Inv-loop3 : tie.InvT-loop3
+Inv-loop3 tree ticket tape trace size n w least i r reply after m none end left₀ j₀ left j = (j ≤ end) × (left ≡ savedTo j m w left₀)
+
+abbrev μ-loop3 : tie.MeasureT-loop3
+μ-loop3 tree ticket tape trace size n w least i r reply after m none end left₀ j₀ left j = end - j
+
+-- Where the head fits: the state has no mark, and few nodes wait.
+unmarked : (c : tie.Else2 Inv-loop μ-loop Inv-loop2 μ-loop2 Inv-loop3 μ-loop3) → c .before .before .before .before .before .before .before .before .args .t1 .mark ≡ 0
+unmarked c = omega (arith, c .before .before .before .if1 .left)
+
+fit-head : (c : tie.Else2 Inv-loop μ-loop Inv-loop2 μ-loop2 Inv-loop3 μ-loop3) → (let s = c .before .before .before .before .before .before .before .before .args .t1 in headFits (s .structure) (s .size) (s .entries) (s .count) (s .root) ≡ true)
+fit-head c = sym (c .before .head-fits .ensures) ∙ not-false (c .before .head-fits .result) (c .if2 .left)
+
+bounds : (c : tie.Else2 Inv-loop μ-loop Inv-loop2 μ-loop2 Inv-loop3 μ-loop3) → (let s = c .before .before .before .before .before .before .before .before .args .t1 in ((s .size ≤ 16) × (s .count ≤ 64)))
+bounds c =
+    let s = c .before .before .before .before .before .before .before .before .args .t1 in
+    let h = head-true (s .structure) (s .size) (s .entries) (s .count) (s .root) (fit-head c) in
+    (omega (arith, h .sizes), omega (arith, h .waiting))
+
+sized : (c : tie.Start Inv-loop μ-loop Inv-loop2 μ-loop2 Inv-loop3 μ-loop3) → length (c .args .t1 .places) ≡ 101
+sized c = sym (length-map (c .args .t1 .places) _) ∙ (c .good .0 .1 .1 .1 .1 .1 .1 .1 .1 .0 .1 .0 .1)
+
+-- A place does not fit: refused.
+unfit : (c : tie.Else2 Inv-loop μ-loop Inv-loop2 μ-loop2 Inv-loop3 μ-loop3) → placesFit (c .before .before .before .before .before .before .before .before .args .t1) ≡ false
+    → (let a = c .before .before .before .before .before .before .before .before .args in endedAs (record { state = a .t1; reply = Refused 2; leaves = 0 }) (a .tree .now) (a .trace .now) ≡ called (a .t1) (a .tree .now) (a .ticket .now) (a .tape .now) (a .trace .now))
+unfit c e =
+    let a = c .before .before .before .before .before .before .before .before .args in
+    refuses (a .t1) (a .tree .now) (a .ticket .now) (a .tape .now) (a .trace .now) refl (refused-2 (a .t1) (a .tree .now) (a .ticket .now) (a .tape .now) (a .trace .now) (unmarked c) (fit-by-places (a .t1) (fit-head c) e))
+
+-- All places are looked at: head and words stand for the state.
+stand : (c : tie.After-loop2 Inv-loop μ-loop Inv-loop2 μ-loop2 Inv-loop3 μ-loop3) → (let s = c .before .before .before .before .before .before .before .before .before .before .before .before .args .t1 in StandsFor s (headOf s) (c .before .before .before .loop .w))
 stand c =
-    let load = c .before .load in
-    let yes = not-false (load .result) (c .if3 .left) in
-    stands (c .before .before .before .before .before .before .before .before .before .before .before .before .before .args .state) (sym (c .before .before .before .before .before .head-fits .ensures) ∙ not-false (c .before .before .before .before .before .head-fits .result) (c .before .before .before .before .if2 .left)) (omega (arith, c .before .before .before .before .before .before .before .if1 .left)) (load .ensures .0) yes (load .ensures .1 yes)
+    let s = c .before .before .before .before .before .before .before .before .before .before .before .before .args .t1 in
+    let l = c .before .loop2 in
+    let m = c .before .before .before .loop in
+    let all = looked-all s (l .i) (m .least) (m .w) (l .inv .0) (c .loop2-test .left) (omega (arith, bounds (c .before .before .before .before) .1)) in
+    stands s (fit-head (c .before .before .before .before)) (unmarked (c .before .before .before .before)) (all .0) (all .1)
 
--- src/lib.rt:32:9
-refused-requires : tie.Need-refused-requires
-refused-requires c κs = search needs
+-- A place that is saved is one of the state's.
+in-places : (c : tie.In-loop3 Inv-loop μ-loop Inv-loop2 μ-loop2 Inv-loop3 μ-loop3) → c .before .loop3 .j < 101
+in-places c = omega (arith, c .loop3-test .taken, c .before .before .greater .ensures, bounds (c .before .before .before .before .before .before .before .before .before .before .before .before .before .before .before .before .before .before .before) .1, c .before .before .before .before .before .before .before .before .before .before .before .call-words .ensures .holds .few)
 
--- src/lib.rt:32:9
-returns : tie.Need-returns
+-- src/lib.rt:28:9
+returns : tie.Need-returns Inv-loop μ-loop Inv-loop2 μ-loop2 Inv-loop3 μ-loop3
 returns c =
-    let a = c .before .before .before .before .before .before .before .args in
-    refuses (a .state) (a .tree .now) (a .ticket .now) (a .tape .now) (a .trace .now) (c .refused .ensures) (refused-1 (a .state) (a .tree .now) (a .ticket .now) (a .tape .now) (a .trace .now) (λ e. omega (arith, e, c .before .if1 .taken)))
+    let a = c .before .before .before .before .before .args in
+    refuses (a .t1) (a .tree .now) (a .ticket .now) (a .tape .now) (a .trace .now) refl (refused-1 (a .t1) (a .tree .now) (a .ticket .now) (a .tape .now) (a .trace .now) (λ e. omega (arith, e, c .if1 .taken)))
 
 -- src/lib.rt:35:9
-head-fits-requires : tie.Need-head-fits-requires
+head-fits-requires :
+    tie.Need-head-fits-requires Inv-loop μ-loop Inv-loop2 μ-loop2 Inv-loop3 μ-loop3
 head-fits-requires c κs = search needs
 
 -- src/lib.rt:42:9
-refused-requires-2 : tie.Need-refused-requires-2
-refused-requires-2 c κs = search needs
-
--- src/lib.rt:42:9
-returns-2 : tie.Need-returns-2
+returns-2 : tie.Need-returns-2 Inv-loop μ-loop Inv-loop2 μ-loop2 Inv-loop3 μ-loop3
 returns-2 c =
-    let a = c .before .before .before .before .before .before .before .before .before .before .args in
-    refuses (a .state) (a .tree .now) (a .ticket .now) (a .tape .now) (a .trace .now) (c .refused2 .ensures)
-    (refused-2 (a .state) (a .tree .now) (a .ticket .now) (a .tape .now) (a .trace .now) (omega (arith, c .before .before .before .before .if1 .left))
-    (unfit-head (a .state) (sym (c .before .before .head-fits .ensures) ∙ not-true (c .before .before .head-fits .result) (c .before .if2 .taken))))
+    let a = c .before .before .before .before .before .before .before .before .args in
+    refuses (a .t1) (a .tree .now) (a .ticket .now) (a .tape .now) (a .trace .now) refl (refused-2 (a .t1) (a .tree .now) (a .ticket .now) (a .tape .now) (a .trace .now) (omega (arith, c .before .before .before .if1 .left)) (unfit-head (a .t1) (sym (c .before .head-fits .ensures) ∙ not-true (c .before .head-fits .result) (c .if2 .taken))))
 
--- src/lib.rt:45:21
-cast-load : tie.Need-cast-load
-cast-load c = search needs
+-- src/lib.rt:48:16
+cast-size : tie.Need-cast-size Inv-loop μ-loop Inv-loop2 μ-loop2 Inv-loop3 μ-loop3
+cast-size c = search needs
 
--- src/lib.rt:45:9
-load-requires : tie.Need-load-requires
-load-requires c κs =
-    let s = c .before .before .before .before .before .before .before .before .before .before .before .args .state in
-    let h = head-true (s .structure) (s .size) (s .entries) (s .count) (s .root) (sym (c .before .before .before .head-fits .ensures) ∙ not-false (c .before .before .before .head-fits .result) (c .before .before .if2 .left)) in
-    (refl, (omega (arith, h .sizes), (refl, omega (arith, h .waiting))))
+-- src/lib.rt:49:13
+cast-n : tie.Need-cast-n Inv-loop μ-loop Inv-loop2 μ-loop2 Inv-loop3 μ-loop3
+cast-n c = search needs
 
--- src/lib.rt:46:9
-refused-requires-3 : tie.Need-refused-requires-3
-refused-requires-3 c κs = search needs
+-- src/lib.rt:53:5
+loop-holds : tie.Need-loop-holds Inv-loop μ-loop Inv-loop2 μ-loop2 Inv-loop3 μ-loop3
+loop-holds c = (looked-none (c .before .before .before .before .before .before .before .before .args .t1) _ refl, omega arith)
 
--- src/lib.rt:46:9
-returns-3 : tie.Need-returns-3
+-- src/lib.rt:54:17
+mul-p : tie.Need-mul-p Inv-loop μ-loop Inv-loop2 μ-loop2 Inv-loop3 μ-loop3
+mul-p c = search needs
+
+-- src/lib.rt:54:17
+element-copy-out-p :
+    tie.Need-element-copy-out-p Inv-loop μ-loop Inv-loop2 μ-loop2 Inv-loop3 μ-loop3
+element-copy-out-p c = search needs
+
+-- src/lib.rt:55:13
+used-fits-requires :
+    tie.Need-used-fits-requires Inv-loop μ-loop Inv-loop2 μ-loop2 Inv-loop3 μ-loop3
+used-fits-requires c κs = bounds (c .before .before .before) .0
+
+-- src/lib.rt:56:13
+returns-3 : tie.Need-returns-3 Inv-loop μ-loop Inv-loop2 μ-loop2 Inv-loop3 μ-loop3
 returns-3 c =
-    let a = c .before .before .before .before .before .before .before .before .before .before .before .before .before .before .args in
-    let load = c .before .before .load in
-    refuses (a .state) (a .tree .now) (a .ticket .now) (a .tape .now) (a .trace .now) (c .refused3 .ensures)
-    (refused-2 (a .state) (a .tree .now) (a .ticket .now) (a .tape .now) (a .trace .now) (omega (arith, c .before .before .before .before .before .before .before .before .if1 .left))
-    (fit-by-places (a .state) (sym (c .before .before .before .before .before .before .head-fits .ensures) ∙ not-false (c .before .before .before .before .before .before .head-fits .result) (c .before .before .before .before .before .if2 .left)) (load .ensures .0) ∙ not-true (load .result) (c .before .if3 .taken)))
+    let l = c .before .before .before .before .loop in
+    let u = c .before .used-fits in
+    unfit (c .before .before .before .before .before) (used-unfit (c .before .before .before .before .before .before .before .before .before .before .before .before .before .args .t1) (l .i) (l .least) (l .w) (l .inv .0) (c .before .before .before .loop-test .taken) (sym (u .ensures) ∙ not-true (u .result) (c .if3 .taken)))
 
--- src/lib.rt:55:9
-call-words-requires : tie.Need-call-words-requires
-call-words-requires c κs = record { state = _; for = stand (c .before .before .before) }
+-- src/lib.rt:63:24
+words-of-requires : tie.Need-words-of-requires Inv-loop μ-loop Inv-loop2 μ-loop2 Inv-loop3 μ-loop3
+words-of-requires c κs = search needs
 
--- src/lib.rt:58:9
-same-length : tie.Need-same-length
-same-length c = search needs
+-- src/lib.rt:63:9
+put-requires : tie.Need-put-requires Inv-loop μ-loop Inv-loop2 μ-loop2 Inv-loop3 μ-loop3
+put-requires c κs = search needs
 
--- src/lib.rt:58:9
-same-length-2 : tie.Need-same-length-2
-same-length-2 c = search needs
+-- src/lib.rt:64:17
+cast-least : tie.Need-cast-least Inv-loop μ-loop Inv-loop2 μ-loop2 Inv-loop3 μ-loop3
+cast-least c = search needs
 
--- src/lib.rt:58:9
-returns-4 : tie.Need-returns-4
-returns-4 c =
-    let a = c .before .before .before .before .before .before .before .before .before .before .before .before .before .before .before .before .before .before .before .before .before .before .before .args in
-    let r = c .before .before .before .before .before .before .call-words in
-    kept (a .state) (a .tree .now) (a .ticket .now) (a .tape .now) (a .trace .now) (stand (c .before .before .before .before .before .before .before .before .before .before)) (r .result) (r .ensures) (not-true (r .result .ran) (c .if4 .taken))
+-- src/lib.rt:64:17
+add-least : tie.Need-add-least Inv-loop μ-loop Inv-loop2 μ-loop2 Inv-loop3 μ-loop3
+add-least c = search needs
 
 -- src/lib.rt:65:9
-save-requires : tie.Need-save-requires
-save-requires c κs = (stand (c .before .before .before .before .before .before .before .before .before .before .before .before) .fit, c .before .before .before .before .before .before .before .before .call-words .ensures .holds)
+add-i : tie.Need-add-i Inv-loop μ-loop Inv-loop2 μ-loop2 Inv-loop3 μ-loop3
+add-i c = search needs
 
--- src/lib.rt:28:1
-same-length-3 : tie.Need-same-length-3
+-- src/lib.rt:53:5
+loop-less : tie.Need-loop-less Inv-loop μ-loop Inv-loop2 μ-loop2 Inv-loop3 μ-loop3
+loop-less c = search needs
+
+-- src/lib.rt:53:5
+loop-again : tie.Need-loop-again Inv-loop μ-loop Inv-loop2 μ-loop2 Inv-loop3 μ-loop3
+loop-again c =
+    let l = c .before .before .before .before .before .before .before .before .before .loop in
+    let u = c .before .before .before .before .before .before .used-fits in
+    let n = c .before .before .words-of .ensures in
+    let p = c .before .put in (
+      used-more (c .before .before .before .before .before .before .before .before .before .before .before .before .before .before .before .before .before .before .args .t1) (l .i) (l .least) (l .w) (l .inv .0) (p .last .0) (c .before .before .before .before .before .before .before .before .loop-test .taken) (omega (arith, bounds (c .before .before .before .before .before .before .before .before .before .before) .1))
+          (sym (u .ensures) ∙ not-false (u .result) (c .before .before .before .before .before .if3 .left)) (n .0) (p .ensures .0 ∙ ap (set (slotsOf (l .w)) (l .i)) (n .1)) (p .ensures .1),
+      omega (arith, bounds (c .before .before .before .before .before .before .before .before .before .before) .1),
+    )
+
+-- src/lib.rt:67:5
+loop2-holds : tie.Need-loop2-holds Inv-loop μ-loop Inv-loop2 μ-loop2 Inv-loop3 μ-loop3
+loop2-holds c = (c .before .loop .inv .0, c .loop-test .left)
+
+-- src/lib.rt:68:17
+mul-q : tie.Need-mul-q Inv-loop μ-loop Inv-loop2 μ-loop2 Inv-loop3 μ-loop3
+mul-q c = search needs
+
+-- src/lib.rt:68:17
+element-copy-out-q :
+    tie.Need-element-copy-out-q Inv-loop μ-loop Inv-loop2 μ-loop2 Inv-loop3 μ-loop3
+element-copy-out-q c = search needs
+
+-- src/lib.rt:69:13
+zero-place-requires :
+    tie.Need-zero-place-requires Inv-loop μ-loop Inv-loop2 μ-loop2 Inv-loop3 μ-loop3
+zero-place-requires c κs = search needs
+
+-- src/lib.rt:70:13
+returns-4 : tie.Need-returns-4 Inv-loop μ-loop Inv-loop2 μ-loop2 Inv-loop3 μ-loop3
+returns-4 c =
+    let l = c .before .before .before .before .loop2 in
+    let m = c .before .before .before .before .before .before .loop in
+    let z = c .before .zero-place in
+    unfit (c .before .before .before .before .before .before .before) (unused-unfit (c .before .before .before .before .before .before .before .before .before .before .before .before .before .before .before .args .t1) (l .i) (m .least) (m .w) (l .inv .0) (l .inv .1) (omega (arith, c .before .before .before .loop2-test .taken)) (sym (z .ensures) ∙ not-true (z .result) (c .if4 .taken)))
+
+-- src/lib.rt:76:9
+add-i-2 : tie.Need-add-i-2 Inv-loop μ-loop Inv-loop2 μ-loop2 Inv-loop3 μ-loop3
+add-i-2 c = search needs
+
+-- src/lib.rt:67:5
+loop2-less : tie.Need-loop2-less Inv-loop μ-loop Inv-loop2 μ-loop2 Inv-loop3 μ-loop3
+loop2-less c = search needs
+
+-- src/lib.rt:67:5
+loop2-again : tie.Need-loop2-again Inv-loop μ-loop Inv-loop2 μ-loop2 Inv-loop3 μ-loop3
+loop2-again c =
+    let l = c .before .before .before .before .loop2 in
+    let m = c .before .before .before .before .before .before .loop in
+    let z = c .before .zero-place in
+    (unused-more (c .before .before .before .before .before .before .before .before .before .before .before .before .before .before .before .args .t1) (l .i) (m .least) (m .w) (l .inv .0) (l .inv .1) (omega (arith, c .before .before .before .loop2-test .taken)) (sym (z .ensures) ∙ not-false (z .result) (c .if4 .left)), omega arith)
+
+-- src/lib.rt:85:9
+call-words-requires :
+    tie.Need-call-words-requires Inv-loop μ-loop Inv-loop2 μ-loop2 Inv-loop3 μ-loop3
+call-words-requires c κs = record { state = _; for = stand (c .before .before .before) }
+
+-- src/lib.rt:88:9
+same-length : tie.Need-same-length Inv-loop μ-loop Inv-loop2 μ-loop2 Inv-loop3 μ-loop3
+same-length c = search needs
+
+-- src/lib.rt:88:9
+same-length-2 : tie.Need-same-length-2 Inv-loop μ-loop Inv-loop2 μ-loop2 Inv-loop3 μ-loop3
+same-length-2 c = search needs
+
+-- src/lib.rt:88:9
+returns-5 : tie.Need-returns-5 Inv-loop μ-loop Inv-loop2 μ-loop2 Inv-loop3 μ-loop3
+returns-5 c =
+    let a = c .before .before .before .before .before .before .before .before .before .before .before .before .before .before .before .before .before .before .before .before .before .before .args in
+    let r = c .before .before .before .before .before .before .call-words in
+    kept (a .t1) (a .tree .now) (a .ticket .now) (a .tape .now) (a .trace .now) (stand (c .before .before .before .before .before .before .before .before .before .before)) (r .result) (r .ensures) (not-true (r .result .ran) (c .if5 .taken))
+
+-- src/lib.rt:96:9
+no-place-requires : tie.Need-no-place-requires Inv-loop μ-loop Inv-loop2 μ-loop2 Inv-loop3 μ-loop3
+no-place-requires c κs = search needs
+
+-- src/lib.rt:97:9
+greater-requires : tie.Need-greater-requires Inv-loop μ-loop Inv-loop2 μ-loop2 Inv-loop3 μ-loop3
+greater-requires c κs = search needs
+
+-- src/lib.rt:100:5
+loop3-holds : tie.Need-loop3-holds Inv-loop μ-loop Inv-loop2 μ-loop2 Inv-loop3 μ-loop3
+loop3-holds c = (omega arith, refl)
+
+-- src/lib.rt:102:32
+get-requires : tie.Need-get-requires Inv-loop μ-loop Inv-loop2 μ-loop2 Inv-loop3 μ-loop3
+get-requires c κs = (c .before .before .before .before .before .before .before .before .before .before .before .before .before .call-words .ensures .holds .sized, in-places (c .before .before))
+
+-- src/lib.rt:102:17
+node-of-requires : tie.Need-node-of-requires Inv-loop μ-loop Inv-loop2 μ-loop2 Inv-loop3 μ-loop3
+node-of-requires c κs = search needs
+
+-- src/lib.rt:103:13
+mul-t67 : tie.Need-mul-t67 Inv-loop μ-loop Inv-loop2 μ-loop2 Inv-loop3 μ-loop3
+mul-t67 c = omega (arith, in-places (c .before .before .before .before))
+
+-- src/lib.rt:103:13
+element-set-from-left :
+    tie.Need-element-set-from-left Inv-loop μ-loop Inv-loop2 μ-loop2 Inv-loop3 μ-loop3
+element-set-from-left c = in-places (c .before .before .before .before)
+
+-- src/lib.rt:105:13
+mul-none : tie.Need-mul-none Inv-loop μ-loop Inv-loop2 μ-loop2 Inv-loop3 μ-loop3
+mul-none c = omega (arith, in-places (c .before))
+
+-- src/lib.rt:105:13
+element-set-from-none :
+    tie.Need-element-set-from-none Inv-loop μ-loop Inv-loop2 μ-loop2 Inv-loop3 μ-loop3
+element-set-from-none c = in-places (c .before)
+
+-- src/lib.rt:107:9
+add-j : tie.Need-add-j Inv-loop μ-loop Inv-loop2 μ-loop2 Inv-loop3 μ-loop3
+add-j c = search needs
+
+-- src/lib.rt:100:5
+loop3-less : tie.Need-loop3-less Inv-loop μ-loop Inv-loop2 μ-loop2 Inv-loop3 μ-loop3
+loop3-less c = search needs
+
+-- src/lib.rt:100:5
+loop3-again : tie.Need-loop3-again Inv-loop μ-loop Inv-loop2 μ-loop2 Inv-loop3 μ-loop3
+loop3-again c =
+    let r = c .before .before .before .before .before .before .before .before .before .before .before .before .call-words in
+    let st = stand (c .before .before .before .before .before .before .before .before .before .before .before .before .before .before .before .before) in
+    let s = c .before .before .before .before .before .before .before .before .before .before .before .before .before .before .before .before .before .before .before .before .before .before .before .before .before .before .before .before .args .t1 in
+    let l = c .before .before .loop3 in (
+      omega arith,
+      ⊎-elim
+          (λ w. w .4 ∙ saved-node (r .result .waiting) _ (r .ensures .holds) s (st .fit) (sized (c .before .before .before .before .before .before .before .before .before .before .before .before .before .before .before .before .before .before .before .before .before .before .before .before .before .before .before .before)) (l .j) (l .left) (w .2 .result) (w .3 .result) (w .0 .taken) (l .inv .1) (w .2 .ensures) (w .3 .ensures))
+          (λ w. w .1 ∙ saved-none (r .result .waiting) _ (r .ensures .holds) s (st .fit) (sized (c .before .before .before .before .before .before .before .before .before .before .before .before .before .before .before .before .before .before .before .before .before .before .before .before .before .before .before .before)) (l .j) (l .left) (c .before .before .before .before .no-place .result) (w .0 .left) (omega (arith, bounds (c .before .before .before .before .before .before .before .before .before .before .before .before .before .before .before .before .before .before .before .before) .1, r .ensures .holds .few)) (l .inv .1) (c .before .before .before .before .no-place .ensures))
+          (c .if6 .came),
+    )
+
+-- src/lib.rt:112:18
+cast-left : tie.Need-cast-left Inv-loop μ-loop Inv-loop2 μ-loop2 Inv-loop3 μ-loop3
+cast-left c = search needs
+
+-- src/lib.rt:24:1
+same-length-3 : tie.Need-same-length-3 Inv-loop μ-loop Inv-loop2 μ-loop2 Inv-loop3 μ-loop3
 same-length-3 c = search needs
 
--- src/lib.rt:28:1
-same-length-4 : tie.Need-same-length-4
+-- src/lib.rt:24:1
+same-length-4 : tie.Need-same-length-4 Inv-loop μ-loop Inv-loop2 μ-loop2 Inv-loop3 μ-loop3
 same-length-4 c = search needs
 
--- src/lib.rt:28:1
-returns-5 : tie.Need-returns-5
-returns-5 c =
-    let a = c .before .before .before .before .before .before .before .before .before .before .before .before .before .before .before .before .before .before .before .before .before .before .before .before .before .before .args in
-    let r = c .before .before .before .before .before .before .before .before .before .call-words in
-    changed (a .state) (a .tree .now) (a .ticket .now) (a .tape .now) (a .trace .now) (stand (c .before .before .before .before .before .before .before .before .before .before .before .before .before)) (r .result) (r .ensures) (not-false (r .result .ran) (c .before .before .before .if4 .left)) (c .save .ensures)
+-- src/lib.rt:24:1
+returns-6 : tie.Need-returns-6 Inv-loop μ-loop Inv-loop2 μ-loop2 Inv-loop3 μ-loop3
+returns-6 c =
+    let a = c .before .before .before .before .before .before .before .before .before .before .before .before .before .before .before .before .before .before .before .before .before .before .before .before .before .before .before .args in
+    let r = c .before .before .before .before .before .before .before .before .before .before .before .call-words in
+    let st = stand (c .before .before .before .before .before .before .before .before .before .before .before .before .before .before .before) in
+    let l = c .before .loop3 in
+    changed (a .t1) (a .tree .now) (a .ticket .now) (a .tape .now) (a .trace .now) st (r .result) (r .ensures) (not-false (r .result .ran) (c .before .before .before .before .before .if5 .left))
+    (saved-all (r .result .waiting) _ (r .ensures .holds) (a .t1) (st .fit) (sized (c .before .before .before .before .before .before .before .before .before .before .before .before .before .before .before .before .before .before .before .before .before .before .before .before .before .before .before)) (l .j) (l .left) (r .result .mark) (r .result .entries) (r .result .root) (l .inv .1)
+    (omega arith) (omega (arith, c .before .before .greater .ensures)) (omega (arith, bounds (c .before .before .before .before .before .before .before .before .before .before .before .before .before .before .before .before .before .before .before) .1, r .ensures .holds .few)))
 
 pub call-spec : {M : Type 1} → statement M
 call-spec =
     tie.close
     (tie.spec
-    refused-requires
+    Inv-loop
+    μ-loop
+    Inv-loop2
+    μ-loop2
+    Inv-loop3
+    μ-loop3
     returns
     head-fits-requires
-    refused-requires-2
     returns-2
-    cast-load
-    load-requires
-    refused-requires-3
+    cast-size
+    cast-n
+    loop-holds
+    mul-p
+    element-copy-out-p
+    used-fits-requires
     returns-3
+    words-of-requires
+    put-requires
+    cast-least
+    add-least
+    add-i
+    loop-less
+    loop-again
+    loop2-holds
+    mul-q
+    element-copy-out-q
+    zero-place-requires
+    returns-4
+    add-i-2
+    loop2-less
+    loop2-again
     call-words-requires
     same-length
     same-length-2
-    returns-4
-    save-requires
+    returns-5
+    no-place-requires
+    greater-requires
+    loop3-holds
+    get-requires
+    node-of-requires
+    mul-t67
+    element-set-from-left
+    mul-none
+    element-set-from-none
+    add-j
+    loop3-less
+    loop3-again
+    cast-left
     same-length-3
     same-length-4
-    returns-5)
+    returns-6)

@@ -3,3 +3,4 @@ pub mod RowLaws
 pub mod Heights
 pub mod Held
 pub mod HeldLaws
+pub mod Examples

@@ -1,15 +1,13 @@
 -- One fetch round that wants a node after another.
 use mathlib.Core.Path.{_≡_, refl, sym, _∙_, ap, ap₂, subst}
 use mathlib.Core.Bool.{Bool, true, false}
-use mathlib.Core.Logic.{_⊎_, inl, inr}
-use mathlib.Core.List.{List, [], _∷_, _++_, map, map-append, append-nil, List·Memᴰ}
+use mathlib.Core.List.{List, [], _∷_, _++_, map, map-append, append-nil}
 use mathlib.Core.Option.{Option, none, some}
-use Prim.Native.Nat.{ℕ, zero, suc, _+_, _-_, _*_, _^_, _≤_, _<_}
+use Prim.Native.Nat.{ℕ, zero, suc, _+_, _-_, _^_, _≤_, _<_}
 use native.Mathlib.Nat.{add-zero, zero-add}
 use native.Mathlib.Numerals.{add-one}
 use native.Mathlib.Omega.{arith}
-use lib.Dec.{eqb}
-use lib.ListN.{length, take, drop, set, length-set, length-map, length-take, length-append}
+use lib.ListN.{length, take, drop, set, length-set, length-take}
 use lib.Seq.{take-suc-set, drop-set-lt, drop-drop}
 use Rattle.basics.specs.Choice.{pick}
 use Rattle.basics.specs.Distinct.{All}
@@ -31,26 +29,23 @@ use Rattle.calls.specs.Call.{putRounds}
 use Rattle.round_laws.specs.Whole.{IsTree}
 use Rattle.calls.specs.Fetch as fetch
 use Rattle.calls.specs.Fetch.{Going, heldKeys, tooMany, revealing, written, Round, on, shut, atClose, idleRound, wantRound, fetchRound, fetchRounds}
-use Rattle.leaf_laws.specs.Proper.{ProperLeaf, leaves-lawful}
+use Rattle.leaf_laws.specs.Proper.{ProperLeaf}
 use Rattle.closing.specs.Yields.{Yields, asks}
 use Rattle.closing.specs.Given.{Given, AskedFrom}
-use Rattle.closing.specs.Sound.{nodesIn, total, Sound, After, goes, closes}
-use Rattle.closing.specs.Fetching.{Fetching}
-use Rattle.closing.specs.Ends.{highest, FitStore, entriesBefore, keyOf}
-use Rattle.closing.specs.Changes.{valueIn, Answers, Yielded}
+use Rattle.closing.specs.Sound.{total, goes}
+use Rattle.closing.specs.Ends.{highest}
 use Rattle.closing.specs.Lost.{FetchEnds, fetch-rounds, never-left-wanting}
 use Rattle.phases.specs.Splits.{goesOn, fetches-none, fetches-next, fetches-split}
 use Rattle.idle_rounds.specs.Idle.{Between, keysHeld}
 use Rattle.idle_rounds.specs.IdleLaws.{put-none, put-goes, put-shuts, goes-on, stops-here, between-ready}
 use Rattle.phases.specs.declared.wanting.Job.{Job}
-use Rattle.phases.specs.declared.wanting.Fetched.{Fetched}
-use Rattle.phases.specs.Wanting.{heldBy, structureIn, programOf, storeAt, fetched, Begins, Walked, Walks, Fetches}
+use Rattle.phases.specs.Wanting.{heldBy, structureIn, programOf, storeAt, fetched, Begins, Walked, Fetches}
 use Rattle.operations.specs.declared.Want as code
 use Rattle.slots.specs.declared.Node as node
 use Rattle.leaf_nodes.specs.Convert.{toLink, toNode}
 use Rattle.operations.specs.Method.{toFrom, toOp, toWant, wantedIn}
 use Rattle.node_rows.specs.Row.{places, fetches, fromIn, fromsIn}
-use Rattle.node_rows.specs.Held.{Held, HeldFrom, nodesOf}
+use Rattle.node_rows.specs.Held.{Held, nodesOf}
 use Rattle.node_rows.specs.Heights.{Low, Lows}
 use Rattle.node_rows.specs.HeldLaws.{first-length, first-more, held-more}
 use Rattle.map_nodes.specs.HeightLaws.{lows-append}
@@ -59,7 +54,7 @@ use Rattle.state.specs.FetchingLaws.{rounds-most}
 use Rattle.steps.specs.WantLaws.{wanted-low, tested-low}
 use Rattle.waiting.specs.WaitingLaws.{waiting-length}
 use Rattle.call_rounds.specs.declared.Took.{Took}
-use Rattle.call_rounds.specs.OneRound.{going, endedWith, Ready, Rests, heldToo, takenAs, Wanted}
+use Rattle.call_rounds.specs.OneRound.{going, endedWith, Ready, heldToo, takenAs, Wanted}
 
 -- ---- programs after some nodes
 module _ {A : Type 0} where
@@ -220,11 +215,11 @@ module _ (j : Job) (draw : ℕ → ℕ) (is-leaf : (d : ℕ) → draw d < 2 ^ j 
   pub walked-counted : length (nodesOf h) ≡ h .count
   walked-counted = first-length toNode (h .nodes) (h .count) (omega (arith, inv .row-sized, walked-few))
 
-  pub walked-paired : length (fromsIn (h .count) froms) ≡ length (nodesOf h)
+  walked-paired : length (fromsIn (h .count) froms) ≡ length (nodesOf h)
   walked-paired = froms-length ∙ sym walked-counted
 
   held-count : length (heldBy h froms) ≡ h .count
-  held-count = held-length (fromsIn (h .count) froms) (nodesOf h) (froms-length ∙ sym walked-counted) ∙ walked-counted
+  held-count = held-length (fromsIn (h .count) froms) (nodesOf h) walked-paired ∙ walked-counted
 
   pub walked-between : Between (j .size) m words scratch tree (take (h .count) keys)
   walked-between =
@@ -237,9 +232,6 @@ module _ (j : Job) (draw : ℕ → ℕ) (is-leaf : (d : ℕ) → draw d < 2 ^ j 
         proper = t .proper;
         few = omega (arith, t .few, held-count, a, waiting-length (inv .rests .holds));
       }
-
-  pub walked-held : HeldFrom 100 h 0
-  walked-held = record { places = inv .row-sized; few = walked-few; within = omega arith; low = inv .low }
 
   module _ (want : code.Want) (asked : wantedIn (after (programOf j) (nodesOf h)) ≡ some (toWant want)) where
     there : Wants (after (programOf j) (nodesOf h)) (toWant want)

@@ -15,8 +15,7 @@ use Rattle.slots.specs.declared.Link.{Link}
 use Rattle.slots.specs.declared.Node as node
 use Rattle.method.specs.Node.{Node}
 use Rattle.rounds.specs.Round.{limit}
-use Rattle.leaf_nodes.specs.Convert.{fromNode, fromLink}
-use Rattle.calls.specs.Fetch.{Left}
+use Rattle.leaf_nodes.specs.Convert.{fromNode}
 use Rattle.slots.specs.Row.{slotsOf, zeroSlot}
 use Rattle.waiting.specs.Waiting.{nodeIn, waitingIn, Holds}
 use Rattle.waiting.specs.WaitingLaws.{waiting-length}
@@ -24,7 +23,7 @@ use Rattle.state.specs.declared.Place.{Place}
 use Rattle.state.specs.declared.State.{State}
 use Rattle.state.specs.Fit.{largestStructure, largestSize, inRange, zeroLink, zeroNode, zeroPlace, allOf, placeGood, keysIn, places, noPlace, placesFrom, used, unused, placesFit, fits}
 use Rattle.basics.specs.Ascending.{ascending}
-use Rattle.store.specs.Store.{placed, stateLeft}
+use Rattle.store.specs.Store.{placed}
 use Rattle.stash.specs.Stash.{saved}
 
 -- ---- the unused places of a fit state
@@ -187,7 +186,3 @@ module _ (n : ℕ) (words : List ℕ) (h : Holds n words) where
         → _≡_ {A = State} (record { mark = mark; structure = after .structure; size = after .size; entries = entries; root = root; count = n; places = after .places })
         (saved (s .structure) (s .size) mark entries root nodes)
     saved-all i after mark entries root e a b few = rw (e, nothing-left i a b few, waiting-length h)
-
--- What is saved is the state that a call leaves.
-pub saved-left : (s : State) (l : Left) → stateLeft s l ≡ saved (s .structure) (s .size) (l .mark) (l .entries) (fromLink (l .root)) (l .waiting)
-saved-left s l = refl

@@ -1,11 +1,11 @@
 -- One more node at a time: loaded, joined.
 use mathlib.Core.Path.{_≡_, refl, sym, _∙_, ap}
 use mathlib.Core.List.{List, [], _∷_, _++_, map, map-append}
-use Prim.Native.Nat.{ℕ, zero, suc, _+_, _-_, _≤_, _<_}
+use Prim.Native.Nat.{ℕ, zero, suc, _+_, _<_}
 use native.Mathlib.Numerals.{add-one}
 use native.Mathlib.Omega.{arith}
-use lib.ListN.{length, take, getD, set, length-map}
-use lib.Seq.{take-suc, take-suc-set, length-take-le}
+use lib.ListN.{length, take, getD, set}
+use lib.Seq.{take-suc, take-suc-set}
 use Rattle.basics.specs.PermLaws.{perm-sym}
 use Rattle.basics.specs.Distinct.{All}
 use Rattle.basics.specs.DistinctLaws.{all-nil, all-cons, all-append, all-perm}
@@ -21,7 +21,7 @@ use Rattle.leaf_nodes.specs.Leaf.{leafFormat}
 use Rattle.buckets.specs.Words.{places, wordCount}
 use Rattle.slots.specs.Row.{slotsOf}
 use Rattle.buckets.specs.WordsLaws.{slots-count}
-use Rattle.waiting.specs.Waiting.{wordsFor, nodeIn, InWidths, waitingIn, Holds}
+use Rattle.waiting.specs.Waiting.{wordsFor, InWidths, waitingIn, Holds}
 use Rattle.waiting.specs.WaitingLaws.{waiting-are, holds-them, insert-words}
 use Rattle.state.specs.declared.Place.{Place}
 use Rattle.state.specs.declared.State.{State}
@@ -29,11 +29,6 @@ use Rattle.state.specs.Fit.{placesFrom, noPlace}
 use Rattle.stash.specs.Stash.{Loaded, NodesJoined}
 
 -- ---- the first n slots
-pub waiting-count : (n : ℕ) (words : List ℕ) → length words ≡ wordCount → n ≤ places → length (waitingIn n words) ≡ n
-waiting-count n words sized few =
-    let c = slots-count words sized in
-    length-map (take n (slotsOf words)) nodeIn ∙ length-take-le n (slotsOf words) (omega arith)
-
 pub holds-none : (words : List ℕ) → length words ≡ wordCount → Holds 0 words
 holds-none words sized = holds-them 0 words [] (all-nil InWidths) refl sized (omega arith)
 

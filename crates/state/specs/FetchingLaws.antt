@@ -9,7 +9,7 @@ use Rattle.balance.specs.GreatestLaws.{greatest-mono}
 use Rattle.method.specs.Answer.{Structure, map, stack}
 use Rattle.method.specs.Rounds.{rounds, spare}
 use Rattle.state.specs.Fit.{largestSize}
-use Rattle.state.specs.Fetching.{mostRounds, mostSpare}
+use Rattle.state.specs.Fetching.{mostRounds}
 
 greatest-eight : greatest 8 ≡ 11
 unfolding least shaped tallest greatest
@@ -27,11 +27,6 @@ rounds-map k = refl
 pub rounds-stack : (k : ℕ) → rounds stack k ≡ 1
 unfolding rounds
 rounds-stack k = refl
-
-pub spare-most : (st : Structure) → spare st ≤ mostSpare
-unfolding spare
-spare-most map = omega arith
-spare-most stack = omega arith
 
 pub spare-map : spare map ≡ 1
 unfolding spare

@@ -4,7 +4,7 @@ use Prim.Native.Nat.{ℕ, _*_, _≤_, _<_}
 use mathlib.Core.Path.{_≡_}
 use mathlib.Core.Bool.{true}
 use mathlib.Core.Logic.{_↔_, _⊎_}
-use mathlib.Core.List.{List, [], _++_, map}
+use mathlib.Core.List.{List, [], _∷_, _++_, map}
 use mathlib.Core.Option.{none, some}
 use lib.ListN.{length, getD}
 use Rattle.basics.specs.Perm.{Perm}
@@ -16,10 +16,11 @@ use Rattle.slots.specs.Slot.{encode, wellFormed, readSlot}
 use Rattle.slots.specs.declared.Node as slot
 use Rattle.slots.specs.declared.Reading.the-variants.{Full}
 use Rattle.method.specs.Answer.{Structure, Op}
-use Rattle.method.specs.Plain.{plainAnswers, nothing}
+use Rattle.method.specs.Plain.{Contents, plain, plainContents, plainAnswers, nothing}
 use Rattle.method.specs.Node.{Node}
-use Rattle.method.specs.Call.{capacity, Ran}
-use Rattle.simulation.specs.Relation.{Simulates}
+use Rattle.method.specs.Call.{capacity, Memory, call, Ran}
+use Rattle.simulation.specs.Relation.{Simulates, Remains}
+use Rattle.simulation.specs.Entries.{entriesOf}
 use Rattle.state.specs.Fit.{fits}
 use Rattle.method.specs.Rounds.{rounds}
 use Rattle.method.specs.Origin as origin
@@ -38,7 +39,7 @@ use Rattle.store.specs.declared.Reply.the-variants.{Refused}
 use Rattle.store.specs.Store.{Ended, called, refusing, storeOf, replyOf}
 use Rattle.fit_stores.specs.Widths.{Widths}
 use Rattle.leaf_laws.specs.Entries.{pairOf}
-use Rattle.demands.specs.History.{Brought, Kept, history, finally, counted, replies, traceOf, opsIn, tapesOf, pairsIn, numberOf}
+use Rattle.demands.specs.History.{Brought, Kept, callOn, history, finally, untilClosed, counted, replies, traceOf, opsIn, tapesOf, pairsIn, numberOf}
 
 -- ---- demand 1: any state, tree, ticket, tape and trace buffer
 module _ (s : State) (tree ticket tape trace : List ℕ) where
@@ -108,18 +109,45 @@ module _ (st : Structure) (k : ℕ) (s : Kept) (bs : List Brought) where
     pub kept : Simulates k (storeOf (finally s bs .state) (finally s bs .tree)) (method .memory)
     pub fit : fits (finally s bs .state) ≡ true
 
+-- A call closed a store that keeps the memory m and the contents t: it met 9, revealed the first part of what the method's call reveals,
+-- and left, as pairs of a key and a value, t where a fetch round closed the store, and t after the plain machine's call where a put round
+-- did: see `Remains`.
+pub record ClosedBy (st : Structure) (k : ℕ) (s : Kept) (m : Memory ℕ) (t : Contents st) (b : Brought) : Type 0 where
+  pub op : Op st
+  pub asks : opIn st (b .ticket) ≡ some op
+  pub overflow : callOn s b .reply ≡ Refused 9
+  pub rest : List ℕ
+  pub reveals : call 0 (rounds st k) (capacity k) op (drawOf k (b .tape)) m .revealed ≡ traceOf (callOn s b ∷ []) ++ rest
+  pub contents : Remains (entriesOf st t) (entriesOf st (plain (capacity k) op t .contents)) (pairsIn (callOn s b .state) (callOn s b .tree))
+      (fetching (s .state) (s .tree) (b .ticket) (b .tape) (b .trace) st op)
+
 module _ (st : Structure) (k : ℕ) (tree : List ℕ) (bs : List Brought) where
   abbrev pub start : Kept
   start = openedStore st k tree
 
-  -- Until it closes every answer is the plain machine's, and no call meets 2, 3 or 8.
+  -- The calls before the one that closed the store, the tickets of those that count, and the store that they left.
+  abbrev pub before : List Brought
+  before = untilClosed start bs
+
+  abbrev pub asked : List (Op st)
+  asked = opsIn st (counted start before)
+
+  abbrev pub left : Kept
+  left = finally start before
+
+  -- How the list ends: no call closed the store, or the one after those before it did. The calls after that one are refused with 1 (demand 1).
+  pub data Ending : Type 0 where
+    stays-open : before ≡ bs → finally start bs .state .mark ≡ 0 → Ending
+    closes : (b : Brought) (after : List Brought) → bs ≡ before ++ (b ∷ after) → finally start bs .state .mark ≡ 9
+        → ClosedBy st k left (method st k start before .memory) (plainContents (capacity k) asked (nothing st)) b → Ending
+
   pub record Demand2 : Type 0 where
     pub slots : RoundTrip k
-    pub answers : finally start bs .state .mark ≡ 0
-        → replies (history start bs) ≡ map replyOf (plainAnswers (capacity k) (opsIn st (counted start bs)) (nothing st))
-    -- State, tree and trace are those of the method: see `Follows`.
-    pub follows : finally start bs .state .mark ≡ 0 → Follows st k start bs
-    pub marks : (finally start bs .state .mark ≡ 0) ⊎ (finally start bs .state .mark ≡ 9)
+    -- Until the store closes every answer is the plain machine's, and trace, state and tree are those of the method: see `Follows`.
+    pub answers : replies (history start before) ≡ map replyOf (plainAnswers (capacity k) asked (nothing st))
+    pub follows : Follows st k start before
+    pub ends : Ending
+    -- No call meets 2, 3 or 8.
     pub never : (i : ℕ) → i < length bs → (n : ℕ) → getD (map (λ (e : Ended). e .reply) (history start bs)) i (Refused 0) ≡ Refused n
         → (n ≡ 2 → ⊥) × ((n ≡ 3 → ⊥) × (n ≡ 8 → ⊥))
 

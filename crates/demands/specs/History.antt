@@ -3,7 +3,7 @@ use Prim.Native.Nat.{ℕ}
 use mathlib.Core.Bool.{Bool, false}
 use mathlib.Core.List.{List, [], _∷_, _++_, map}
 use mathlib.Core.Option.{none, some}
-use lib.Dec.{leb}
+use lib.Dec.{eqb, leb}
 use lib.ListN.{take}
 use Rattle.leaf_laws.specs.Entries.{pairOf}
 use Rattle.basics.specs.Choice.{pick}
@@ -46,6 +46,11 @@ history s (b ∷ bs) = callOn s b ∷ history (leftBy (callOn s b)) bs
 unfoldable pub finally : Kept → List Brought → Kept
 finally s [] = s
 finally s (b ∷ bs) = finally (leftBy (callOn s b)) bs
+
+-- The calls before the one that closed the store: all of them, where none did.
+unfoldable pub untilClosed : Kept → List Brought → List Brought
+untilClosed s [] = []
+untilClosed s (b ∷ bs) = pick (eqb (callOn s b .state .mark) 0) (b ∷ untilClosed (leftBy (callOn s b)) bs) []
 
 -- A reply with one of the numbers 1 to 7.
 unfoldable pub early : Reply → Bool

@@ -62,7 +62,7 @@ rounds-late l (closes (inl m) e) = rw (m, e)
 rounds-late l (closes (inr m) e) = rw (m, e)
 rounds-late l (answers a m e) = rw e (answer-late a)
 
-first-part : {A : Type 0} (xs ys : List A) → take (length xs) (xs ++ ys) ≡ xs
+pub first-part : {A : Type 0} (xs ys : List A) → take (length xs) (xs ++ ys) ≡ xs
 first-part [] ys = refl
 first-part {A} (x ∷ xs) ys = ap {B = List A} (λ zs. x ∷ zs) (first-part xs ys)
 

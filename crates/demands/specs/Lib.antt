@@ -12,4 +12,6 @@ pub mod SoundReplies
 pub mod ListSteps
 pub mod ListRuns
 pub mod OpenedRuns
+pub mod UntilClosed
 pub mod Proved
+pub mod Examples

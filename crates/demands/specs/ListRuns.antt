@@ -18,7 +18,7 @@ use Rattle.method.specs.Rounds.{rounds}
 use Rattle.method.specs.Call.{capacity, Memory, Called, call}
 use Rattle.theorems.specs.Represented.{Held}
 use Rattle.calls.specs.Fetch.{Left}
-use Rattle.calls.specs.Call.{Store, drawOf, bucketCall}
+use Rattle.calls.specs.Call.{Store, drawOf, fetchedBy, bucketCall}
 use Rattle.leaf_laws.specs.Entries.{OpFits}
 use Rattle.simulation.specs.ProperCall.{call-held}
 use Rattle.simulation.specs.Relation.{Simulates, Matches, Overflowed}
@@ -227,7 +227,8 @@ module _ (st : Structure) (k : ℕ) where
             r : Called ℕ
             r = call 0 (rounds st k) (capacity k) op (drawOf k (b .tape)) m
 
-            which : Overflowed k m (leaving st k s b op) r ⊎ Matches k (leaving st k s b op) r → ListRuns s (b ∷ bs)
+            which : Overflowed k m (fetchedBy k (rounds st k) op (drawOf k (b .tape)) s) (leaving st k s b op) r ⊎ Matches k (leaving st k s b op) r
+                → ListRuns s (b ∷ bs)
             which (inl x) = after-overflow s b bs op asks fits e (x .mark)
             which (inr x) =
                 after-match s b bs op asks fits e (x .mark)

@@ -39,7 +39,7 @@ use Rattle.demands.specs.OpenStates.{placed-back}
 use Rattle.demands.specs.Demands.{NoneLost}
 
 -- The pairs of the state that a call leaves are those of the nodes that it left waiting and in the tree.
-pairs-left : (s : State) (l : Left) → pairsIn (stateLeft s l) (l .tree) ≡ entriesLeft (s .size) l
+pub pairs-left : (s : State) (l : Left) → pairsIn (stateLeft s l) (l .tree) ≡ entriesLeft (s .size) l
 pairs-left s l =
     ap (λ (ws : List (Node ℕ)). map pairOf (contents leafFormat (s .size) (l .tree) ++ ws)) (placed-back (l .waiting))
 

@@ -4,28 +4,29 @@ use Prim.Native.Nat.{ℕ, _+_, _-_, _*_, _≤_}
 use mathlib.Core.Path.{_≡_, sym, _∙_, ap, subst⁻¹}
 use mathlib.Core.Bool.{true}
 use mathlib.Core.Logic.{inl, inr}
-use mathlib.Core.List.{List, [], _++_, map, append-nil}
+use mathlib.Core.List.{List, [], _++_, map, map-map, append-nil}
+use mathlib.Core.Option.{some}
 use native.Mathlib.Omega.{arith}
 use lib.ListN.{length, getD, length-map, List·getD-map}
 use Rattle.basics.specs.Distinct.{All}
 use Rattle.slots.specs.Tree.{treeLength}
 use Rattle.slots.specs.LittleEndianLaws.{Bytes}
 use Rattle.method.specs.Answer.{Structure, Op}
-use Rattle.method.specs.Plain.{nothing}
+use Rattle.method.specs.Plain.{plainContents, plainAnswers, nothing}
 use Rattle.method.specs.Rounds.{rounds}
 use Rattle.method.specs.Call.{capacity, emptyMemory}
 use Rattle.method.specs.Origin as origin
 use Rattle.method.specs.Origin.{drawn, names, leafOf, leafRun}
-use Rattle.theorems.specs.Represented.{held-empty}
+use Rattle.theorems.specs.Represented.{Held, held-empty}
 use Rattle.theorems.specs.Theorems.{names-counted, held}
 use Rattle.calls.specs.Call.{Store, drawOf}
 use Rattle.simulation.specs.Relation.{emptyStore, Simulates}
 use Rattle.simulation.specs.CallSim.{simulate-start}
 use Rattle.simulation.specs.BucketRun.{BucketRan}
-use Rattle.simulation.specs.ListSim.{tapeRun, leaves-named, RunSimulates, tapes-simulate}
+use Rattle.simulation.specs.ListSim.{tapeRun, answers-plain, leaves-named, RunMatches, RunSimulates, tapes-simulate}
 use Rattle.state.specs.Fit.{fits}
-use Rattle.store.specs.Store.{storeOf}
-use Rattle.demands.specs.History.{Brought, Kept, history, finally, counted, traceOf, opsIn, tapesOf}
+use Rattle.store.specs.Store.{replied, replyOf, storeOf}
+use Rattle.demands.specs.History.{Brought, Kept, history, finally, counted, replies, traceOf, opsIn, tapesOf}
 use Rattle.demands.specs.Demands.{openedStore, method, Follows, namesFor, leafAt}
 use Rattle.demands.specs.OpenStates.{keptOf, store-back}
 use Rattle.demands.specs.FitKept.{state-fits}
@@ -71,6 +72,14 @@ module _ (st : Structure) (k : ℕ) (positive : 1 ≤ k) (small : k ≤ 8) (tree
   runs : Runs st k ran (history start bs) (finally start bs)
   runs = opened-runs .1
 
+  -- The answers are the plain machine's.
+  pub answered : finally start bs .state .mark ≡ 0 → replies (history start bs) ≡ map replyOf (plainAnswers (capacity k) ops (nothing st))
+  unfolding replied
+  answered m =
+      runs .answers
+      ∙ ap (map (replied 9)) (answers-plain k positive (omega arith) tapes ops (opened-runs .0 .fit) (sym (runs .mark) ∙ m))
+      ∙ map-map (replied 9) some (plainAnswers (capacity k) ops (nothing st))
+
   -- The trace is the leaves of the named draws.
   pub trace-named : finally start bs .state .mark ≡ 0 → traceOf (history start bs) ≡ map (leafOf k tapes) (names (rounds st k) k ops)
   trace-named m =
@@ -80,28 +89,34 @@ module _ (st : Structure) (k : ℕ) (positive : 1 ≤ k) (small : k ≤ 8) (tree
 
   -- ---- the method's definition
 
-  -- Until it closes, the list follows the method.
-  pub follows : finally start bs .state .mark ≡ 0 → Follows st k start bs
+  -- The method's memory holds what the plain machine holds.
+  pub method-held : Held 0 st (capacity k) (plainContents (capacity k) ops (nothing st)) (method st k start bs .memory)
   unfolding leafRun
-  follows m = go (tapes-simulate k positive (omega arith) tapes ops (opened-runs .0 .fit))
-    where
-      open-mark : ran .mark ≡ 0
-      open-mark = sym (runs .mark) ∙ m
+  method-held = held 0 k (λ c d. leafOf k tapes (drawn c d)) ops
 
-      go : RunSimulates k ran (method st k start bs) → Follows st k start bs
-      go (inl x) = absurd (not-both open-mark (x .mark))
-      go (inr x) =
-          let end = runs .store open-mark in
-          record {
-            trace = runs .leaves ∙ x .leaves;
-            kept =
-                subst⁻¹ (λ (s : Store). Simulates k s (method st k start bs .memory))
-                (ap (λ (s : Kept). storeOf (s .state) (s .tree)) end ∙ store-back st k (ran .store)) (x .simulates);
-            fit =
-                subst⁻¹ (λ (s : Kept). fits (s .state) ≡ true) end
-                (state-fits st k positive small (ran .store) (method st k start bs .memory) (x .simulates) _
-                (held 0 k (λ c d. leafOf k tapes (drawn c d)) ops));
-          }
+  -- Until it closes, the list is the method's run, and leaves the open state of that run's store.
+  module _ (m : finally start bs .state .mark ≡ 0) where
+    pub matches : RunMatches k ran (method st k start bs)
+    matches = go (tapes-simulate k positive (omega arith) tapes ops (opened-runs .0 .fit))
+      where
+        go : RunSimulates k ran (method st k start bs) → RunMatches k ran (method st k start bs)
+        go (inl x) = absurd (not-both (sym (runs .mark) ∙ m) (x .mark))
+        go (inr x) = x
+
+    pub left-store : finally start bs ≡ keptOf st k (ran .store)
+    left-store = runs .store (sym (runs .mark) ∙ m)
+
+    pub follows : Follows st k start bs
+    follows =
+        record {
+          trace = runs .leaves ∙ matches .leaves;
+          kept =
+              subst⁻¹ (λ (s : Store). Simulates k s (method st k start bs .memory))
+              (ap (λ (s : Kept). storeOf (s .state) (s .tree)) left-store ∙ store-back st k (ran .store)) (matches .simulates);
+          fit =
+              subst⁻¹ (λ (s : Kept). fits (s .state) ≡ true) left-store
+              (state-fits st k positive small (ran .store) (method st k start bs .memory) (matches .simulates) _ method-held);
+        }
 
   -- ---- places
 

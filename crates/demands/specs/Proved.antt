@@ -2,8 +2,7 @@
 -- tickets are bytes.
 use Prim.Native.Nat.{ℕ, suc, _*_, _≤_, _<_}
 use mathlib.Core.Path.{_≡_, refl, sym, _∙_, ap, subst}
-use mathlib.Core.List.{List, [], _∷_, map, map-map}
-use mathlib.Core.Option.{some}
+use mathlib.Core.List.{List, [], _∷_}
 use native.Mathlib.Omega.{arith}
 use lib.ListN.{length, getD}
 use Rattle.basics.specs.Distinct.{All}
@@ -11,19 +10,16 @@ use Rattle.slots.specs.Tree.{treeLength}
 use Rattle.slots.specs.LittleEndianLaws.{Bytes}
 use Rattle.slots.specs.ReadLaws.{written-reads-back, read-is-written}
 use Rattle.method.specs.Answer.{Structure}
-use Rattle.method.specs.Plain.{plainAnswers, nothing}
 use Rattle.method.specs.Rounds.{rounds}
-use Rattle.method.specs.Call.{capacity}
 use Rattle.theorems.specs.Theorems.{named-once, tickets-only}
-use Rattle.simulation.specs.ListSim.{never-damaged, answers-plain}
 use Rattle.state.specs.declared.State.{State}
-use Rattle.store.specs.Store.{replied}
-use Rattle.demands.specs.History.{Brought, Kept, history, finally, counted, traceOf, opsIn, tapesOf}
-use Rattle.demands.specs.Demands.{Demand1, openedStore, Demand2, Demand3, leafAt}
+use Rattle.demands.specs.History.{Brought, Kept, history, finally, counted, traceOf, opsIn}
+use Rattle.demands.specs.Demands.{Demand1, openedStore, before, Demand2, Demand3, leafAt}
 use Rattle.demands.specs.Refusals.{one-reply, unchanged, stays-closed}
 use Rattle.demands.specs.NoneLost.{none-lost}
 use Rattle.demands.specs.SoundReplies.{sound-at}
-use Rattle.demands.specs.OpenedRuns.{opened-runs, follows, trace-count, trace-length, leaf-in-trace}
+use Rattle.demands.specs.OpenedRuns.{opened-runs, answered, follows, trace-count, trace-length, leaf-in-trace}
+use Rattle.demands.specs.UntilClosed.{before-open, before-bytes, ending}
 
 pub demand1 : (s : State) (tree ticket tape trace : List ℕ) → Demand1 s tree ticket tape trace
 demand1 s tree ticket tape trace =
@@ -37,26 +33,21 @@ demand1 s tree ticket tape trace =
 module _ (st : Structure) (k : ℕ) (positive : 1 ≤ k) (small : k ≤ 8) (tree : List ℕ) (sized : length tree ≡ treeLength k)
     (bs : List Brought) (bytes : All (λ b. Bytes (b .ticket)) bs) where
   pub demand2 : Demand2 st k tree bs
-  unfolding replied
   demand2 =
-      let start = openedStore st k tree in
-      let ops = opsIn st (counted start bs) in
-      let tapes = tapesOf (counted start bs) in
-      let asking = opened-runs st k positive small tree sized bs bytes .0 in
-      let runs = opened-runs st k positive small tree sized bs bytes .1 in
+      let first = before st k tree bs in
+      let first-bytes = before-bytes st k positive small tree sized bs bytes in
+      let open-mark = before-open st k positive small tree sized bs bytes in
       record {
         slots =
             record {
               reads-back = written-reads-back k;
               none-other = λ b bytes n h l e. read-is-written k b bytes h l n e .written;
             };
-        answers = λ m.
-            runs .answers
-            ∙ ap (map (replied 9)) (answers-plain k positive (omega arith) tapes ops (asking .fit) (sym (runs .mark) ∙ m))
-            ∙ map-map (replied 9) some (plainAnswers (capacity k) ops (nothing st));
-        follows = follows st k positive small tree sized bs bytes;
-        marks = rw (runs .mark) (never-damaged k positive (omega arith) tapes ops (asking .fit));
-        never = λ i before n e. sound-at (history start bs) (runs .sound) i n e;
+        answers = answered st k positive small tree sized first first-bytes open-mark;
+        follows = follows st k positive small tree sized first first-bytes open-mark;
+        ends = ending st k positive small tree sized bs bytes;
+        never = λ i within n e.
+            sound-at (history (openedStore st k tree) bs) (opened-runs st k positive small tree sized bs bytes .1 .sound) i n e;
       }
 
 same-lists : {A : Type 0} (d : A) (xs ys : List A) → length xs ≡ length ys → ((i : ℕ) → i < length xs → getD xs i d ≡ getD ys i d) → xs ≡ ys

@@ -26,8 +26,8 @@ use Rattle.runs.specs.Calls.{memoryOf}
 use Rattle.runs.specs.Answers.{represents-call}
 use Rattle.theorems.specs.Represented.{Held, represents}
 use Rattle.leaf_nodes.specs.Leaf.{leafFormat}
-use Rattle.calls.specs.Fetch.{Going, Round, fetchRounds}
-use Rattle.calls.specs.Call.{Store, bucketCall}
+use Rattle.calls.specs.Fetch.{Going, Round}
+use Rattle.calls.specs.Call.{Store, fetchedBy, bucketCall}
 use Rattle.round_laws.specs.NoDamage.{there-proper}
 use Rattle.round_laws.specs.Kept.{fresh-empty, fresh-kept}
 use Rattle.basics.specs.Ascending.{ascending}
@@ -70,7 +70,7 @@ module _ {s : Structure} (k : ℕ) (positive : 1 ≤ k) (small : k ≤ 16) (t : 
   started = record { tree = st .tree; waiting = st .waiting; held = []; leaves = [] }
 
   abbrev fetchEnd : Round (Outcome ℕ)
-  fetchEnd = fetchRounds s (st .entries) k draw F 0 (program 0 op spares (capacity k) (st .entries) (st .root)) started
+  fetchEnd = fetchedBy k F op draw st
 
   -- The fetch rounds are the method's fetches.
   fetch-phase : WentAs k (memoryEntries m) started fetched fetchEnd
@@ -87,7 +87,7 @@ module _ {s : Structure} (k : ℕ) (positive : 1 ≤ k) (small : k ≤ 16) (t : 
   outcome = answered-done (fetched .prog) (represents-call (represents 0 s k) t op draw m held .answers)
 
   -- One call over buckets is one call of the method at leaves, or it meets overflow.
-  pub simulate : Overflowed k m (bucketCall k (rounds s k) op draw st) (call 0 (rounds s k) (capacity k) op draw m)
+  pub simulate : Overflowed k m (fetchedBy k (rounds s k) op draw st) (bucketCall k (rounds s k) op draw st) (call 0 (rounds s k) (capacity k) op draw m)
       ⊎ Matches k (bucketCall k (rounds s k) op draw st) (call 0 (rounds s k) (capacity k) op draw m)
   unfolding call stepped answered bucketCall
   simulate =

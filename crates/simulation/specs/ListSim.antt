@@ -11,6 +11,7 @@ use lib.Pow.{pow-pos}
 use Rattle.basics.specs.Distinct.{All}
 use Rattle.method.specs.Answer.{Structure, Op, Answer}
 use Rattle.method.specs.Plain.{Contents, nothing, plain, plainAnswers}
+use Rattle.method.specs.Map.{Outcome}
 use Rattle.method.specs.Rounds.{rounds}
 use Rattle.method.specs.Call.{capacity, Memory, emptyMemory, Called, call, Ran, run}
 use Rattle.method.specs.Origin.{drawn, names, leafOf, leafRun}
@@ -18,8 +19,8 @@ use Rattle.runs.specs.Leaves.{leaves-revealed}
 use Rattle.theorems.specs.Represented.{Held, held-empty}
 use Rattle.theorems.specs.Theorems as theorems
 use Rattle.method.specs.Call as method
-use Rattle.calls.specs.Fetch.{Left}
-use Rattle.calls.specs.Call.{Store, bucketCall}
+use Rattle.calls.specs.Fetch.{Left, Round}
+use Rattle.calls.specs.Call.{Store, fetchedBy, bucketCall}
 use Rattle.leaf_laws.specs.Entries.{OpFits}
 use Rattle.simulation.specs.ProperCall.{call-held}
 use Rattle.simulation.specs.Relation.{Simulates, emptyStore, leftBy, Matches, Overflowed}
@@ -83,7 +84,7 @@ module _ {k : ℕ} {l : Left} {r : Called ℕ} where
         simulates = y .simulates;
       })
 
-  stops : {m : Memory ℕ} → Overflowed k m l r → (q : Ran ℕ) → RunOverflowed (last l) (method.andThen r q)
+  stops : {m : Memory ℕ} {x : Round (Outcome ℕ)} → Overflowed k m x l r → (q : Ran ℕ) → RunOverflowed (last l) (method.andThen r q)
   stops x q =
       record {
         mark = x .mark;
@@ -118,7 +119,7 @@ module _ {s : Structure} (k : ℕ) (positive : 1 ≤ k) (small : k ≤ 16) (draw
       r : Called ℕ
       r = call 0 F (capacity k) op (draw c) m
 
-      go : Overflowed k m l r ⊎ Matches k l r
+      go : Overflowed k m (fetchedBy k F op (draw c) st) l r ⊎ Matches k l r
           → (Matches k l r → RunSimulates k (bucketRun k F draw (suc c) ops (leftBy l)) (run 0 F (capacity k) draw (suc c) ops (r .memory)))
           → RunSimulates k (bucketRun k F draw c (op ∷ ops) st) (run 0 F (capacity k) draw c (op ∷ ops) m)
       go (inl x) later = rw (run-stops k F draw c op ops st (x .mark)) (inl (stops x (run 0 F (capacity k) draw (suc c) ops (r .memory))))
@@ -147,14 +148,6 @@ module _ {s : Structure} (k : ℕ) (positive : 1 ≤ k) (small : k ≤ 16) (tape
   pub tapes-simulate : RunSimulates k (tapeRun k tapes ops) (leafRun (rounds s k) k tapes ops)
   unfolding leafRun
   tapes-simulate = run-from-start k positive small (λ c d. leafOf k tapes (drawn c d)) leaf-below ops fit
-
-  -- The mark is 0 or 9.
-  pub never-damaged : (tapeRun k tapes ops .mark ≡ 0) ⊎ (tapeRun k tapes ops .mark ≡ 9)
-  never-damaged = go tapes-simulate
-    where
-      go : RunSimulates k (tapeRun k tapes ops) (leafRun (rounds s k) k tapes ops) → (tapeRun k tapes ops .mark ≡ 0) ⊎ (tapeRun k tapes ops .mark ≡ 9)
-      go (inl x) = inr (x .mark)
-      go (inr x) = inl (x .mark)
 
   -- Without overflow the answers are the plain machine's.
   pub answers-plain : tapeRun k tapes ops .mark ≡ 0 → tapeRun k tapes ops .answers ≡ map some (plainAnswers (capacity k) ops (nothing s))

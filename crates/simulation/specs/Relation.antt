@@ -1,7 +1,6 @@
 -- When a bucket store simulates a memory of the method at leaves, between calls and between the rounds of a call, and what a call
 -- over buckets comes to.
 use mathlib.Core.Path.{_≡_}
-use mathlib.Core.Logic.{_⊎_}
 use mathlib.Core.List.{List, [], _++_, map}
 use mathlib.Core.Option.{none}
 use Prim.Native.Nat.{ℕ, _+_, _≤_, _<_}
@@ -9,11 +8,13 @@ use lib.ListN.{length, replicate}
 use Rattle.basics.specs.Perm.{Perm}
 use Rattle.slots.specs.Tree.{treeLength}
 use Rattle.method.specs.Node.{Node, absent}
+use Rattle.method.specs.Prog.{done}
 use Rattle.method.specs.Plain.{Pair}
+use Rattle.method.specs.Map.{Outcome}
 use Rattle.method.specs.Call.{Memory, Called}
 use Rattle.rounds.specs.Round.{limit}
 use Rattle.leaf_nodes.specs.Leaf.{leafFormat}
-use Rattle.calls.specs.Fetch.{Held, Going, heldKeys, Left}
+use Rattle.calls.specs.Fetch.{Held, Going, heldKeys, Left, Round, on, shut}
 use Rattle.calls.specs.Call.{Store}
 use Rattle.round_laws.specs.Whole.{contents, Kept}
 use Rattle.round_laws.specs.Sorted.{Ascending}
@@ -53,15 +54,21 @@ pub record Matches (k : ℕ) (l : Left) (r : Called ℕ) : Type 0 where
   pub leaves : l .leaves ≡ r .revealed
   pub simulates : Simulates k (leftBy l) (r .memory)
 
--- The call over buckets met overflow: more than 64 wait; it revealed the first part of what the method's call reveals; and no entry is
--- lost: what is left are the entries of the memory before the call (in a fetch round) or of that after it (in a put round).
-pub record Overflowed (k : ℕ) (m : Memory ℕ) (l : Left) (r : Called ℕ) : Type 0 where
+-- What a call that met overflow left, by where its fetch rounds came to: the pairs before it where a fetch round closed the store, those
+-- after it where a put round did.
+pub data Remains (before after left : List Pair) : Round (Outcome ℕ) → Type 0 where
+  as-before : (g : Going) → Perm before left → Remains before after left (shut 9 g)
+  as-after : (g : Going) (o : Outcome ℕ) → Perm after left → Remains before after left (on g (done o))
+
+-- The call over buckets, whose fetch rounds came to x, met overflow: more than 64 wait; it revealed the first part of what the method's
+-- call reveals; and no entry is lost.
+pub record Overflowed (k : ℕ) (m : Memory ℕ) (x : Round (Outcome ℕ)) (l : Left) (r : Called ℕ) : Type 0 where
   pub mark : l .mark ≡ 9
   pub answer : l .answer ≡ none
   pub many : limit < length (l .waiting)
   pub rest : List ℕ
   pub leaves : r .revealed ≡ l .leaves ++ rest
-  pub nothing-lost : Perm (memoryEntries m) (storeEntries k (leftBy l)) ⊎ Perm (memoryEntries (r .memory)) (storeEntries k (leftBy l))
+  pub nothing-lost : Remains (memoryEntries m) (memoryEntries (r .memory)) (storeEntries k (leftBy l)) x
 
 -- ---- between the rounds of a call
 

@@ -23,7 +23,7 @@ use Rattle.runs.specs.Calls.{memoryOf}
 use Rattle.theorems.specs.Represented.{Held}
 use Rattle.rounds.specs.Round.{keysOf, join, limit}
 use Rattle.leaf_nodes.specs.Leaf.{leafFormat}
-use Rattle.calls.specs.Fetch.{Going, movedNode, movedNodes, closing, heldKeys, Round}
+use Rattle.calls.specs.Fetch.{Going, movedNode, movedNodes, closing, heldKeys, Round, on}
 use Rattle.calls.specs.Fetch as fetch
 use Rattle.calls.specs.Call.{Store, putRounds, afterPuts, afterFetches}
 use Rattle.calls.specs.Call as buckets
@@ -35,7 +35,7 @@ use Rattle.round_laws.specs.Kept.{kept-holding, kept-joined}
 use Rattle.round_laws.specs.Sorted.{ascending-join}
 use Rattle.leaf_laws.specs.Proper.{ProperLeaf}
 use Rattle.leaf_laws.specs.Entries.{pairOf}
-use Rattle.simulation.specs.Relation.{Simulates, leftBy, storeEntries, memoryEntries, Matches, Overflowed, Stands, Few, Many}
+use Rattle.simulation.specs.Relation.{Simulates, leftBy, storeEntries, memoryEntries, Matches, as-before, as-after, Overflowed, Stands, Few, Many}
 use Rattle.simulation.specs.RoundSim.{Went, went, overflowed}
 use Rattle.simulation.specs.FetchSim.{puts-went}
 
@@ -124,35 +124,35 @@ stands-simulates {k} {all} {g} m st few =
 
 module _ (s : Structure) (k F : ℕ) (some-rounds : 1 ≤ F) (draw : ℕ → ℕ) (leaves : (d : ℕ) → draw d < 2 ^ k) (m : Memory ℕ) (r : Called ℕ)
     (o : Outcome ℕ) (ns : List (Node ℕ)) (remembers : r .memory ≡ memoryOf o ns) (answers : r .answer ≡ some (o .answer)) where
-  -- After the put rounds.
-  puts-match : (x : Round (Outcome ℕ)) → Went k (map pairOf (o .nodes ++ ns)) (done o) (o .nodes ++ ns) (r .revealed) x
-      → Overflowed k m (afterPuts o x) r ⊎ Matches k (afterPuts o x) r
+  -- After the put rounds, where the fetch rounds came to f.
+  puts-match : (f : Going) (x : Round (Outcome ℕ)) → Went k (map pairOf (o .nodes ++ ns)) (done o) (o .nodes ++ ns) (r .revealed) x
+      → Overflowed k m (on f (done o)) (afterPuts o x) r ⊎ Matches k (afterPuts o x) r
   unfolding afterPuts closing
-  puts-match x (went g st few shown) =
+  puts-match f x (went g st few shown) =
       inr (record {
         mark = refl;
         answer = sym answers;
         leaves = shown;
         simulates = rw remembers (stands-simulates (memoryOf o ns) st few);
       })
-  puts-match x (overflowed g left rest st many shown) =
+  puts-match f x (overflowed g left rest st many shown) =
       inl (record {
         mark = refl;
         answer = refl;
         many = closing-many g many 9 (o .entries) (o .root);
         rest = rest;
         leaves = shown;
-        nothing-lost = inr (rw remembers (closing-entries st 9 (o .entries) (o .root)));
+        nothing-lost = as-after f o (rw remembers (closing-entries st 9 (o .entries) (o .root)));
       })
 
   module _ (fetched : List ℕ) (revealed : r .revealed ≡ fetched ++ drawsFrom draw F (putDraw s F 0))
       (distinct : Distinct (keys (o .nodes ++ ns))) (proper : All (ProperLeaf k) (o .nodes ++ ns)) (st : Store) where
     -- After the fetch rounds.
     pub fetches-match : (x : Round (Outcome ℕ)) → Went k (memoryEntries m) (done o) ns fetched x
-        → Overflowed k m (afterFetches s k F draw st x) r ⊎ Matches k (afterFetches s k F draw st x) r
+        → Overflowed k m x (afterFetches s k F draw st x) r ⊎ Matches k (afterFetches s k F draw st x) r
     unfolding afterFetches closing
     fetches-match x (went g stands few shown) =
-        puts-match (putRounds k draw F (putDraw s F 0) o (buckets.stepped o g))
+        puts-match g (putRounds k draw F (putDraw s F 0) o (buckets.stepped o g))
         (rw (revealed, ← shown)
         (puts-went k draw leaves o F (putDraw s F 0) (buckets.stepped o g) (λ e. let z : ⊥ = omega arith in absurd z)
         (step-stands k o stands distinct proper)))
@@ -165,5 +165,5 @@ module _ (s : Structure) (k F : ℕ) (some-rounds : 1 ≤ F) (draw : ℕ → ℕ
           leaves =
               revealed ∙ ap (λ (l : List ℕ). l ++ drawsFrom draw F (putDraw s F 0)) shown
               ∙ append-assoc (g .leaves) rest (drawsFrom draw F (putDraw s F 0));
-          nothing-lost = inl (closing-entries stands 9 (st .entries) (st .root));
+          nothing-lost = as-before g (closing-entries stands 9 (st .entries) (st .root));
         })

@@ -4,15 +4,15 @@ use mathlib.Core.Bool.{Bool, true, false, _&&_}
 use mathlib.Core.List.{List}
 use Prim.Native.Nat.{ℕ}
 use borrow.Author.Tests.{eq-eqb, ne-eqb}
-use Rattle.state.specs.declared.State.{State}
-use Rattle.state.specs.Fit.{fits, placesFit}
-use Rattle.state.specs.Head.{headFits}
-use Rattle.state.specs.FitLaws.{fits-parts}
-use Rattle.store.specs.declared.Called.{Called}
-use Rattle.store.specs.declared.Reply.the-variants.{Refused}
-use Rattle.store.specs.Store.{refusing, called}
+use Rattle.state_spec.specs.declared.State.{State}
+use Rattle.state_spec.specs.Fit.{fits, placesFit}
+use Rattle.state_spec.specs.Head.{headFits}
+use Rattle.state_laws.specs.FitLaws.{fits-parts}
+use Rattle.call_spec.specs.declared.Called.{Called}
+use Rattle.call_spec.specs.declared.Reply.the-variants.{Refused}
+use Rattle.call_spec.specs.Store.{refusing, called}
 use Rattle.stash.specs.Stash.{Loaded, saved}
-use Rattle.waiting.specs.Waiting.{waitingIn}
+use Rattle.stash_laws.specs.Waiting.{waitingIn}
 use Rattle.call_core.specs.declared.Head.{Head}
 use Rattle.call_core.specs.declared.ending.Ran.{Ran}
 use Rattle.call_core.specs.Run.{headOf, StandsFor, Stands, CallsAs}

@@ -1,8 +1,8 @@
 -- What the code of a call returns, as the definition of a call says it.
 use mathlib.Core.List.{List}
 use Prim.Native.Nat.{ℕ}
-use Rattle.store.specs.declared.Called.{Called}
-use Rattle.store.specs.Store.{Ended}
+use Rattle.call_spec.specs.declared.Called.{Called}
+use Rattle.call_spec.specs.Store.{Ended}
 
 -- What the code returns, with the tree and the trace buffer as it leaves them.
 abbrev pub endedAs : Called → (tree trace : List ℕ) → Ended

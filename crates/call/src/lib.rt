@@ -1,23 +1,23 @@
 // Calls on a store whose state is a struct: the state's checks, the core over words, and what is left.
-use buckets::WORDS;
-use buckets::stash_words::get;
-use buckets::stash_words::put;
 use call_core::Head;
 use call_core::call_words;
-use slots::codec::node_of;
+use call_spec::Called;
+use call_spec::Reply;
+use fitness::head_fits;
+use fitness::zero_place;
+use opening::no_place;
+use slots::node_of;
 use stash::places::greater;
 use stash::places::used_fits;
 use stash::words_of;
-use state::PLACES;
-use state::Place;
-use state::State;
-use state::fit::head_fits;
-use state::fit::zero_place;
-use state::opening::no_place;
-use store::Called;
-use store::Reply;
+use stash_words::WORDS;
+use stash_words::get;
+use stash_words::put;
+use state_spec::PLACES;
+use state_spec::Place;
+use state_spec::State;
 ghost use mathlib.Core.Path.{_≡_};
-ghost use Rattle.store.specs.Store.{called};
+ghost use Rattle.call_spec.specs.Store.{called};
 ghost use Rattle.call.specs.Run.{endedAs};
 
 // One call: an answer or one numbered refusal. The store does all the checking; see `called` for every case.

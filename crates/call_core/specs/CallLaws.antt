@@ -9,40 +9,40 @@ use native.Mathlib.Omega.{arith}
 use borrow.Author.Tests.{eq-eqb, ne-eqb, lt-ltb, le-ltb}
 use lib.ListN.{length, getD}
 use lib.Pow.{pow-mono}
-use Rattle.basics.specs.Ascending.{ascending}
-use Rattle.basics.specs.Distinct.{All}
-use Rattle.slots.specs.LittleEndianLaws.{Bytes}
-use Rattle.slots.specs.Tree.{treeLength}
-use Rattle.method.specs.Node.{Node}
-use Rattle.method.specs.Answer as method
-use Rattle.method.specs.Answer.{Structure, get, put, remove, push, pop}
-use Rattle.method.specs.Rounds.{rounds, spare, putDraw}
-use Rattle.runs.specs.RoundsLaws.{some-rounds}
+use Rattle.list_spec.specs.Ascending.{ascending}
+use Rattle.list_spec.specs.Distinct.{All}
+use Rattle.slot_spec.specs.LittleEndian.{Bytes}
+use Rattle.slot_spec.specs.Tree.{treeLength}
+use Rattle.method_spec.specs.Node.{Node}
+use Rattle.method_spec.specs.Answer as method
+use Rattle.method_spec.specs.Answer.{Structure, get, put, remove, push, pop}
+use Rattle.method_spec.specs.Rounds.{rounds, spare, putDraw}
+use Rattle.run_laws.specs.RoundsLaws.{some-rounds}
 use Rattle.round_laws.specs.Sorted.{ascending-distinct}
 use Rattle.round_laws.specs.ReadHalf.{distinct-none-twice}
-use Rattle.leaf_nodes.specs.Leaf.{leafFormat}
-use Rattle.waiting.specs.Waiting.{InWidths, waitingIn}
-use Rattle.calls.specs.Call.{Store, drawOf, bucketCall}
-use Rattle.leaf_laws.specs.Entries.{OpFits}
-use Rattle.state.specs.declared.Place.{Place}
-use Rattle.state.specs.declared.State.{State}
-use Rattle.state.specs.Fit.{fits, used, keysIn}
-use Rattle.state.specs.Ticket.{ticketLength, opIn, structureOf as numbered}
-use Rattle.state.specs.Fetching.{roundsOf, spareOf}
-use Rattle.leaf_nodes.specs.Convert.{toLink, toNode}
-use Rattle.operations.specs.declared.Op.{Op}
-use Rattle.operations.specs.Method.{toOp, structureOf}
+use Rattle.leaf_spec.specs.Leaf.{leafFormat}
+use Rattle.stash_laws.specs.Waiting.{InWidths, waitingIn}
+use Rattle.bucket_call_spec.specs.Call.{Store, drawOf, bucketCall}
+use Rattle.leaf_spec.specs.Entries.{OpFits}
+use Rattle.state_spec.specs.declared.Place.{Place}
+use Rattle.state_spec.specs.declared.State.{State}
+use Rattle.state_spec.specs.Fit.{fits, used, keysIn}
+use Rattle.state_spec.specs.Ticket.{ticketLength, opIn, structureOf as numbered}
+use Rattle.state_spec.specs.Fetching.{roundsOf, spareOf}
+use Rattle.leaf_spec.specs.Convert.{toLink, toNode}
+use Rattle.operation_spec.specs.declared.Op.{Op}
+use Rattle.operation_spec.specs.Method.{toOp, structureOf}
 use Rattle.tickets.specs.declared.Asked.the-variants.{Call, Unknown}
 use Rattle.tickets.specs.Asked.{fromOp, fromAsked, asked}
-use Rattle.store.specs.Store.{refusing, ending, storeOf, callWith, called}
-use Rattle.fit_stores.specs.FitState.{FitState, fit-state}
-use Rattle.fit_stores.specs.FitStores.{fit-store}
-use Rattle.fit_stores.specs.Widths.{LinkWidths, Widths}
-use Rattle.fit_stores.specs.Tickets.{op-fits}
+use Rattle.call_spec.specs.Store.{refusing, ending, storeOf, callWith, called}
+use Rattle.fitness_laws.specs.FitState.{FitState, fit-state}
+use Rattle.fitness_laws.specs.FitStores.{fit-store}
+use Rattle.state_spec.specs.Widths.{LinkWidths, Widths}
+use Rattle.fitness_laws.specs.Tickets.{op-fits}
 use Rattle.stash.specs.Stash.{Loaded, saved}
-use Rattle.phases.specs.declared.wanting.Job.{Job}
-use Rattle.phases.specs.Wanting.{storeAt}
-use Rattle.store.specs.declared.Reply.the-variants.{Refused}
+use Rattle.fetch_rounds.specs.declared.wanting.Job.{Job}
+use Rattle.fetch_rounds.specs.Wanting.{storeAt}
+use Rattle.call_spec.specs.declared.Reply.the-variants.{Refused}
 use Rattle.call_core.specs.declared.Head.{Head}
 use Rattle.call_core.specs.declared.ending.Ran.{Ran}
 use Rattle.call_core.specs.Run.{StandsFor, Stands, leftOf, CallsAs, leftBy, endingWith, jobFor, Runs}

@@ -9,40 +9,40 @@ use native.Mathlib.Omega.{arith}
 use borrow.Author.Tests.{eq-eqb, ne-eqb}
 use lib.ListN.{length, take, drop, length-take, length-append, take-append-drop}
 use lib.Seq.{sets-eq}
-use Rattle.basics.specs.PermLaws.{perm-length}
-use Rattle.method.specs.Node.{Link, Node}
-use Rattle.method.specs.Prog.{done, root}
-use Rattle.method.specs.Map.{Outcome}
-use Rattle.method.specs.Call.{drawsFrom}
-use Rattle.runs.specs.Calls.{draws-length}
-use Rattle.rounds.specs.Round.{join}
+use Rattle.list_laws.specs.PermLaws.{perm-length}
+use Rattle.method_spec.specs.Node.{Link, Node}
+use Rattle.method_spec.specs.Prog.{done, root}
+use Rattle.method_spec.specs.Map.{Outcome}
+use Rattle.method_spec.specs.Call.{drawsFrom}
+use Rattle.run_laws.specs.Calls.{draws-length}
+use Rattle.round_spec.specs.Round.{join}
 use Rattle.round_laws.specs.Lists.{join-perm}
-use Rattle.leaf_nodes.specs.Convert.{fromLink}
-use Rattle.leaf_nodes.specs.Leaf.{leafFormat}
-use Rattle.calls.specs.Fetch as fetch
-use Rattle.calls.specs.Fetch.{Going, on, closing}
-use Rattle.calls.specs.Call.{afterPuts, putRounds, stepped}
-use Rattle.slots.specs.declared.Link as link
-use Rattle.state.specs.declared.State.{State}
-use Rattle.leaf_nodes.specs.Convert.{toLink}
-use Rattle.operations.specs.declared.Outcome as outcome
-use Rattle.operations.specs.Method.{toOutcome, toAnswer}
-use Rattle.slots.specs.Row.{nodesFrom}
+use Rattle.leaf_spec.specs.Convert.{fromLink}
+use Rattle.leaf_spec.specs.Leaf.{leafFormat}
+use Rattle.bucket_call_spec.specs.Fetch as fetch
+use Rattle.bucket_call_spec.specs.Fetch.{Going, on, closing}
+use Rattle.bucket_call_spec.specs.Call.{afterPuts, putRounds, stepped}
+use Rattle.slot_spec.specs.declared.Link as link
+use Rattle.state_spec.specs.declared.State.{State}
+use Rattle.leaf_spec.specs.Convert.{toLink}
+use Rattle.operation_spec.specs.declared.Outcome as outcome
+use Rattle.operation_spec.specs.Method.{toOutcome, toAnswer}
+use Rattle.slot_spec.specs.Row.{nodesFrom}
 use Rattle.node_rows.specs.Held.{Held, heldIn, nodesOf}
 use Rattle.tag_moves.specs.Moved.{TagsMoved}
-use Rattle.store.specs.declared.Reply.{Reply}
-use Rattle.store.specs.declared.Reply.the-variants.{Refused}
-use Rattle.store.specs.Store.{Ended, replied, replyOf}
+use Rattle.call_spec.specs.declared.Reply.{Reply}
+use Rattle.call_spec.specs.declared.Reply.the-variants.{Refused}
+use Rattle.call_spec.specs.Store.{Ended, replied, replyOf}
 use Rattle.stash.specs.Stash.{NodesJoined, saved}
-use Rattle.waiting.specs.Waiting.{waitingIn}
-use Rattle.waiting.specs.WaitingLaws.{waiting-length}
-use Rattle.call_rounds.specs.TwiceLaws.{join-twice}
-use Rattle.call_rounds.specs.OneRound.{going, endedWith}
+use Rattle.stash_laws.specs.Waiting.{waitingIn}
+use Rattle.stash_laws.specs.WaitingLaws.{waiting-length}
+use Rattle.one_round.specs.TwiceLaws.{join-twice}
+use Rattle.one_round.specs.OneRound.{going, endedWith}
 use Rattle.idle_rounds.specs.declared.idle.Idle.{Idle}
-use Rattle.phases.specs.declared.wanting.Job.{Job}
-use Rattle.phases.specs.declared.wanting.Fetched.{Fetched}
-use Rattle.phases.specs.Wanting.{heldBy}
-use Rattle.phases.specs.Put.{Stepped, Puts}
+use Rattle.fetch_rounds.specs.declared.wanting.Job.{Job}
+use Rattle.fetch_rounds.specs.declared.wanting.Fetched.{Fetched}
+use Rattle.fetch_rounds.specs.Wanting.{heldBy}
+use Rattle.put_rounds.specs.Put.{Stepped, Puts}
 use Rattle.idle_rounds.specs.IdleLaws.{goes-on, stops-here}
 use Rattle.call_core.specs.declared.ending.Ran.{Ran}
 use Rattle.call_core.specs.Run.{leftBy, endingWith, goingBy, outcomeOf, answered, Shuts, ShutAs, Finishes, finishedBy, FinishedAs}

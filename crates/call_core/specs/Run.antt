@@ -5,39 +5,39 @@ use mathlib.Core.List.{List, [], _++_}
 use Prim.Native.Nat.{ℕ, _+_, _*_, _≤_}
 use lib.Dec.{eqb}
 use lib.ListN.{length, take, drop}
-use Rattle.basics.specs.Distinct.{All}
-use Rattle.basics.specs.Choice.{pick}
-use Rattle.slots.specs.declared.Link.{Link}
-use Rattle.method.specs.Prog.{after}
-use Rattle.method.specs.Map.{Outcome}
-use Rattle.method.specs.Answer.{Answer}
-use Rattle.method.specs.Call.{capacity}
-use Rattle.rounds.specs.Round.{join}
-use Rattle.round_laws.specs.Whole.{IsTree}
-use Rattle.round_laws.specs.Sorted.{Ascending}
-use Rattle.leaf_nodes.specs.Convert.{fromLink}
-use Rattle.leaf_nodes.specs.Leaf.{leafFormat}
-use Rattle.buckets.specs.Words.{wordCount}
-use Rattle.calls.specs.Fetch.{Left, Going, closing}
-use Rattle.calls.specs.Call.{drawOf, afterPuts, putRounds, stepped}
-use Rattle.leaf_laws.specs.Proper.{ProperLeaf}
-use Rattle.leaf_nodes.specs.Convert.{toLink}
-use Rattle.operations.specs.declared.Op.{Op}
-use Rattle.operations.specs.Method.{outcomeIn}
+use Rattle.list_spec.specs.Distinct.{All}
+use Rattle.list_spec.specs.Choice.{pick}
+use Rattle.slot_spec.specs.declared.Link.{Link}
+use Rattle.method_spec.specs.Prog.{after}
+use Rattle.method_spec.specs.Map.{Outcome}
+use Rattle.method_spec.specs.Answer.{Answer}
+use Rattle.method_spec.specs.Call.{capacity}
+use Rattle.round_spec.specs.Round.{join}
+use Rattle.round_spec.specs.Whole.{IsTree}
+use Rattle.round_spec.specs.Whole.{Ascending}
+use Rattle.leaf_spec.specs.Convert.{fromLink}
+use Rattle.leaf_spec.specs.Leaf.{leafFormat}
+use Rattle.word_round_laws.specs.Words.{wordCount}
+use Rattle.bucket_call_spec.specs.Fetch.{Left, Going, closing}
+use Rattle.bucket_call_spec.specs.Call.{drawOf, afterPuts, putRounds, stepped}
+use Rattle.leaf_spec.specs.Leaf.{ProperLeaf}
+use Rattle.leaf_spec.specs.Convert.{toLink}
+use Rattle.operation_spec.specs.declared.Op.{Op}
+use Rattle.operation_spec.specs.Method.{outcomeIn}
 use Rattle.node_rows.specs.Row.{words as rowWords, fetches}
 use Rattle.node_rows.specs.Held.{Held, HeldFrom, nodesOf}
-use Rattle.state.specs.declared.State.{State}
-use Rattle.state.specs.Fit.{fits}
-use Rattle.state.specs.Fetching.{spareOf}
-use Rattle.store.specs.declared.Reply.{Reply}
-use Rattle.store.specs.declared.Reply.the-variants.{Refused}
-use Rattle.store.specs.Store.{Ended, replied, replyOf, called}
+use Rattle.state_spec.specs.declared.State.{State}
+use Rattle.state_spec.specs.Fit.{fits}
+use Rattle.state_spec.specs.Fetching.{spareOf}
+use Rattle.call_spec.specs.declared.Reply.{Reply}
+use Rattle.call_spec.specs.declared.Reply.the-variants.{Refused}
+use Rattle.call_spec.specs.Store.{Ended, replied, replyOf, called}
 use Rattle.stash.specs.Stash.{Loaded, saved}
-use Rattle.waiting.specs.Waiting.{waitingIn, Holds}
-use Rattle.call_rounds.specs.OneRound.{going}
-use Rattle.phases.specs.declared.wanting.Job.{Job}
-use Rattle.phases.specs.declared.wanting.Fetched.{Fetched}
-use Rattle.phases.specs.Wanting.{heldBy, programOf, Begins}
+use Rattle.stash_laws.specs.Waiting.{waitingIn, Holds}
+use Rattle.one_round.specs.OneRound.{going}
+use Rattle.fetch_rounds.specs.declared.wanting.Job.{Job}
+use Rattle.fetch_rounds.specs.declared.wanting.Fetched.{Fetched}
+use Rattle.fetch_rounds.specs.Wanting.{heldBy, programOf, Begins}
 use Rattle.call_core.specs.declared.Head.{Head}
 use Rattle.call_core.specs.declared.ending.Ran.{Ran}
 

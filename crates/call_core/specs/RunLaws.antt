@@ -5,34 +5,34 @@ use Prim.Native.Nat.{ℕ, _+_, _-_, _*_, _^_, _≤_, _<_}
 use native.Mathlib.Omega.{arith}
 use borrow.Author.Tests.{ne-eqb}
 use lib.ListN.{length, take, drop, replicate, length-map}
-use Rattle.method.specs.Prog.{Prog, done, after}
-use Rattle.method.specs.Answer as answer
-use Rattle.method.specs.Map.{Outcome}
-use Rattle.runs.specs.RoundsLaws.{some-rounds}
-use Rattle.rounds.specs.Round.{join}
-use Rattle.leaf_nodes.specs.Leaf.{leafFormat}
-use Rattle.buckets.specs.Words.{wordCount}
-use Rattle.calls.specs.Fetch as fetch
-use Rattle.calls.specs.Fetch.{Left, Going, on, shut, closing, fetchRounds}
-use Rattle.calls.specs.Call.{Store, drawOf, fetchedBy, bucketCall}
-use Rattle.closing.specs.Sound.{placesFor}
-use Rattle.closing.specs.Lost.{left-shut, left-on, fetch-closing, stepping}
-use Rattle.state.specs.Ticket as ticket
-use Rattle.leaf_nodes.specs.Convert.{toLink}
-use Rattle.operations.specs.Method.{toOp, outcomeIn}
+use Rattle.method_spec.specs.Prog.{Prog, done, after}
+use Rattle.method_spec.specs.Answer as answer
+use Rattle.method_spec.specs.Map.{Outcome}
+use Rattle.run_laws.specs.RoundsLaws.{some-rounds}
+use Rattle.round_spec.specs.Round.{join}
+use Rattle.leaf_spec.specs.Leaf.{leafFormat}
+use Rattle.word_round_laws.specs.Words.{wordCount}
+use Rattle.bucket_call_spec.specs.Fetch as fetch
+use Rattle.bucket_call_spec.specs.Fetch.{Left, Going, on, shut, closing, fetchRounds}
+use Rattle.bucket_call_spec.specs.Call.{Store, drawOf, fetchedBy, bucketCall}
+use Rattle.none_lost_laws.specs.Sound.{placesFor}
+use Rattle.none_lost_laws.specs.Lost.{left-shut, left-on, fetch-closing, stepping}
+use Rattle.state_spec.specs.Ticket as ticket
+use Rattle.leaf_spec.specs.Convert.{toLink}
+use Rattle.operation_spec.specs.Method.{toOp, outcomeIn}
 use Rattle.node_rows.specs.Row.{words as rowWords, fromIn, fromsIn}
 use Rattle.node_rows.specs.Held.{Held, heldIn, nodesOf}
 use Rattle.node_rows.specs.HeldLaws.{first-length}
 use Rattle.node_rows.specs.HeldLaws as row
-use Rattle.store.specs.Store.{Ended}
-use Rattle.waiting.specs.WaitingLaws.{waiting-length}
-use Rattle.call_rounds.specs.OneRound.{going}
-use Rattle.phases.specs.declared.wanting.Job.{Job}
-use Rattle.phases.specs.declared.wanting.Fetched.{Fetched}
+use Rattle.call_spec.specs.Store.{Ended}
+use Rattle.stash_laws.specs.WaitingLaws.{waiting-length}
+use Rattle.one_round.specs.OneRound.{going}
+use Rattle.fetch_rounds.specs.declared.wanting.Job.{Job}
+use Rattle.fetch_rounds.specs.declared.wanting.Fetched.{Fetched}
 use Rattle.idle_rounds.specs.IdleLaws.{draw-leaf, goes-on, stops-here}
-use Rattle.phases.specs.Wanting.{heldBy, structureIn, programOf, storeAt, fetched, Begins, Fetches}
-use Rattle.phases.specs.WantingLaws.{at-most, root-low, same-program, held-length}
-use Rattle.phases.specs.FetchLaws.{Done, is-done, drop-on}
+use Rattle.fetch_rounds.specs.Wanting.{heldBy, structureIn, programOf, storeAt, fetched, Begins, Fetches}
+use Rattle.fetch_rounds.specs.WantingLaws.{at-most, root-low, same-program, held-length}
+use Rattle.fetch_rounds.specs.FetchLaws.{Done, is-done, drop-on}
 use Rattle.idle_rounds.specs.Idle.{keysHeld}
 use Rattle.call_core.specs.declared.ending.Ran.{Ran}
 use Rattle.call_core.specs.Run.{leftBy, endingWith, goingBy, outcomeOf, Shuts, ShutAs, Finishes, finishedBy, FinishedAs, Runs}

@@ -1,18 +1,18 @@
 // The core of a call, over lent words: the checks that come after the state's, the rounds and the step, and what is left. What holds the
 // state, a struct or bytes, stands above it.
-use buckets::WORDS;
+use call_draws::draws_of;
+use call_draws::rounds_of;
+use call_spec::Reply;
 use ending::Ran;
-use slots::Link;
-use slots::tree::tree_length;
-use state::fetching::draws_of;
-use state::fetching::rounds_of;
-use store::Reply;
+use slot_spec::Link;
+use stash_words::WORDS;
 use tickets::Asked;
 use tickets::TICKET_LENGTH;
 use tickets::read_ticket;
+use tree_paths::tree_length;
 ghost use mathlib.Core.Path.{_≡_};
 ghost use mathlib.Core.Bool.{false};
-ghost use Rattle.store.specs.declared.Reply.the-variants.{Refused};
+ghost use Rattle.call_spec.specs.declared.Reply.the-variants.{Refused};
 ghost use Rattle.call_core.specs.Run.{Stands, CallsAs};
 
 pub mod ending;

@@ -2,24 +2,24 @@
 use super::ending::Ran;
 use super::ending::finish;
 use super::ending::shut;
-use buckets::WORDS;
+use call_draws::spare_of;
+use fetch_rounds::fetch::fetch_rounds;
+use fetch_rounds::wanting::Job;
 use idle_rounds::idle::draw_at;
 use node_rows::FETCHES;
 use node_rows::ROW;
-use operations::Op;
-use phases::fetch::fetch_rounds;
-use phases::wanting::Job;
-use slots::Link;
-use slots::tree::leaves;
-use state::fetching::spare_of;
+use operation_spec::Op;
+use slot_spec::Link;
+use stash_words::WORDS;
+use tree_paths::leaves;
 ghost use mathlib.Core.Path.{_≡_};
 ghost use Prim.Native.Nat.{_≤_, _<_};
 ghost use lib.ListN.{length};
 ghost use mathlib.Core.Bool.{true};
-ghost use Rattle.operations.specs.Method.{toOp};
-ghost use Rattle.calls.specs.Call.{drawOf, bucketCall};
-ghost use Rattle.waiting.specs.Waiting.{Holds};
-ghost use Rattle.phases.specs.Wanting.{storeAt};
+ghost use Rattle.operation_spec.specs.Method.{toOp};
+ghost use Rattle.bucket_call_spec.specs.Call.{drawOf, bucketCall};
+ghost use Rattle.stash_laws.specs.Waiting.{Holds};
+ghost use Rattle.fetch_rounds.specs.Wanting.{storeAt};
 ghost use Rattle.call_core.specs.Run.{leftBy, endingWith, jobFor, Runs};
 
 // What the rounds of a call are for: a new node would get the draw after those of the fetch rounds as its tag.

@@ -5,16 +5,16 @@ use mathlib.Core.List.{List, [], _∷_, _++_, map}
 use Prim.Native.Nat.{ℕ, _+_, _-_, _≤_}
 use lib.ListN.{length}
 use lib.Seq.{sets}
-use Rattle.basics.specs.Distinct.{All}
-use Rattle.method.specs.Prog.{done}
-use Rattle.method.specs.Map.{Outcome}
-use Rattle.method.specs.Call.{drawsFrom}
-use Rattle.round_laws.specs.Whole.{IsTree}
-use Rattle.calls.specs.Fetch.{Held}
-use Rattle.calls.specs.Call.{putRounds}
-use Rattle.leaf_laws.specs.Proper.{ProperLeaf}
-use Rattle.waiting.specs.Waiting.{waitingIn}
-use Rattle.call_rounds.specs.OneRound.{going, endedWith, Rests}
+use Rattle.list_spec.specs.Distinct.{All}
+use Rattle.method_spec.specs.Prog.{done}
+use Rattle.method_spec.specs.Map.{Outcome}
+use Rattle.method_spec.specs.Call.{drawsFrom}
+use Rattle.round_spec.specs.Whole.{IsTree}
+use Rattle.bucket_call_spec.specs.Fetch.{Held}
+use Rattle.bucket_call_spec.specs.Call.{putRounds}
+use Rattle.leaf_spec.specs.Leaf.{ProperLeaf}
+use Rattle.stash_laws.specs.Waiting.{waitingIn}
+use Rattle.one_round.specs.OneRound.{going, endedWith, Rests}
 use Rattle.idle_rounds.specs.declared.idle.Idle.{Idle}
 
 -- A store between two rounds: the tree is one of that size, and the waiting nodes are proper and have room.

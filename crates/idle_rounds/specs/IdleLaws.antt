@@ -11,26 +11,27 @@ use lib.Dec.{eqb}
 use lib.ListN.{length, length-map, getD, set}
 use lib.Seq.{sets, length-sets}
 use borrow.Author.Tests.{eq-eqb, ne-eqb, ltb-false}
-use Rattle.basics.specs.Choice.{pick}
-use Rattle.basics.specs.Distinct.{All}
-use Rattle.method.specs.Node.{Node, absent}
-use Rattle.method.specs.Prog.{Prog, done, root}
-use Rattle.method.specs.Map.{Outcome}
-use Rattle.method.specs.Answer as answer
-use Rattle.method.specs.Call.{drawsFrom}
-use Rattle.runs.specs.Calls.{draws-split, draws-length}
-use Rattle.rounds.specs.Round.{Hand, readHalf, limit}
-use Rattle.round_laws.specs.Whole.{IsTree}
+use Rattle.list_spec.specs.Choice.{pick}
+use Rattle.list_spec.specs.Distinct.{All}
+use Rattle.method_spec.specs.Node.{Node, absent}
+use Rattle.method_spec.specs.Prog.{Prog, done, root}
+use Rattle.method_spec.specs.Map.{Outcome}
+use Rattle.method_spec.specs.Answer as answer
+use Rattle.method_spec.specs.Call.{drawsFrom}
+use Rattle.run_laws.specs.Calls.{draws-split, draws-length}
+use Rattle.round_spec.specs.Round.{Hand, readHalf, limit}
+use Rattle.round_spec.specs.Whole.{IsTree}
 use Rattle.round_laws.specs.NothingLost.{round-is-tree, round-proper}
-use Rattle.leaf_nodes.specs.Leaf.{leafFormat}
-use Rattle.calls.specs.Fetch.{Held, Going, heldKeys, tooMany, revealing, written, Round, on, shut, atClose, idleRound}
-use Rattle.calls.specs.Call.{drawOf, putRounds}
-use Rattle.leaf_laws.specs.Proper.{ProperLeaf, leaves-lawful}
-use Rattle.closing.specs.Sound.{total}
-use Rattle.waiting.specs.Waiting.{waitingIn}
-use Rattle.waiting.specs.WaitingLaws.{waiting-length}
-use Rattle.call_rounds.specs.declared.Rounded.{Rounded}
-use Rattle.call_rounds.specs.OneRound.{going, endedWith, Ready, Rests, Idled}
+use Rattle.leaf_spec.specs.Leaf.{leafFormat}
+use Rattle.bucket_call_spec.specs.Fetch.{Held, Going, heldKeys, tooMany, revealing, written, Round, on, shut, atClose, idleRound}
+use Rattle.bucket_call_spec.specs.Call.{drawOf, putRounds}
+use Rattle.leaf_spec.specs.Leaf.{ProperLeaf}
+use Rattle.leaf_laws.specs.Proper.{leaves-lawful}
+use Rattle.none_lost_laws.specs.Sound.{total}
+use Rattle.stash_laws.specs.Waiting.{waitingIn}
+use Rattle.stash_laws.specs.WaitingLaws.{waiting-length}
+use Rattle.one_round.specs.declared.Rounded.{Rounded}
+use Rattle.one_round.specs.OneRound.{going, endedWith, Ready, Rests, Idled}
 use Rattle.idle_rounds.specs.declared.idle.Idle.{Idle}
 use Rattle.idle_rounds.specs.Idle.{Between, keysHeld, IdledAll}
 

@@ -1,11 +1,11 @@
 // Rounds that want none: each reveals its draw.
-use buckets::WORDS;
-use call_rounds::idle_round;
-use slots::tree::leaves;
+use one_round::idle_round;
+use stash_words::WORDS;
+use tree_paths::leaves;
 ghost use mathlib.Core.Path.{_≡_};
 ghost use Prim.Native.Nat.{_+_, _^_, _<_, _≤_};
 ghost use lib.ListN.{length};
-ghost use Rattle.calls.specs.Call.{drawOf};
+ghost use Rattle.bucket_call_spec.specs.Call.{drawOf};
 ghost use Rattle.idle_rounds.specs.Idle.{Between, IdledAll};
 
 // How rounds that want none ended: mark 0, or 8 damage or 9 overflow, how many nodes wait then, and how many leaves these rounds

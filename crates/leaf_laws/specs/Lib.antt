@@ -1,2 +1,1 @@
 pub mod Proper
-pub mod Entries

@@ -6,24 +6,21 @@ use native.Mathlib.Decide.{decLe}
 use native.Mathlib.Omega.{arith}
 use lib.Pow.{pow-mono}
 use borrow.Author.Tests.{eq-eqb, lt-ltb}
-use Rattle.slots.specs.Slot.{fieldsOf, linkGood, wellFormed, readSlot}
-use Rattle.slots.specs.LayoutLaws.{Fit}
-use Rattle.slots.specs.SlotLaws.{Ranged}
-use Rattle.slots.specs.ReadLaws.{absent-without-key, link-present, left-link-good}
-use Rattle.slots.specs.declared.Node as node
-use Rattle.slots.specs.declared.Reading.{Reading}
-use Rattle.slots.specs.declared.Reading.the-variants.{Full, Empty, Bad}
-use Rattle.method.specs.Node.{Link, Node}
-use Rattle.rounds.specs.Format.{full, empty}
-use Rattle.rounds.specs.Nodes.{readingOf}
-use Rattle.leaf_nodes.specs.Convert.{toNode, fromNode, fromLink}
-use Rattle.leaf_nodes.specs.Leaf.{readLeaf, leafFormat}
-use Rattle.round_laws.specs.Whole.{Lawful}
+use Rattle.slot_spec.specs.Slot.{fieldsOf, linkGood, wellFormed, readSlot}
+use Rattle.slot_spec.specs.Layout.{Fit}
+use Rattle.slot_spec.specs.Slot.{Ranged}
+use Rattle.slot_laws.specs.ReadLaws.{absent-without-key, link-present, left-link-good}
+use Rattle.slot_spec.specs.declared.Node as node
+use Rattle.slot_spec.specs.declared.Reading.{Reading}
+use Rattle.slot_spec.specs.declared.Reading.the-variants.{Full, Empty, Bad}
+use Rattle.method_spec.specs.Node.{Link, Node}
+use Rattle.round_spec.specs.Format.{full, empty}
+use Rattle.round_spec.specs.Nodes.{readingOf}
+use Rattle.leaf_spec.specs.Convert.{toNode, fromNode, fromLink}
+use Rattle.leaf_spec.specs.Leaf.{readLeaf, leafFormat}
+use Rattle.round_spec.specs.Whole.{Lawful}
 use Rattle.round_laws.specs.NodeLaws.{nodes-lawful}
-
--- A node whose numbers are within their widths and that no slot of a tree of size k would be bad for.
-abbrev pub ProperLeaf : ℕ → Node ℕ → Type 0
-ProperLeaf k n = Ranged (fromNode n) × (wellFormed k (fromNode n) ≡ true)
+use Rattle.leaf_spec.specs.Leaf.{ProperLeaf}
 
 -- ---- the format is lawful, as that of the store's nodes is
 

@@ -1,1 +1,1 @@
-// Theory only: proper nodes at leaf tags, entries, and the widths of tickets.
+// The slot format at leaf tags is lawful, and which nodes are proper; no code.

@@ -6,18 +6,18 @@ use mathlib.Core.Bool.{true, false}
 use mathlib.Core.List.{List}
 use mathlib.Core.Option.{none}
 use lib.ListN.{length, drop, length-append}
-use Rattle.method.specs.Prog.{Want, bind}
-use Rattle.method.specs.Map.{Outcome, linkOf, listed, topOf, kid, finish}
-use Rattle.slots.specs.declared.Link as link
-use Rattle.leaf_nodes.specs.Convert.{toLink}
-use Rattle.operations.specs.declared.Want as want
-use Rattle.operations.specs.declared.Answer as answer
-use Rattle.operations.specs.declared.Answer.the-variants.{Absent}
-use Rattle.operations.specs.declared.Outcome as outcome
-use Rattle.operations.specs.declared.Wanted.{Wanted}
-use Rattle.operations.specs.declared.Wanted.the-variants.{Done, Fetch}
-use Rattle.operations.specs.Method.{toWant, toWanted, toAnswer, toOutcome}
-use Rattle.operations.specs.Resume.{Resumed, missing, finished, resume, resumedAs, follow, wantedOf, outcomeOf}
+use Rattle.method_spec.specs.Prog.{Want, bind}
+use Rattle.method_spec.specs.Map.{Outcome, linkOf, listed, topOf, kid, finish}
+use Rattle.slot_spec.specs.declared.Link as link
+use Rattle.leaf_spec.specs.Convert.{toLink}
+use Rattle.operation_spec.specs.declared.Want as want
+use Rattle.operation_spec.specs.declared.Answer as answer
+use Rattle.operation_spec.specs.declared.Answer.the-variants.{Absent}
+use Rattle.operation_spec.specs.declared.Outcome as outcome
+use Rattle.operation_spec.specs.declared.Wanted.{Wanted}
+use Rattle.operation_spec.specs.declared.Wanted.the-variants.{Done, Fetch}
+use Rattle.operation_spec.specs.Method.{toWant, toWanted, toAnswer, toOutcome}
+use Rattle.operation_spec.specs.Resume.{Resumed, missing, finished, resume, resumedAs, follow, wantedOf, outcomeOf}
 use Rattle.operations.specs.ResumeLaws.{resume-map}
 use Rattle.node_rows.specs.Row.{places, words}
 use Rattle.node_rows.specs.Held.{Held, heldIn, nodesOf}

@@ -4,21 +4,21 @@ use mathlib.Core.Path.{_≡_}
 use mathlib.Core.List.{[]}
 use mathlib.Core.Bool.{Bool, true, false}
 use lib.ListN.{getD, drop}
-use Rattle.method.specs.Prog.{Prog, done, bind}
-use Rattle.method.specs.Map.{Outcome, Built, start, finish}
-use Rattle.slots.specs.declared.Link as link
-use Rattle.slots.specs.declared.Node as node
-use Rattle.operations.specs.declared.Want as want
+use Rattle.method_spec.specs.Prog.{Prog, done, bind}
+use Rattle.method_spec.specs.Map.{Outcome, Built, start, finish}
+use Rattle.slot_spec.specs.declared.Link as link
+use Rattle.slot_spec.specs.declared.Node as node
+use Rattle.operation_spec.specs.declared.Want as want
 use Rattle.map_nodes.specs.declared.Sub.the-variants.{Stub}
-use Rattle.operations.specs.declared.Answer.the-variants.{Absent, Removed}
+use Rattle.operation_spec.specs.declared.Answer.the-variants.{Absent, Removed}
 use Rattle.map_nodes.specs.declared.Sub as sub
-use Rattle.operations.specs.declared.Answer as answer
-use Rattle.operations.specs.declared.Wanted.{Wanted}
-use Rattle.operations.specs.declared.Wanted.the-variants.{Done, Fetch}
-use Rattle.slots.specs.Slot.{noLink, noNode}
-use Rattle.leaf_nodes.specs.Convert.{toLink}
-use Rattle.operations.specs.Method.{toAnswer}
-use Rattle.operations.specs.Resume.{resume, unlessMissing}
+use Rattle.operation_spec.specs.declared.Answer as answer
+use Rattle.operation_spec.specs.declared.Wanted.{Wanted}
+use Rattle.operation_spec.specs.declared.Wanted.the-variants.{Done, Fetch}
+use Rattle.slot_spec.specs.Slot.{noLink, noNode}
+use Rattle.leaf_spec.specs.Convert.{toLink}
+use Rattle.operation_spec.specs.Method.{toAnswer}
+use Rattle.operation_spec.specs.Resume.{resume, unlessMissing}
 use Rattle.node_rows.specs.Held.{Held, nodesOf}
 use Rattle.map_nodes.specs.Method.{toSub}
 use Rattle.map_nodes.specs.Upward.{weight, upward}

@@ -8,20 +8,20 @@ use mathlib.Core.List.{List, [], _∷_, _++_}
 use mathlib.Core.Option.{none}
 use lib.ListN.{getD, drop}
 use borrow.Author.Tests.{eq-eqb, ne-eqb, lt-ltb, le-ltb}
-use Rattle.method.specs.Node.{Link, Node, absent, withValue}
-use Rattle.method.specs.Prog.{Want, Prog, done, want, bind}
-use Rattle.method.specs.Answer as method
-use Rattle.method.specs.Map.{Outcome, Step, Sub, stub, top, Built, Spot, gap, hit, Lowest, start, stepAt, below, walk, climb, unwound, finish, getStep, getProg, putStep, putProg, swapped, takeOut, removeStep, removeProg}
-use Rattle.slots.specs.declared.Link as link
-use Rattle.slots.specs.declared.Node as node
-use Rattle.slots.specs.Slot.{noNode}
+use Rattle.method_spec.specs.Node.{Link, Node, absent, withValue}
+use Rattle.method_spec.specs.Prog.{Want, Prog, done, want, bind}
+use Rattle.method_spec.specs.Answer as method
+use Rattle.method_spec.specs.Map.{Outcome, Step, Sub, stub, top, Built, Spot, gap, hit, Lowest, start, stepAt, below, walk, climb, unwound, finish, getStep, getProg, putStep, putProg, swapped, takeOut, removeStep, removeProg}
+use Rattle.slot_spec.specs.declared.Link as link
+use Rattle.slot_spec.specs.declared.Node as node
+use Rattle.slot_spec.specs.Slot.{noNode}
 use Rattle.map_nodes.specs.declared.Sub as sub
-use Rattle.operations.specs.declared.Answer as answer
-use Rattle.operations.specs.declared.Wanted.{Wanted}
-use Rattle.operations.specs.declared.Wanted.the-variants.{Done, Fetch}
-use Rattle.leaf_nodes.specs.Convert.{toLink, toNode}
-use Rattle.operations.specs.Method.{toWant, toAnswer}
-use Rattle.operations.specs.Resume.{Resumed, resume, follow, resumedAs}
+use Rattle.operation_spec.specs.declared.Answer as answer
+use Rattle.operation_spec.specs.declared.Wanted.{Wanted}
+use Rattle.operation_spec.specs.declared.Wanted.the-variants.{Done, Fetch}
+use Rattle.leaf_spec.specs.Convert.{toLink, toNode}
+use Rattle.operation_spec.specs.Method.{toWant, toAnswer}
+use Rattle.operation_spec.specs.Resume.{Resumed, resume, follow, resumedAs}
 use Rattle.operations.specs.ResumeLaws.{resume-bind}
 use Rattle.node_rows.specs.Heights.{Low}
 use Rattle.node_rows.specs.Held.{Held, nodesOf, heldAt}

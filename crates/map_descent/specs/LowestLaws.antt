@@ -7,13 +7,13 @@ use mathlib.Core.Bool.{Bool, true}
 use mathlib.Core.List.{List, [], _∷_}
 use lib.ListN.{drop}
 use borrow.Author.Tests.{eq-eqb, ne-eqb, lt-ltb, le-ltb}
-use Rattle.method.specs.Node.{Node}
-use Rattle.method.specs.Prog.{Want, want}
-use Rattle.method.specs.Map.{Step, Lowest, stepAt, below, lowest}
-use Rattle.operations.specs.declared.Want as want
-use Rattle.operations.specs.declared.Wanted.the-variants.{Done, Fetch}
-use Rattle.operations.specs.Method.{toWant}
-use Rattle.operations.specs.Resume.{finished, resume}
+use Rattle.method_spec.specs.Node.{Node}
+use Rattle.method_spec.specs.Prog.{Want, want}
+use Rattle.method_spec.specs.Map.{Step, Lowest, stepAt, below, lowest}
+use Rattle.operation_spec.specs.declared.Want as want
+use Rattle.operation_spec.specs.declared.Wanted.the-variants.{Done, Fetch}
+use Rattle.operation_spec.specs.Method.{toWant}
+use Rattle.operation_spec.specs.Resume.{finished, resume}
 use Rattle.operations.specs.ResumeLaws.{resume-done, resume-want, resume-missing}
 use Rattle.node_rows.specs.Held.{Held, nodesOf, heldAt, HeldFrom}
 use Rattle.node_rows.specs.HeldLaws.{held-next, held-none}

@@ -9,13 +9,13 @@ use mathlib.Core.List.{List, [], _∷_, _++_}
 use lib.Dec.{eqb, ltb}
 use lib.ListN.{getD}
 use borrow.Author.Tests.{eq-eqb, ne-eqb, lt-ltb, le-ltb}
-use Rattle.basics.specs.Choice.{pick}
-use Rattle.method.specs.Node.{Node}
-use Rattle.method.specs.Prog.{Want}
-use Rattle.method.specs.Map.{Step, stepAt, below, swapped}
-use Rattle.slots.specs.declared.Node as node
-use Rattle.slots.specs.Slot.{noNode}
-use Rattle.leaf_nodes.specs.Convert.{toNode}
+use Rattle.list_spec.specs.Choice.{pick}
+use Rattle.method_spec.specs.Node.{Node}
+use Rattle.method_spec.specs.Prog.{Want}
+use Rattle.method_spec.specs.Map.{Step, stepAt, below, swapped}
+use Rattle.slot_spec.specs.declared.Node as node
+use Rattle.slot_spec.specs.Slot.{noNode}
+use Rattle.leaf_spec.specs.Convert.{toNode}
 use Rattle.node_rows.specs.Heights.{Low}
 use Rattle.node_rows.specs.Held.{Held, heldAt, HeldFrom}
 use Rattle.node_rows.specs.HeldLaws.{held-low}

@@ -3,9 +3,9 @@ use Prim.Native.Nat.{ℕ, zero, suc}
 use mathlib.Core.Bool.{Bool}
 use mathlib.Core.List.{List, [], _∷_}
 use lib.Dec.{eqb, ltb}
-use Rattle.basics.specs.Choice.{pick}
-use Rattle.method.specs.Prog.{Want}
-use Rattle.method.specs.Map.{Step, swapped}
+use Rattle.list_spec.specs.Choice.{pick}
+use Rattle.method_spec.specs.Prog.{Want}
+use Rattle.method_spec.specs.Map.{Step, swapped}
 use Rattle.node_rows.specs.Held.{Held, heldAt}
 use Rattle.map_descent.specs.Walk.{passed, byKey}
 

@@ -5,14 +5,14 @@ use mathlib.Core.Bool.{Bool, true}
 use mathlib.Core.List.{List, [], _∷_}
 use lib.Dec.{ltb}
 use lib.ListN.{drop}
-use Rattle.basics.specs.Choice.{pick}
-use Rattle.method.specs.Node.{Link}
-use Rattle.method.specs.Prog.{Want, Prog, want}
-use Rattle.method.specs.Map.{Step, Spot, gap, hit, Lowest, stepAt, below, walk, lowest}
-use Rattle.slots.specs.declared.Link as link
-use Rattle.operations.specs.declared.Wanted.the-variants.{Done}
-use Rattle.operations.specs.Method.{toWant}
-use Rattle.operations.specs.Resume.{Resumed, missing, finished, resume, resumedAs}
+use Rattle.list_spec.specs.Choice.{pick}
+use Rattle.method_spec.specs.Node.{Link}
+use Rattle.method_spec.specs.Prog.{Want, Prog, want}
+use Rattle.method_spec.specs.Map.{Step, Spot, gap, hit, Lowest, stepAt, below, walk, lowest}
+use Rattle.slot_spec.specs.declared.Link as link
+use Rattle.operation_spec.specs.declared.Wanted.the-variants.{Done}
+use Rattle.operation_spec.specs.Method.{toWant}
+use Rattle.operation_spec.specs.Resume.{Resumed, missing, finished, resume, resumedAs}
 use Rattle.node_rows.specs.Held.{Held, nodesOf, heldAt, HeldFrom}
 use Rattle.map_descent.specs.declared.descend.End.{End}
 use Rattle.map_descent.specs.declared.descend.End.the-variants.{Missing, Gap, Hit}

@@ -3,7 +3,7 @@ use Prim.Native.Nat.{ℕ, min}
 use mathlib.Core.Bool.{Bool, true, false, not}
 use lib.IntN.{ℤ, pos, negsuc, subℕ, negℤ}
 use lib.Dec.{leb}
-use Rattle.method.specs.Node.{Node, child}
+use Rattle.method_spec.specs.Node.{Node, child}
 
 -- A number brought into the range from -2 to 2.
 abbrev pub clamp : ℤ → ℤ

@@ -10,8 +10,8 @@ use lib.Dec.{eqb, ltb, leb}
 use mir.Syntax.{w8}
 use mir.Val.{SFits, ofZ, toZ}
 use borrow.Author.Tests.{lt-ltb, le-ltb, le-leb, lt-leb}
-use Rattle.method.specs.Node.{Node}
-use Rattle.method.specs.Map.{tall}
+use Rattle.method_spec.specs.Node.{Node}
+use Rattle.method_spec.specs.Map.{tall}
 use Rattle.map_nodes.specs.Balance.{balanceOf, towards, leansOut}
 
 -- ---- the five balances

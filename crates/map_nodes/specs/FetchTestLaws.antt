@@ -3,9 +3,9 @@ use Prim.Native.Nat.{ℕ}
 use mathlib.Core.Path.{_≡_}
 use mathlib.Core.Bool.{true, false}
 use borrow.Author.Tests.{eq-eqb, ne-eqb}
-use Rattle.method.specs.Node.{Node, heightOf}
-use Rattle.method.specs.Prog.{Want}
-use Rattle.method.specs.Map.{between, tall, mapTest}
+use Rattle.method_spec.specs.Node.{Node, heightOf}
+use Rattle.method_spec.specs.Prog.{Want}
+use Rattle.method_spec.specs.Map.{between, tall, mapTest}
 
 module _ (w : Want ℕ) (n : Node ℕ) where
   pub tall-left : tall true n ≡ true → mapTest w n ≡ false

@@ -2,11 +2,11 @@
 use Prim.Native.Nat.{ℕ, suc, _≤_}
 use native.Mathlib.Omega.{arith}
 use mathlib.Core.Bool.{Bool, true, false, not, Bool·beq}
-use Rattle.basics.specs.Choice.{pick}
-use Rattle.method.specs.Node.{Link, Node, child, withChild, linkTo}
+use Rattle.list_spec.specs.Choice.{pick}
+use Rattle.method_spec.specs.Node.{Link, Node, child, withChild, linkTo}
 use mathlib.Core.List.{List, [], _∷_, _++_}
 use mathlib.Core.Option.{Option, none, some}
-use Rattle.method.specs.Map.{Step, Sub, stub, top, kid, topOf, linkOf, placed, nearOn, rotate}
+use Rattle.method_spec.specs.Map.{Step, Sub, stub, top, kid, topOf, linkOf, placed, nearOn, rotate}
 use Rattle.node_rows.specs.Heights.{Low, Lows}
 use Rattle.map_nodes.specs.Heights.{LowKid, LowSub}
 

@@ -1,8 +1,8 @@
 -- Bounds of the heights in subtrees at hand.
 use Prim.Native.Nat.{ℕ, _≤_}
 use mathlib.Core.Option.{Option, none, some}
-use Rattle.method.specs.Node.{Node}
-use Rattle.method.specs.Map.{Sub, stub, top}
+use Rattle.method_spec.specs.Node.{Node}
+use Rattle.method_spec.specs.Map.{Sub, stub, top}
 use Rattle.node_rows.specs.Heights.{Low}
 
 module _ {T : Type 0} (most : ℕ) where

@@ -6,10 +6,10 @@ use Rattle.map_nodes.specs.declared.Kid.the-variants.{Away, Here}
 use Rattle.map_nodes.specs.declared.Sub as sub
 use Rattle.map_nodes.specs.declared.Sub.the-variants.{Stub, Top}
 use Rattle.map_nodes.specs.declared.Step as step
-use Rattle.method.specs.Node.{Node}
-use Rattle.method.specs.Map.{Step, Sub, stub, top}
-use Rattle.leaf_nodes.specs.Convert.{toLink, toNode}
-use Rattle.operations.specs.Method.{toBound}
+use Rattle.method_spec.specs.Node.{Node}
+use Rattle.method_spec.specs.Map.{Step, Sub, stub, top}
+use Rattle.leaf_spec.specs.Convert.{toLink, toNode}
+use Rattle.operation_spec.specs.Method.{toBound}
 
 abbrev pub toKid : Kid → Option (Node ℕ)
 toKid Away = none

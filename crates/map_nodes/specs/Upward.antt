@@ -3,9 +3,9 @@ use Prim.Native.Nat.{ℕ, suc}
 use mathlib.Core.Bool.{Bool, true, false}
 use mathlib.Core.List.{List}
 use lib.ListN.{length}
-use Rattle.method.specs.Node.{Node}
-use Rattle.method.specs.Prog.{Prog, done}
-use Rattle.method.specs.Map.{Step, Sub, Built, kids, climb, unwind}
+use Rattle.method_spec.specs.Node.{Node}
+use Rattle.method_spec.specs.Prog.{Prog, done}
+use Rattle.method_spec.specs.Map.{Step, Sub, Built, kids, climb, unwind}
 
 unfoldable pub upward : Bool → List (Step ℕ) → Sub ℕ → List (Node ℕ) → Prog ℕ (Built ℕ)
 upward true path b out = climb path b out

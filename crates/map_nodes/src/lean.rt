@@ -1,8 +1,8 @@
 // A node's balance, and what it decides.
-use slots::Node;
+use slot_spec::Node;
 ghost use mathlib.Core.Path.{_≡_};
-ghost use Rattle.method.specs.Map.{tall};
-ghost use Rattle.leaf_nodes.specs.Convert.{toNode};
+ghost use Rattle.method_spec.specs.Map.{tall};
+ghost use Rattle.leaf_spec.specs.Convert.{toNode};
 ghost use Rattle.map_nodes.specs.Balance.{balanceOf, towards, leansOut};
 
 // Document 01's balance: "left height minus right height, from -2 to 2".

@@ -1,7 +1,7 @@
 // Nodes of the map: their sides and balance, the steps of a walk over them, subtrees as they are at hand, and the fetch test.
-use operations::Bound;
-use slots::Link;
-use slots::Node;
+use operation_spec::Bound;
+use slot_spec::Link;
+use slot_spec::Node;
 
 // A node that may be at hand.
 pub enum Kid {

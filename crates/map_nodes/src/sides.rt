@@ -1,10 +1,10 @@
 // The links of a node on its sides, and the link to it.
-use slots::Link;
-use slots::Node;
+use slot_spec::Link;
+use slot_spec::Node;
 ghost use mathlib.Core.Path.{_≡_};
 ghost use Prim.Native.Nat.{max};
-ghost use Rattle.method.specs.Node.{child, withChild, linkTo};
-ghost use Rattle.leaf_nodes.specs.Convert.{toLink, toNode};
+ghost use Rattle.method_spec.specs.Node.{child, withChild, linkTo};
+ghost use Rattle.leaf_spec.specs.Convert.{toLink, toNode};
 ghost use Rattle.node_rows.specs.Heights.{Low};
 
 // The link of a node on a side, the left or else the right.

@@ -5,11 +5,11 @@ use super::Sub;
 use super::sides::child_link;
 use super::sides::link_to;
 use super::sides::with_child;
-use slots::Link;
-use slots::Node;
+use slot_spec::Link;
+use slot_spec::Node;
 ghost use mathlib.Core.Path.{_≡_};
-ghost use Rattle.method.specs.Map.{linkOf, topOf, kid, placed, nearOn};
-ghost use Rattle.leaf_nodes.specs.Convert.{toLink, toNode};
+ghost use Rattle.method_spec.specs.Map.{linkOf, topOf, kid, placed, nearOn};
+ghost use Rattle.leaf_spec.specs.Convert.{toLink, toNode};
 ghost use Rattle.map_nodes.specs.Method.{toKid, toSub, toStep};
 ghost use Rattle.map_nodes.specs.Heights.{LowSub};
 

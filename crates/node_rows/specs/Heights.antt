@@ -1,7 +1,7 @@
 -- Bounds of the heights in nodes: what the code needs so that no height goes beyond a byte.
 use Prim.Native.Nat.{ℕ, _≤_}
 use mathlib.Core.List.{List, [], _∷_}
-use Rattle.method.specs.Node.{Node}
+use Rattle.method_spec.specs.Node.{Node}
 
 module _ {T : Type 0} (most : ℕ) where
   -- Both links of a node are at most so high.

@@ -3,11 +3,11 @@ use Prim.Native.Nat.{ℕ, _≤_}
 use mathlib.Core.Path.{_≡_}
 use mathlib.Core.List.{List, map}
 use lib.ListN.{length, getD, take}
-use Rattle.slots.specs.Slot.{noNode}
-use Rattle.slots.specs.Row.{nodesFrom}
-use Rattle.slots.specs.declared.Node as node
-use Rattle.method.specs.Node.{Node}
-use Rattle.leaf_nodes.specs.Convert.{toNode}
+use Rattle.slot_spec.specs.Slot.{noNode}
+use Rattle.slot_spec.specs.Row.{nodesFrom}
+use Rattle.slot_spec.specs.declared.Node as node
+use Rattle.method_spec.specs.Node.{Node}
+use Rattle.leaf_spec.specs.Convert.{toNode}
 use Rattle.node_rows.specs.Row.{places, fetches}
 use Rattle.node_rows.specs.Heights.{Lows}
 

@@ -5,13 +5,13 @@ use mathlib.Core.Path.{_≡_, _∙_, ap, subst}
 use mathlib.Core.List.{List, [], _∷_, _++_, map, map-append}
 use lib.ListN.{length, getD, take, drop, set, length-take, length-map, drop-of-length-le, List·getD-map}
 use lib.Seq.{drop-cons, getD-take, take-suc-set}
-use Rattle.method.specs.Node.{Node}
+use Rattle.method_spec.specs.Node.{Node}
 use native.Mathlib.Numerals.{add-one}
-use Rattle.slots.specs.declared.Node as node
-use Rattle.slots.specs.Slot.{noNode}
-use Rattle.leaf_nodes.specs.Convert.{toNode}
-use Rattle.slots.specs.Row.{nodesFrom}
-use Rattle.slots.specs.RowLaws.{row-length}
+use Rattle.slot_spec.specs.declared.Node as node
+use Rattle.slot_spec.specs.Slot.{noNode}
+use Rattle.leaf_spec.specs.Convert.{toNode}
+use Rattle.slot_spec.specs.Row.{nodesFrom}
+use Rattle.slot_laws.specs.RowLaws.{row-length}
 use Rattle.node_rows.specs.Row.{places, words}
 use Rattle.node_rows.specs.Held.{Held, heldIn, nodesOf, heldAt}
 use Rattle.node_rows.specs.Heights.{Low, Lows}

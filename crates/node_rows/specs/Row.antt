@@ -4,8 +4,8 @@ use mathlib.Core.Bool.{Bool, true, false}
 use mathlib.Core.List.{List, map}
 use lib.Dec.{eqb}
 use lib.ListN.{take}
-use Rattle.basics.specs.Choice.{pick}
-use Rattle.method.specs.Prog.{From, root, side}
+use Rattle.list_spec.specs.Choice.{pick}
+use Rattle.method_spec.specs.Prog.{From, root, side}
 
 -- The places of a row, its words, and the most fetches of a call.
 abbrev pub places : ℕ

@@ -5,7 +5,7 @@ use Prim.Native.Nat.{ℕ, _+_, _*_, _/_, _%_, _<_}
 use native.Mathlib.Omega.{arith}
 use lib.Dec.{eqb}
 use borrow.Author.Tests.{ne-eqb, eq-eqb}
-use Rattle.method.specs.Prog.{root, side}
+use Rattle.method_spec.specs.Prog.{root, side}
 use Rattle.node_rows.specs.Row.{fromIn}
 
 pub from-root : (x : ℕ) → x ≡ 0 → fromIn x ≡ root

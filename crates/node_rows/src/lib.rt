@@ -1,16 +1,16 @@
 // For the length of a call the nodes that it has fetched, and those that its step makes, stand in rows of lent words, a slot's
 // words to a node; a second row says where the link to each fetched node stood.
-use operations::From;
-use slots::Node;
-use slots::Slot;
-use slots::codec::node_of;
-use slots::codec::slot_of;
+use operation_spec::From;
+use slot_spec::Node;
+use slot_spec::Slot;
+use slots::node_of;
+use slots::slot_of;
 ghost use mathlib.Core.Path.{_≡_};
 ghost use Prim.Native.Nat.{_<_};
 ghost use lib.ListN.{length, getD, set};
-ghost use Rattle.slots.specs.Slot.{noNode};
-ghost use Rattle.slots.specs.Row.{nodesFrom};
-ghost use Rattle.operations.specs.Method.{toFrom};
+ghost use Rattle.slot_spec.specs.Slot.{noNode};
+ghost use Rattle.slot_spec.specs.Row.{nodesFrom};
+ghost use Rattle.operation_spec.specs.Method.{toFrom};
 ghost use Rattle.node_rows.specs.Row.{places, words, fetches, fromIn};
 
 // The most fetch rounds of a call: three for each level of the greatest height, 11.

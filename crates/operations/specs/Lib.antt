@@ -1,3 +1,1 @@
-pub mod Method
-pub mod Resume
 pub mod ResumeLaws

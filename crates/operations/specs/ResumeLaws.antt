@@ -2,13 +2,13 @@
 use mathlib.Core.Path.{_≡_, refl}
 use mathlib.Core.Bool.{Bool, true, false}
 use mathlib.Core.List.{List, [], _∷_}
-use Rattle.basics.specs.Choice.{pick}
+use Rattle.list_spec.specs.Choice.{pick}
 use Prim.Native.Nat.{ℕ}
-use Rattle.method.specs.Node.{Link, Node}
-use Rattle.method.specs.Prog.{Want, Prog, done, want, bind, after}
-use Rattle.method.specs.Map.{Outcome}
-use Rattle.operations.specs.Method.{wantedIn, outcomeIn}
-use Rattle.operations.specs.Resume.{Resumed, missing, finished, resume, Ends, follow, wantedOf, outcomeOf}
+use Rattle.method_spec.specs.Node.{Link, Node}
+use Rattle.method_spec.specs.Prog.{Want, Prog, done, want, bind, after}
+use Rattle.method_spec.specs.Map.{Outcome}
+use Rattle.operation_spec.specs.Method.{wantedIn, outcomeIn}
+use Rattle.operation_spec.specs.Resume.{Resumed, missing, finished, resume, Ends, follow, wantedOf, outcomeOf}
 
 module _ {T A : Type 0} where
   pub resume-done : (a : A) (ns : List (Node T)) → resume (done a) ns ≡ finished a ns

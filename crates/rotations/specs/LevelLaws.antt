@@ -8,16 +8,16 @@ use mathlib.Core.List.{List, [], _∷_}
 use mathlib.Core.Option.{Option, none, some}
 use lib.Dec.{leb}
 use lib.ListN.{length, length-append}
-use Rattle.basics.specs.Choice.{pick}
-use Rattle.method.specs.Node.{Node, child}
-use Rattle.method.specs.Prog.{Want, done}
-use Rattle.method.specs.Map.{Step, Sub, stub, Built, listed, topOf, kid, kids, nodesAt, seat, beside, below, stepAt, tall, rotate, opened, single, double, turn, placed, rest, nearOn, othersOf, raise}
+use Rattle.list_spec.specs.Choice.{pick}
+use Rattle.method_spec.specs.Node.{Node, child}
+use Rattle.method_spec.specs.Prog.{Want, done}
+use Rattle.method_spec.specs.Map.{Step, Sub, stub, Built, listed, topOf, kid, kids, nodesAt, seat, beside, below, stepAt, tall, rotate, opened, single, double, turn, placed, rest, nearOn, othersOf, raise}
 use Rattle.node_rows.specs.Heights.{Low, Lows}
 use Rattle.map_nodes.specs.Heights.{LowKid, LowSub}
 use Rattle.map_nodes.specs.Upward.{weight}
 use Rattle.map_nodes.specs.HeightLaws.{low-more, low-kid, low-top, low-down, low-up, low-placed, low-near, low-kid-more}
 use Rattle.rotations.specs.RotationLaws.{double-as}
-use Rattle.operations.specs.Resume.{resume, Ends}
+use Rattle.operation_spec.specs.Resume.{resume, Ends}
 use Rattle.operations.specs.ResumeLaws.{ends-bind, ends-done, ends-pick, ends-more}
 
 module _ {T : Type 0} where

@@ -6,12 +6,12 @@ use mathlib.Core.List.{List, _++_}
 use mathlib.Core.Option.{Option, none, some}
 use lib.Dec.{leb}
 use lib.ListN.{drop}
-use Rattle.basics.specs.Choice.{pick}
-use Rattle.method.specs.Node.{Node, child}
-use Rattle.method.specs.Prog.{Want, Prog, done, bind}
-use Rattle.method.specs.Map.{Step, Sub, Built, Rotated, kid, beside, below, stepAt, listed, opened, single, double, raise, rest}
-use Rattle.leaf_nodes.specs.Convert.{toNode}
-use Rattle.operations.specs.Resume.{Resumed, missing, finished, resume, resumedAs}
+use Rattle.list_spec.specs.Choice.{pick}
+use Rattle.method_spec.specs.Node.{Node, child}
+use Rattle.method_spec.specs.Prog.{Want, Prog, done, bind}
+use Rattle.method_spec.specs.Map.{Step, Sub, Built, Rotated, kid, beside, below, stepAt, listed, opened, single, double, raise, rest}
+use Rattle.leaf_spec.specs.Convert.{toNode}
+use Rattle.operation_spec.specs.Resume.{Resumed, missing, finished, resume, resumedAs}
 use Rattle.node_rows.specs.Held.{Held, nodesOf}
 use Rattle.map_nodes.specs.Method.{toKid, toSub}
 use Rattle.map_nodes.specs.Heights.{LowKid}

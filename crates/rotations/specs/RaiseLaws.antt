@@ -7,29 +7,29 @@ use mathlib.Core.Bool.{Bool, true, false, not}
 use mathlib.Core.List.{List, [], _++_, append-nil}
 use mathlib.Core.Option.{Option, none, some}
 use lib.ListN.{length, getD, drop}
-use Rattle.method.specs.Node.{Node, child}
-use Rattle.method.specs.Prog.{Want, Prog, done, want}
-use Rattle.method.specs.Map.{Step, Sub, Built, listed, kid, topOf, beside, below, stepAt, tall, opened, single, double, turn, placed, rest, nearOn, othersOf, seat, raise}
-use Rattle.slots.specs.declared.Node as node
+use Rattle.method_spec.specs.Node.{Node, child}
+use Rattle.method_spec.specs.Prog.{Want, Prog, done, want}
+use Rattle.method_spec.specs.Map.{Step, Sub, Built, listed, kid, topOf, beside, below, stepAt, tall, opened, single, double, turn, placed, rest, nearOn, othersOf, seat, raise}
+use Rattle.slot_spec.specs.declared.Node as node
 use Rattle.map_nodes.specs.declared.Sub as sub
-use Rattle.operations.specs.declared.Want as want
-use Rattle.operations.specs.declared.Wanted.the-variants.{Done, Fetch}
+use Rattle.operation_spec.specs.declared.Want as want
+use Rattle.operation_spec.specs.declared.Wanted.the-variants.{Done, Fetch}
 use Rattle.rotations.specs.declared.raise.Others.{Others}
 use Rattle.rotations.specs.declared.raise.Raised.{Raised}
 use Rattle.rotations.specs.declared.raise.Opened.{Opened}
 use Rattle.map_nodes.specs.declared.Kid.{Kid}
 use Rattle.map_nodes.specs.declared.Kid.the-variants.{Away, Here}
-use Rattle.leaf_nodes.specs.Convert.{toNode}
-use Rattle.operations.specs.Method.{toWant}
+use Rattle.leaf_spec.specs.Convert.{toNode}
+use Rattle.operation_spec.specs.Method.{toWant}
 use Rattle.map_nodes.specs.Method.{toKid, toSub}
-use Rattle.slots.specs.Slot.{noNode}
+use Rattle.slot_spec.specs.Slot.{noNode}
 use Rattle.node_rows.specs.Held.{Held, nodesOf, HeldFrom}
 use Rattle.node_rows.specs.Heights.{Low}
 use Rattle.node_rows.specs.HeldLaws.{held-next, held-none, held-low}
 use Rattle.map_nodes.specs.Heights.{LowSub}
 use Rattle.map_nodes.specs.HeightLaws.{low-more, low-placed, low-near}
 use Rattle.map_nodes.specs.Balance.{leansOut}
-use Rattle.operations.specs.Resume.{resume, finished, follow}
+use Rattle.operation_spec.specs.Resume.{resume, finished, follow}
 use Rattle.operations.specs.ResumeLaws.{resume-done, resume-want, resume-missing, resume-bind, resume-map}
 use Rattle.rotations.specs.Raise.{Opens, openedAs, listOf, builtOf, Raises, turnOver}
 

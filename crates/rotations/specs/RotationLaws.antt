@@ -1,10 +1,10 @@
 -- The rotations, put together from their parts as the code computes them.
 use mathlib.Core.Path.{_≡_, refl, ap}
 use mathlib.Core.Bool.{Bool, true, false, not}
-use Rattle.method.specs.Node.{Link, Node, child, withChild, linkTo}
+use Rattle.method_spec.specs.Node.{Link, Node, child, withChild, linkTo}
 use mathlib.Core.List.{List, [], _++_}
 use mathlib.Core.Option.{Option, none, some}
-use Rattle.method.specs.Map.{Sub, Built, Rotated, listed, rotate, seat, single, double}
+use Rattle.method_spec.specs.Map.{Sub, Built, Rotated, listed, rotate, seat, single, double}
 
 module _ {T : Type 0} where
   pub rotate-is : (s : Bool) (n c : Node T) {inner new : Link T} {up down : Node T}

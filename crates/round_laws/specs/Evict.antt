@@ -5,16 +5,16 @@ use mathlib.Core.List.{List, [], _∷_, _++_, append-assoc, map, List·Memᴰ, L
 use Prim.Native.Nat.{ℕ, zero, suc, _≤_, _<_}
 use native.Mathlib.Omega.{arith}
 use lib.ListN.{length, getD}
-use Rattle.basics.specs.Perm.{Perm, trans}
-use Rattle.basics.specs.PermLaws.{perm-refl, perm-append-left}
-use Rattle.basics.specs.Distinct.{Distinct, All}
-use Rattle.basics.specs.DistinctLaws.{all-nil, all-cons, all-append, all-left, all-right, all-perm}
-use Rattle.slots.specs.LittleEndianLaws.{Bytes}
-use Rattle.slots.specs.Tree.{slotLength, bucketLength}
-use Rattle.slots.specs.Slot.{bucketBytes}
-use Rattle.rounds.specs.Format.{Format, Read, full, empty}
-use Rattle.rounds.specs.Round.{slotAt, withBucket, readBucket, readBuckets, choose, evict}
-use Rattle.round_laws.specs.Whole.{goodOnes, IsTree, Lawful}
+use Rattle.list_spec.specs.Perm.{Perm, trans}
+use Rattle.list_laws.specs.PermLaws.{perm-refl, perm-append-left}
+use Rattle.list_spec.specs.Distinct.{Distinct, All}
+use Rattle.list_laws.specs.DistinctLaws.{all-nil, all-cons, all-append, all-left, all-right, all-perm}
+use Rattle.slot_spec.specs.LittleEndian.{Bytes}
+use Rattle.slot_spec.specs.Tree.{slotLength, bucketLength}
+use Rattle.slot_spec.specs.Slot.{bucketBytes}
+use Rattle.round_spec.specs.Format.{Format, Read, full, empty}
+use Rattle.round_spec.specs.Round.{slotAt, withBucket, readBucket, readBuckets, choose, evict}
+use Rattle.round_spec.specs.Whole.{goodOnes, IsTree, Lawful}
 use Rattle.round_laws.specs.Paths.{InTree}
 use Rattle.round_laws.specs.Places.{zeroSlot, with-bucket-is-tree, slot-at-same, slot-at-other, filled-length, filled-slot, filled-bytes}
 use Rattle.round_laws.specs.Readings.{NotBad, good-append, readings-step, bucket-same}

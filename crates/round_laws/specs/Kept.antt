@@ -5,16 +5,16 @@ use mathlib.Core.List.{List, [], _∷_, _++_, map-append, append-nil, List·Mem�
 use mathlib.Core.Option.{Option, none, some}
 use Prim.Native.Nat.{ℕ, zero, suc, _+_, _*_, _^_, _≤_, _<_}
 use native.Mathlib.Omega.{arith}
-use Rattle.basics.specs.Perm.{Perm, trans}
-use Rattle.basics.specs.PermLaws.{perm-sym, perm-append-left, perm-append-right, perm-map}
-use Rattle.basics.specs.Distinct.{Distinct, All}
-use Rattle.basics.specs.DistinctLaws.{all-nil, all-append, all-right, all-perm, distinct-perm}
-use Rattle.basics.specs.Shuffle.{part, _&_, shuffle}
+use Rattle.list_spec.specs.Perm.{Perm, trans}
+use Rattle.list_laws.specs.PermLaws.{perm-sym, perm-append-left, perm-append-right, perm-map}
+use Rattle.list_spec.specs.Distinct.{Distinct, All}
+use Rattle.list_laws.specs.DistinctLaws.{all-nil, all-append, all-right, all-perm, distinct-perm}
+use Rattle.list_laws.specs.Shuffle.{part, _&_, shuffle}
 use lib.ListN.{take, drop, replicate, length-replicate}
-use Rattle.slots.specs.Tree.{path, slotLength, bucketStart, treeLength}
-use Rattle.rounds.specs.Format.{Format, Read, full, empty, bad}
-use Rattle.rounds.specs.Round.{Wish, Hand, Written, slotAt, keysOf, readBuckets, join, readHalf, writeHalf}
-use Rattle.round_laws.specs.Whole.{allBuckets, goodOnes, listed, IsTree, contents, Lawful, Kept}
+use Rattle.slot_spec.specs.Tree.{path, slotLength, bucketStart, treeLength}
+use Rattle.round_spec.specs.Format.{Format, Read, full, empty, bad}
+use Rattle.round_spec.specs.Round.{Wish, Hand, Written, slotAt, keysOf, readBuckets, join, readHalf, writeHalf}
+use Rattle.round_spec.specs.Whole.{allBuckets, goodOnes, listed, IsTree, contents, Lawful, Kept}
 use Rattle.round_laws.specs.Paths.{InTree, all-in-tree, path-in-tree, path-distinct, path-and-others, others-off, others-in-tree}
 use Rattle.round_laws.specs.Places.{zeroSlot, zero-bytes, slot-fits}
 use Rattle.round_laws.specs.Readings.{NotBad, all-good-known, all-good-says, readings-append, readings-perm, bucket-readings, reading-of}

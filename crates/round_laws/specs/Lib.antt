@@ -1,4 +1,3 @@
-pub mod Whole
 pub mod Paths
 pub mod Places
 pub mod NodeLaws

@@ -10,15 +10,15 @@ use native.Mathlib.Omega.{arith}
 use borrow.Author.Tests.{eqb-true, eq-eqb, ne-eqb}
 use lib.Dec.{eqb, ltb}
 use lib.ListN.{length}
-use Rattle.basics.specs.Choice.{pick}
-use Rattle.basics.specs.Perm.{Perm, nil, cons, swap, trans}
-use Rattle.basics.specs.PermLaws.{perm-refl, perm-sym, perm-front, perm-append-left}
-use Rattle.basics.specs.Distinct.{Distinct, All}
-use Rattle.basics.specs.DistinctLaws.{all-nil, all-cons}
-use Rattle.slots.specs.Tree.{passes}
-use Rattle.rounds.specs.Format.{Format}
-use Rattle.rounds.specs.Round.{Hand, Chosen, keysOf, insert, join, takeFirst, taking, leaving, choose}
-use Rattle.round_laws.specs.Whole.{listed}
+use Rattle.list_spec.specs.Choice.{pick}
+use Rattle.list_spec.specs.Perm.{Perm, nil, cons, swap, trans}
+use Rattle.list_laws.specs.PermLaws.{perm-refl, perm-sym, perm-front, perm-append-left}
+use Rattle.list_spec.specs.Distinct.{Distinct, All}
+use Rattle.list_laws.specs.DistinctLaws.{all-nil, all-cons}
+use Rattle.slot_spec.specs.Tree.{passes}
+use Rattle.round_spec.specs.Format.{Format}
+use Rattle.round_spec.specs.Round.{Hand, Chosen, keysOf, insert, join, takeFirst, taking, leaving, choose}
+use Rattle.round_spec.specs.Whole.{listed}
 
 module _ {E : Type 0} (F : Format E) where
   -- ---- join

@@ -5,16 +5,16 @@ use mathlib.Core.Logic.{⊎-elim}
 use mathlib.Core.List.{List, [], _∷_, _++_, map-append, List·Memᴰ, List·Memᴰ·append-cases, Memᴰ·append-left, Memᴰ·append-right}
 use mathlib.Core.Option.{Option, none, some}
 use Prim.Native.Nat.{ℕ, _^_, _<_}
-use Rattle.basics.specs.Perm.{Perm, trans}
-use Rattle.basics.specs.PermLaws.{perm-sym, perm-member, perm-append-right, perm-map}
-use Rattle.basics.specs.Distinct.{Distinct, All}
-use Rattle.basics.specs.DistinctLaws.{all-left, all-perm, distinct-perm, distinct-right}
-use Rattle.basics.specs.Shuffle.{part, _&_, shuffle}
-use Rattle.slots.specs.Tree.{path}
-use Rattle.slots.specs.TreeLaws.{among-member}
-use Rattle.rounds.specs.Format.{Format, full}
-use Rattle.rounds.specs.Round.{Wish, Hand, keysOf, readBuckets, join, takeFirst, granted, readHalf}
-use Rattle.round_laws.specs.Whole.{allBuckets, goodOnes, IsTree, contents, Lawful, Kept}
+use Rattle.list_spec.specs.Perm.{Perm, trans}
+use Rattle.list_laws.specs.PermLaws.{perm-sym, perm-member, perm-append-right, perm-map}
+use Rattle.list_spec.specs.Distinct.{Distinct, All}
+use Rattle.list_laws.specs.DistinctLaws.{all-left, all-perm, distinct-perm, distinct-right}
+use Rattle.list_laws.specs.Shuffle.{part, _&_, shuffle}
+use Rattle.slot_spec.specs.Tree.{path}
+use Rattle.slot_laws.specs.TreeLaws.{among-member}
+use Rattle.round_spec.specs.Format.{Format, full}
+use Rattle.round_spec.specs.Round.{Wish, Hand, keysOf, readBuckets, join, takeFirst, granted, readHalf}
+use Rattle.round_spec.specs.Whole.{allBuckets, goodOnes, IsTree, contents, Lawful, Kept}
 use Rattle.round_laws.specs.Paths.{all-in-tree, path-and-others}
 use Rattle.round_laws.specs.Readings.{NotBad, member-good, all-good-says, readings-append, readings-perm, reading-there, buckets-hold}
 use Rattle.round_laws.specs.Lists.{join-perm, take-finds}

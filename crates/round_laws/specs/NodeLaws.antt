@@ -8,20 +8,22 @@ use native.Mathlib.Decide.{decLe}
 use native.Mathlib.Omega.{arith}
 use lib.Dec.{eqb}
 use lib.ListN.{length, take, drop, length-take, length-drop}
-use Rattle.basics.specs.Choice.{pick}
-use Rattle.slots.specs.LittleEndianLaws.{Bytes, value-below, bytes-take, bytes-drop}
-use Rattle.slots.specs.Layout.{fields, total}
-use Rattle.slots.specs.LayoutLaws.{Fit, length-pack, pack-bytes}
-use Rattle.slots.specs.Tree.{slotLength}
-use Rattle.slots.specs.Slot.{widths, numbers, fieldsIn, fieldsOf, nodeOf, encode, bad, wellFormed, readSlot}
-use Rattle.slots.specs.SlotLaws.{Ranged}
-use Rattle.slots.specs.ReadLaws.{ReadAs, written-reads-back, read-is-written, read-zero, own-tag-too-large}
-use Rattle.slots.specs.declared.Node.{Node}
-use Rattle.slots.specs.declared.Reading.{Reading}
-use Rattle.slots.specs.declared.Reading.the-variants.{Full, Empty, Bad}
-use Rattle.rounds.specs.Format.{full}
-use Rattle.rounds.specs.Nodes.{nodeFormat, readingOf}
-use Rattle.round_laws.specs.Whole.{Lawful}
+use Rattle.list_spec.specs.Choice.{pick}
+use Rattle.slot_spec.specs.LittleEndian.{Bytes}
+use Rattle.slot_laws.specs.LittleEndianLaws.{value-below, bytes-take, bytes-drop}
+use Rattle.slot_spec.specs.Layout.{fields, total}
+use Rattle.slot_spec.specs.Layout.{Fit}
+use Rattle.slot_laws.specs.LayoutLaws.{length-pack, pack-bytes}
+use Rattle.slot_spec.specs.Tree.{slotLength}
+use Rattle.slot_spec.specs.Slot.{widths, numbers, fieldsIn, fieldsOf, nodeOf, encode, bad, wellFormed, readSlot}
+use Rattle.slot_spec.specs.Slot.{Ranged}
+use Rattle.slot_laws.specs.ReadLaws.{ReadAs, written-reads-back, read-is-written, read-zero, own-tag-too-large}
+use Rattle.slot_spec.specs.declared.Node.{Node}
+use Rattle.slot_spec.specs.declared.Reading.{Reading}
+use Rattle.slot_spec.specs.declared.Reading.the-variants.{Full, Empty, Bad}
+use Rattle.round_spec.specs.Format.{full}
+use Rattle.round_spec.specs.Nodes.{nodeFormat, readingOf}
+use Rattle.round_spec.specs.Whole.{Lawful}
 
 -- A node that may wait or stand in a slot of a tree of size k.
 abbrev pub ProperNode : ℕ → Node → Type 0

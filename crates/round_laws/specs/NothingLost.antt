@@ -4,15 +4,15 @@ use mathlib.Core.Path.{_≡_, refl, _∙_, ap}
 use mathlib.Core.List.{List, [], _∷_, _++_}
 use mathlib.Core.Option.{Option, some}
 use Prim.Native.Nat.{ℕ, _^_, _<_}
-use Rattle.basics.specs.Perm.{Perm, trans}
-use Rattle.basics.specs.PermLaws.{perm-sym, perm-of-eq, perm-append, perm-append-left, perm-append-right, perm-cancel}
-use Rattle.basics.specs.Distinct.{Disjoint, All}
-use Rattle.basics.specs.DistinctLaws.{all-append, all-left, all-right, all-perm}
-use Rattle.basics.specs.Shuffle.{part, _&_, shuffle}
-use Rattle.slots.specs.Tree.{path}
-use Rattle.rounds.specs.Format.{Format, Read}
-use Rattle.rounds.specs.Round.{Wish, Hand, Written, readBuckets, readHalf, writeHalf}
-use Rattle.round_laws.specs.Whole.{allBuckets, goodOnes, listed, IsTree, contents, Lawful}
+use Rattle.list_spec.specs.Perm.{Perm, trans}
+use Rattle.list_laws.specs.PermLaws.{perm-sym, perm-of-eq, perm-append, perm-append-left, perm-append-right, perm-cancel}
+use Rattle.list_spec.specs.Distinct.{Disjoint, All}
+use Rattle.list_laws.specs.DistinctLaws.{all-append, all-left, all-right, all-perm}
+use Rattle.list_laws.specs.Shuffle.{part, _&_, shuffle}
+use Rattle.slot_spec.specs.Tree.{path}
+use Rattle.round_spec.specs.Format.{Format, Read}
+use Rattle.round_spec.specs.Round.{Wish, Hand, Written, readBuckets, readHalf, writeHalf}
+use Rattle.round_spec.specs.Whole.{allBuckets, goodOnes, listed, IsTree, contents, Lawful}
 use Rattle.round_laws.specs.Paths.{InTree, path-in-tree, path-distinct, path-and-others, others-off, others-in-tree}
 use Rattle.round_laws.specs.Readings.{good-append, good-perm, readings-append, readings-perm, readings-same, buckets-hold}
 use Rattle.round_laws.specs.Evict.{evict-is-tree, evict-other, evict-perm, evict-proper}

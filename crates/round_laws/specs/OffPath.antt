@@ -5,14 +5,14 @@ use mathlib.Core.Bool.{Bool, true, false}
 use mathlib.Core.List.{List, [], _∷_, _++_, map, List·Memᴰ, List·Memᴰ·head, List·Memᴰ·tail}
 use mathlib.Core.Option.{Option, none, some}
 use Prim.Native.Nat.{ℕ, zero, suc, _^_, _<_}
-use Rattle.basics.specs.Choice.{pick}
-use Rattle.basics.specs.Distinct.{All}
-use Rattle.basics.specs.DistinctLaws.{all-perm, all-right}
-use Rattle.slots.specs.Tree.{path, passes, among}
-use Rattle.slots.specs.Slot.{bucketBytes}
-use Rattle.rounds.specs.Format.{Format}
-use Rattle.rounds.specs.Round.{Chosen, slotAt, withBucket, noneTwice, allGood, keysOf, readBucket, readBuckets, insert, join, granted, joined, grantedFrom, readHalf, taking, leaving, choose, evict, writeHalf}
-use Rattle.round_laws.specs.Whole.{allBuckets, IsTree, Lawful}
+use Rattle.list_spec.specs.Choice.{pick}
+use Rattle.list_spec.specs.Distinct.{All}
+use Rattle.list_laws.specs.DistinctLaws.{all-perm, all-right}
+use Rattle.slot_spec.specs.Tree.{path, passes, among}
+use Rattle.slot_spec.specs.Slot.{bucketBytes}
+use Rattle.round_spec.specs.Format.{Format}
+use Rattle.round_spec.specs.Round.{Chosen, slotAt, withBucket, noneTwice, allGood, keysOf, readBucket, readBuckets, insert, join, granted, joined, grantedFrom, readHalf, taking, leaving, choose, evict, writeHalf}
+use Rattle.round_spec.specs.Whole.{allBuckets, IsTree, Lawful}
 use Rattle.round_laws.specs.Paths.{all-in-tree, path-in-tree}
 use Rattle.round_laws.specs.Lists.{choose-takes, choose-leaves, choose-perm}
 use Rattle.round_laws.specs.Evict.{afterBucket, evict-step, evict-other}

@@ -8,12 +8,12 @@ use native.Mathlib.Numerals.{add-one}
 use native.Mathlib.Omega.{arith}
 use native.Mathlib.Decide.{decLe}
 use lib.Pow.{pow-pos}
-use Rattle.basics.specs.Perm.{Perm, cons, trans}
-use Rattle.basics.specs.PermLaws.{perm-refl, perm-sym, perm-remove, perm-member}
-use Rattle.basics.specs.Distinct.{Distinct, Disjoint, All}
-use Rattle.basics.specs.DistinctLaws.{all-nil, all-cons, all-append, distinct-perm, distinct-append, distinct-disjoint}
-use Rattle.slots.specs.Tree.{halvings, path}
-use Rattle.round_laws.specs.Whole.{upTo, allBuckets}
+use Rattle.list_spec.specs.Perm.{Perm, cons, trans}
+use Rattle.list_laws.specs.PermLaws.{perm-refl, perm-sym, perm-remove, perm-member}
+use Rattle.list_spec.specs.Distinct.{Distinct, Disjoint, All}
+use Rattle.list_laws.specs.DistinctLaws.{all-nil, all-cons, all-append, distinct-perm, distinct-append, distinct-disjoint}
+use Rattle.slot_spec.specs.Tree.{halvings, path}
+use Rattle.round_spec.specs.Whole.{upTo, allBuckets}
 
 -- A bucket of a tree of size k.
 abbrev pub InTree : ℕ → ℕ → Type 0

@@ -7,12 +7,13 @@ use native.Mathlib.Decide.{decLt}
 use native.Mathlib.Omega.{arith}
 use lib.ListN.{length, take, drop, getD, replicate, length-append, length-take, length-drop, length-replicate, take-append-drop}
 use lib.Seq.{take-append-le, drop-append-le, drop-append-add, drop-drop, take-at, length-take-le}
-use Rattle.basics.specs.Distinct.{All}
-use Rattle.slots.specs.LittleEndianLaws.{Bytes, bytes-take, bytes-drop, bytes-append}
-use Rattle.slots.specs.Tree.{slotLength, bucketLength, bucketStart, treeLength}
-use Rattle.slots.specs.Slot.{filled}
-use Rattle.rounds.specs.Round.{slotAt, withBucket}
-use Rattle.round_laws.specs.Whole.{IsTree}
+use Rattle.list_spec.specs.Distinct.{All}
+use Rattle.slot_spec.specs.LittleEndian.{Bytes}
+use Rattle.slot_laws.specs.LittleEndianLaws.{bytes-take, bytes-drop, bytes-append}
+use Rattle.slot_spec.specs.Tree.{slotLength, bucketLength, bucketStart, treeLength}
+use Rattle.slot_spec.specs.Slot.{filled}
+use Rattle.round_spec.specs.Round.{slotAt, withBucket}
+use Rattle.round_spec.specs.Whole.{IsTree}
 use Rattle.round_laws.specs.Paths.{InTree}
 
 -- ---- parts of joined lists

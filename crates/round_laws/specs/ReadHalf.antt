@@ -9,16 +9,16 @@ use Prim.Native.Nat.{ℕ}
 use native.Mathlib.Omega.{arith}
 use borrow.Author.Tests.{eqb-true, eq-eqb}
 use lib.Dec.{eqb}
-use Rattle.basics.specs.Choice.{pick}
-use Rattle.basics.specs.Perm.{Perm, trans}
-use Rattle.basics.specs.PermLaws.{perm-refl, perm-sym}
-use Rattle.basics.specs.Distinct.{Distinct, All}
-use Rattle.basics.specs.DistinctLaws.{distinct-left}
-use Rattle.slots.specs.Tree.{path, among}
-use Rattle.slots.specs.TreeLaws.{among-member, member-among}
-use Rattle.rounds.specs.Format.{Format}
-use Rattle.rounds.specs.Round.{Wish, Hand, noneTwice, allGood, keysOf, readBuckets, join, takeFirst, tagged, granted, joined, grantedFrom, readHalf}
-use Rattle.round_laws.specs.Whole.{goodOnes, listed}
+use Rattle.list_spec.specs.Choice.{pick}
+use Rattle.list_spec.specs.Perm.{Perm, trans}
+use Rattle.list_laws.specs.PermLaws.{perm-refl, perm-sym}
+use Rattle.list_spec.specs.Distinct.{Distinct, All}
+use Rattle.list_laws.specs.DistinctLaws.{distinct-left}
+use Rattle.slot_spec.specs.Tree.{path, among}
+use Rattle.slot_laws.specs.TreeLaws.{among-member, member-among}
+use Rattle.round_spec.specs.Format.{Format}
+use Rattle.round_spec.specs.Round.{Wish, Hand, noneTwice, allGood, keysOf, readBuckets, join, takeFirst, tagged, granted, joined, grantedFrom, readHalf}
+use Rattle.round_spec.specs.Whole.{goodOnes, listed}
 use Rattle.round_laws.specs.Readings.{NotBad, all-good-known, all-good-says}
 use Rattle.round_laws.specs.Lists.{join-perm, take-perm, take-key}
 

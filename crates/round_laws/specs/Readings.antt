@@ -8,14 +8,14 @@ use mathlib.Core.Option.{Option, none, some, Option·map}
 use Prim.Native.Nat.{ℕ, _*_, _≤_, _<_}
 use native.Mathlib.Omega.{arith}
 use lib.ListN.{length}
-use Rattle.basics.specs.Perm.{Perm, nil, cons, swap, trans}
-use Rattle.basics.specs.PermLaws.{perm-refl, perm-append-left, perm-append-swap}
-use Rattle.basics.specs.Distinct.{All}
-use Rattle.basics.specs.DistinctLaws.{all-nil, all-cons}
-use Rattle.slots.specs.Tree.{passes}
-use Rattle.rounds.specs.Format.{Format, Read, full, empty, bad}
-use Rattle.rounds.specs.Round.{slotAt, allGood, readBucket, readBuckets}
-use Rattle.round_laws.specs.Whole.{goodOnes, IsTree, Lawful}
+use Rattle.list_spec.specs.Perm.{Perm, nil, cons, swap, trans}
+use Rattle.list_laws.specs.PermLaws.{perm-refl, perm-append-left, perm-append-swap}
+use Rattle.list_spec.specs.Distinct.{All}
+use Rattle.list_laws.specs.DistinctLaws.{all-nil, all-cons}
+use Rattle.slot_spec.specs.Tree.{passes}
+use Rattle.round_spec.specs.Format.{Format, Read, full, empty, bad}
+use Rattle.round_spec.specs.Round.{slotAt, allGood, readBucket, readBuckets}
+use Rattle.round_spec.specs.Whole.{goodOnes, IsTree, Lawful}
 use Rattle.round_laws.specs.Paths.{InTree}
 use Rattle.round_laws.specs.Places.{slot-length, slot-bytes}
 

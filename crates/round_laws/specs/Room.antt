@@ -7,12 +7,12 @@ use Prim.Native.Nat.{ℕ, _+_, _*_, _^_, _≤_}
 use native.Mathlib.Nat.{le-refl, le-trans}
 use native.Mathlib.Omega.{arith}
 use lib.ListN.{length, take, length-append, length-take}
-use Rattle.basics.specs.PermLaws.{perm-length}
-use Rattle.slots.specs.Tree.{path}
-use Rattle.slots.specs.TreeLaws.{halvings-length}
-use Rattle.rounds.specs.Format.{Format}
-use Rattle.rounds.specs.Round.{limit, Hand, Wish, readBuckets, join, choose, evict, readHalf, writeHalf}
-use Rattle.round_laws.specs.Whole.{listed}
+use Rattle.list_laws.specs.PermLaws.{perm-length}
+use Rattle.slot_spec.specs.Tree.{path}
+use Rattle.slot_laws.specs.TreeLaws.{halvings-length}
+use Rattle.round_spec.specs.Format.{Format}
+use Rattle.round_spec.specs.Round.{limit, Hand, Wish, readBuckets, join, choose, evict, readHalf, writeHalf}
+use Rattle.round_spec.specs.Whole.{listed}
 use Rattle.round_laws.specs.Readings.{good-length, readings-length}
 use Rattle.round_laws.specs.Lists.{join-perm, choose-perm}
 use Rattle.round_laws.specs.Evict.{afterBucket, evict-none, evict-step}

@@ -7,16 +7,16 @@ use mathlib.Core.Option.{Option, none, some, Option·map}
 use Prim.Native.Nat.{ℕ, zero, suc, _^_, _<_}
 use lib.Dec.{eqb, ltb}
 use lib.ListN.{length}
-use Rattle.basics.specs.Choice.{pick}
-use Rattle.basics.specs.PermLaws.{perm-sym}
-use Rattle.basics.specs.Distinct.{All}
-use Rattle.basics.specs.DistinctLaws.{all-cons, all-append, all-left, all-right, all-perm}
-use Rattle.slots.specs.LittleEndianLaws.{Bytes}
-use Rattle.slots.specs.Tree.{path, passes, slotLength}
-use Rattle.slots.specs.Slot.{bucketBytes}
-use Rattle.rounds.specs.Format.{Format, Read, full, empty, bad}
-use Rattle.rounds.specs.Round.{Wish, Hand, Chosen, Written, slotAt, withBucket, noneTwice, allGood, keysOf, readBucket, readBuckets, insert, join, takeFirst, tagged, granted, joined, grantedFrom, readHalf, taking, leaving, choose, evict, writeHalf}
-use Rattle.round_laws.specs.Whole.{goodOnes, listed, IsTree}
+use Rattle.list_spec.specs.Choice.{pick}
+use Rattle.list_laws.specs.PermLaws.{perm-sym}
+use Rattle.list_spec.specs.Distinct.{All}
+use Rattle.list_laws.specs.DistinctLaws.{all-cons, all-append, all-left, all-right, all-perm}
+use Rattle.slot_spec.specs.LittleEndian.{Bytes}
+use Rattle.slot_spec.specs.Tree.{path, passes, slotLength}
+use Rattle.slot_spec.specs.Slot.{bucketBytes}
+use Rattle.round_spec.specs.Format.{Format, Read, full, empty, bad}
+use Rattle.round_spec.specs.Round.{Wish, Hand, Chosen, Written, slotAt, withBucket, noneTwice, allGood, keysOf, readBucket, readBuckets, insert, join, takeFirst, tagged, granted, joined, grantedFrom, readHalf, taking, leaving, choose, evict, writeHalf}
+use Rattle.round_spec.specs.Whole.{goodOnes, listed, IsTree}
 use Rattle.round_laws.specs.Paths.{InTree, path-in-tree}
 use Rattle.round_laws.specs.Places.{slot-length, slot-bytes}
 use Rattle.round_laws.specs.Readings.{good-member, all-good-full, all-good-says, bucket-readings, reading-of}

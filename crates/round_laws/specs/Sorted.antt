@@ -9,18 +9,19 @@ use Prim.Native.Nat.{ℕ, _<_}
 use native.Mathlib.Omega.{arith}
 use borrow.Author.Tests.{ltb-true, ltb-false, lt-ltb}
 use lib.Dec.{ltb, eqb}
-use Rattle.basics.specs.Choice.{pick}
-use Rattle.basics.specs.Ascending.{ascendingFrom, ascending}
-use Rattle.basics.specs.Perm.{trans}
-use Rattle.basics.specs.PermLaws.{perm-sym, perm-front, perm-append-left, perm-map}
-use Rattle.basics.specs.Distinct.{Distinct, All}
-use Rattle.basics.specs.DistinctLaws.{all-nil, all-cons, all-perm, distinct-perm}
-use Rattle.slots.specs.Tree.{path}
-use Rattle.rounds.specs.Format.{Format}
-use Rattle.rounds.specs.Round.{Hand, Wish, keysOf, insert, join, takeFirst, granted, choose, evict, readHalf, writeHalf}
+use Rattle.list_spec.specs.Choice.{pick}
+use Rattle.list_spec.specs.Ascending.{ascendingFrom, ascending}
+use Rattle.list_spec.specs.Perm.{trans}
+use Rattle.list_laws.specs.PermLaws.{perm-sym, perm-front, perm-append-left, perm-map}
+use Rattle.list_spec.specs.Distinct.{Distinct, All}
+use Rattle.list_laws.specs.DistinctLaws.{all-nil, all-cons, all-perm, distinct-perm}
+use Rattle.slot_spec.specs.Tree.{path}
+use Rattle.round_spec.specs.Format.{Format}
+use Rattle.round_spec.specs.Round.{Hand, Wish, keysOf, insert, join, takeFirst, granted, choose, evict, readHalf, writeHalf}
 use Rattle.round_laws.specs.Lists.{insert-perm, choose-keeps}
 use Rattle.round_laws.specs.Evict.{afterBucket, evict-none, evict-step}
 use Rattle.round_laws.specs.ReadHalf.{distinct-but-last, tagged-same, found, read-half-says}
+use Rattle.round_spec.specs.Whole.{Ascending}
 
 sublist-member : {A : Type 0} {a : A} {xs ys : List A} → Sublistᴰ xs ys → List·Memᴰ a xs → List·Memᴰ a ys
 sublist-member Sublistᴰ·slnil m = m
@@ -30,9 +31,6 @@ sublist-member {a} (Sublistᴰ·cons-cons {a = x} {b = y} {l₁ = xs} {l₂ = ys
     (λ n. List·Memᴰ·tail (sublist-member l n)) (List·Memᴰ·cases-cons m)
 
 module _ {E : Type 0} (F : Format E) where
-  abbrev pub Ascending : List E → Type 0
-  Ascending es = ascending (keysOf F es) ≡ true
-
   -- The key of each element is less than those of all after it.
   Sorted : List E → Type 0
   Sorted [] = Unit
@@ -52,12 +50,12 @@ module _ {E : Type 0} (F : Format E) where
   from-sorted e [] s = refl
   from-sorted e (a ∷ es) s = rw (lt-ltb (F .key e) (F .key a) (s .0 a (List·Memᴰ·head refl))) (from-sorted a es (s .1))
 
-  to-sorted : (es : List E) → Ascending es → Sorted es
+  to-sorted : (es : List E) → Ascending F es → Sorted es
   unfolding ascending Sorted
   to-sorted [] h = tt
   to-sorted (e ∷ es) h = sorted-from e es h
 
-  of-sorted : (es : List E) → Sorted es → Ascending es
+  of-sorted : (es : List E) → Sorted es → Ascending F es
   unfolding ascending
   of-sorted [] s = refl
   of-sorted (e ∷ es) s = from-sorted e es s
@@ -71,7 +69,7 @@ module _ {E : Type 0} (F : Format E) where
   )
 
   -- Ascending keys are distinct.
-  pub ascending-distinct : (es : List E) → Ascending es → Distinct (keysOf F es)
+  pub ascending-distinct : (es : List E) → Ascending F es → Distinct (keysOf F es)
   ascending-distinct es h = sorted-distinct es (to-sorted es h)
 
   -- ---- what is left of a list
@@ -84,7 +82,7 @@ module _ {E : Type 0} (F : Format E) where
     sorted-sublist l (s .1),
   )
 
-  pub ascending-sublist : {es ws : List E} → Sublistᴰ es ws → Ascending ws → Ascending es
+  pub ascending-sublist : {es ws : List E} → Sublistᴰ es ws → Ascending F ws → Ascending F es
   ascending-sublist {es} {ws} l h = of-sorted es (sorted-sublist l (to-sorted ws h))
 
   -- ---- join
@@ -104,10 +102,10 @@ module _ {E : Type 0} (F : Format E) where
           let less : F .key w < F .key e = omega arith in
           (all-perm {P = λ a. F .key w < F .key a} (perm-sym (insert-perm F e ws)) (all-cons {P = λ a. F .key w < F .key a} less (s .0)), more)
 
-  pub ascending-insert : (e : E) (ws : List E) → (¬ List·Memᴰ (F .key e) (keysOf F ws)) → Ascending ws → Ascending (insert F e ws)
+  pub ascending-insert : (e : E) (ws : List E) → (¬ List·Memᴰ (F .key e) (keysOf F ws)) → Ascending F ws → Ascending F (insert F e ws)
   ascending-insert e ws new h = of-sorted (insert F e ws) (insert-sorted e ws new (to-sorted ws h))
 
-  pub ascending-join : (es ws : List E) → Distinct (keysOf F es ++ keysOf F ws) → Ascending ws → Ascending (join F es ws)
+  pub ascending-join : (es ws : List E) → Distinct (keysOf F es ++ keysOf F ws) → Ascending F ws → Ascending F (join F es ws)
   unfolding join
   ascending-join [] ws d h = h
   ascending-join (e ∷ es) ws d h =
@@ -156,9 +154,9 @@ module _ {E : Type 0} (F : Format E) where
 
   -- ---- the round
   module _ (k : ℕ) (tree : List ℕ) (t : ℕ) (w : Option Wish) (held : List ℕ) (waiting : List E) (h : Hand E)
-      (read : readHalf F k tree t w held waiting ≡ some h) (before : Ascending waiting) where
+      (read : readHalf F k tree t w held waiting ≡ some h) (before : Ascending F waiting) where
     -- After the read half.
-    pub ascending-read : Ascending (h .waiting)
+    pub ascending-read : Ascending F (h .waiting)
     ascending-read =
         let r = read-half-says F k tree t w held waiting h read in
         ascending-sublist (granted-sublist w (join F (found F k tree t) waiting) h (r .grants))
@@ -166,5 +164,5 @@ module _ {E : Type 0} (F : Format E) where
         (distinct-but-last (keysOf F (found F k tree t)) (keysOf F waiting) held (r .none-twice)) before)
 
     -- After the round.
-    pub ascending-round : Ascending (writeHalf F k t (h .waiting) tree .waiting)
+    pub ascending-round : Ascending F (writeHalf F k t (h .waiting) tree .waiting)
     ascending-round = ascending-sublist (evict-sublist k (path k t) (h .waiting) tree) ascending-read

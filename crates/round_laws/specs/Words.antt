@@ -4,14 +4,15 @@ use mathlib.Core.Path.{_≡_, refl, _∙_, ap}
 use mathlib.Core.List.{List, map}
 use mathlib.Core.Option.{Option, Option·map}
 use Prim.Native.Nat.{ℕ, _^_, _<_}
-use Rattle.basics.specs.Distinct.{All}
-use Rattle.slots.specs.Slot.{Fields, fieldsIn, fieldsOf, readSlot, slotBytes, slotOf}
-use Rattle.slots.specs.SlotLaws.{Ranged, fields-encoded, slot-encoded}
-use Rattle.slots.specs.declared.Node.{Node}
-use Rattle.rounds.specs.Format.{Read, full, empty, bad}
-use Rattle.rounds.specs.Round.{Wish, readHalf, writeHalf}
-use Rattle.rounds.specs.Nodes.{nodeFormat, readingOf, wordsOf, wordsFormat}
-use Rattle.round_laws.specs.Whole.{IsTree}
+use Rattle.list_spec.specs.Distinct.{All}
+use Rattle.slot_spec.specs.Slot.{Fields, fieldsIn, fieldsOf, readSlot, slotBytes, slotOf}
+use Rattle.slot_spec.specs.Slot.{Ranged}
+use Rattle.slot_laws.specs.SlotLaws.{fields-encoded, slot-encoded}
+use Rattle.slot_spec.specs.declared.Node.{Node}
+use Rattle.round_spec.specs.Format.{Read, full, empty, bad}
+use Rattle.round_spec.specs.Round.{Wish, readHalf, writeHalf}
+use Rattle.round_spec.specs.Nodes.{nodeFormat, readingOf, wordsOf, wordsFormat}
+use Rattle.round_spec.specs.Whole.{IsTree}
 use Rattle.round_laws.specs.NodeLaws.{reading-full, read-ranged}
 use Rattle.round_laws.specs.Same.{mapRead, mapHand, mapWritten, Carries, read-half-carried, write-half-carried}
 

@@ -3,26 +3,26 @@
 //
 // A step is four characters, a kind, a key, a tag and a leaf, and then a blank. n: a new node waits. r: a round of the leaf, which
 // wants none. t: a round of the tag's leaf takes the node out, which waits again under the leaf as its tag. Keys above 9 are letters.
-use buckets::WORDS;
-use buckets::read::Wish;
-use buckets::stash_words::get;
+use bucket_writer::read_slot;
 use libc::STDOUT_FILENO;
-use single_rounds::Closed;
-use single_rounds::round;
-use single_rounds::take_round;
-use single_rounds::wait;
-use slots::Node;
-use slots::Reading;
-use slots::SLOT_LENGTH;
-use slots::bucket::read_slot;
-use slots::codec::no_link;
-use slots::codec::node_of;
+use path_reader::Wish;
+use slot_spec::Node;
+use slot_spec::Reading;
+use slot_spec::SLOT_LENGTH;
+use slots::no_link;
+use slots::node_of;
+use stash_words::WORDS;
+use stash_words::get;
+use test_rounds::Closed;
+use test_rounds::round;
+use test_rounds::take_round;
+use test_rounds::wait;
 ghost use mathlib.Core.Path.{_≡_};
 ghost use Prim.Native.Nat.{_≤_};
 ghost use lib.ListN.{length};
-ghost use Rattle.slots.specs.Tree.{treeLength};
-ghost use Rattle.buckets.specs.Words.{places, wordCount};
-ghost use Rattle.single_rounds.specs.Single.{Resting, Rests};
+ghost use Rattle.slot_spec.specs.Tree.{treeLength};
+ghost use Rattle.word_round_laws.specs.Words.{places, wordCount};
+ghost use Rattle.test_rounds.specs.Single.{Resting, Rests};
 
 const SIZE: usize = 2;
 

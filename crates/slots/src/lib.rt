@@ -1,43 +1,151 @@
-// The slot format and the bucket tree: what stands in the 32 bytes of a slot, and where in a lent tree.
+// What a slot's words are read as, and the words of a node.
+use slot_spec::Link;
+use slot_spec::Node;
+use slot_spec::Reading;
+use slot_spec::Slot;
+use tree_paths::leaves;
+use tree_paths::passes_bucket;
+ghost use mathlib.Core.Path.{_≡_};
+ghost use Prim.Native.Nat.{_≤_};
+ghost use Rattle.slot_spec.specs.Slot.{noLink, noNode, slotBytes, slotOf, fieldsIn, nodeOf, encode, allZero, linkGood, wellFormed, readSlot};
 
-// A slot's length in bytes, and that of a bucket of four slots.
-pub const SLOT_LENGTH: usize = 32;
-
-pub const BUCKET_LENGTH: usize = 4 * SLOT_LENGTH;
-
-// A link to a node: height 0 means that there is none. A tag is a leaf number, the node's position tag. The fields of link and
-// node stand in the order in which they take least room: a link 8 bytes, a node 32.
-pub struct Link {
-    pub key: u32,
-    pub tag: u16,
-    pub height: u8,
+// No link.
+pub fn no_link() -> Link
+    ensures { λ r. ⌜ r ≡ noLink ⌝ }
+{
+    Link {
+        height: 0,
+        key: 0,
+        tag: 0,
+    }
 }
 
-pub struct Node {
-    pub value: u64,
-    pub key: u32,
-    pub tag: u16,
-    pub left: Link,
-    pub right: Link,
+// A node that is all zero: what an unused place holds.
+pub fn no_node() -> Node
+    ensures { λ r. ⌜ r ≡ noNode ⌝ }
+{
+    let none = no_link();
+    Node {
+        key: 0,
+        value: 0,
+        tag: 0,
+        left: none,
+        right: none,
+    }
 }
 
-// What a slot holds.
-pub enum Reading {
-    Full(Node),
-    Empty,
-    Bad,
+// The key of a slot's node.
+pub fn key_of(x: Slot) -> u32
+    ensures { λ r. ⌜ r ≡ fieldsIn (slotBytes x) .key ⌝ }
+{
+    (x.a / 4294967296) as u32
 }
 
-// A slot's 32 bytes as four little-endian words: flag, heights, zero and key; left and right key; the three tags and
-// two zero bytes; the value.
-pub struct Slot {
-    pub a: u64,
-    pub b: u64,
-    pub c: u64,
-    pub d: u64,
+// The position tag of a slot's node.
+pub fn tag_of(x: Slot) -> u16
+    ensures { λ r. ⌜ r ≡ fieldsIn (slotBytes x) .tag ⌝ }
+{
+    (x.c % 65536) as u16
 }
 
-pub mod bucket;
-pub mod codec;
-pub mod tree;
-pub mod words;
+// The node that a slot's fields hold.
+pub fn node_of(x: Slot) -> Node
+    ensures { λ r. ⌜ r ≡ nodeOf (fieldsIn (slotBytes x)) ⌝ }
+{
+    let left = Link {
+        height: (x.a / 256 % 256) as u8,
+        key: (x.b % 4294967296) as u32,
+        tag: (x.c / 65536 % 65536) as u16,
+    };
+    let right = Link {
+        height: (x.a / 65536 % 256) as u8,
+        key: (x.b / 4294967296) as u32,
+        tag: (x.c / 4294967296 % 65536) as u16,
+    };
+    Node {
+        key: (x.a / 4294967296) as u32,
+        value: x.d,
+        tag: (x.c % 65536) as u16,
+        left,
+        right,
+    }
+}
+
+// The slot that holds a node.
+pub fn slot_of(n: Node) -> Slot
+    ensures { λ r. ⌜ (slotBytes r ≡ encode n) × (r ≡ slotOf n) ⌝ }
+{
+    Slot {
+        a: 1
+            + 256 * (n.left.height as u64)
+            + 65536 * (n.right.height as u64)
+            + 4294967296 * (n.key as u64),
+        b: n.left.key as u64 + 4294967296 * (n.right.key as u64),
+        c: n.tag as u64 + 65536 * (n.left.tag as u64) + 4294967296 * (n.right.tag as u64),
+        d: n.value,
+    }
+}
+
+// Whether all bytes are zero: one test of the words' digits together, with no branch on the way.
+pub fn is_zero(x: Slot) -> bool
+    ensures { λ r. ⌜ r ≡ allZero (slotBytes x) ⌝ }
+{
+    x.a | x.b | x.c | x.d == 0
+}
+
+// A link that no slot is bad for: an absent one has no key or tag, and the tag is a leaf of a tree of that size.
+pub fn link_good(size: usize, link: Link) -> bool
+    requires { ⌜ size ≤ 16 ⌝ }
+    ensures { λ r. ⌜ r ≡ linkGood size link ⌝ }
+{
+    if link.height == 0 {
+        if link.key != 0 {
+            return false;
+        }
+        return link.tag == 0;
+    }
+    (link.tag as usize) < leaves(size)
+}
+
+// A node that no slot is bad for, its bucket not asked about.
+pub fn well_formed(size: usize, n: Node) -> bool
+    requires { ⌜ size ≤ 16 ⌝ }
+    ensures { λ r. ⌜ r ≡ wellFormed size n ⌝ }
+{
+    let left = n.left;
+    let right = n.right;
+    if (n.tag as usize) >= leaves(size) {
+        return false;
+    }
+    if !link_good(size, left) {
+        return false;
+    }
+    link_good(size, right)
+}
+
+// What the slot is read as in a bucket of a tree of that size.
+pub fn reading(x: Slot, size: usize, bucket: usize) -> Reading
+    requires { ⌜ size ≤ 16 ⌝ }
+    ensures { λ r. ⌜ r ≡ readSlot size bucket (slotBytes x) ⌝ }
+{
+    if is_zero(x) {
+        return Reading::Empty;
+    }
+    if x.a % 256 != 1 {
+        return Reading::Bad;
+    }
+    if x.a / 16777216 % 256 != 0 {
+        return Reading::Bad;
+    }
+    if x.c / 281474976710656 != 0 {
+        return Reading::Bad;
+    }
+    let n = node_of(x);
+    if !well_formed(size, n) {
+        return Reading::Bad;
+    }
+    if !passes_bucket(size, n.tag as usize, bucket) {
+        return Reading::Bad;
+    }
+    Reading::Full(n)
+}

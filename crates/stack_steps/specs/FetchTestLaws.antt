@@ -4,9 +4,9 @@ use mathlib.Core.Path.{_≡_}
 use mathlib.Core.Bool.{false}
 use lib.Dec.{eqb}
 use borrow.Author.Tests.{eq-eqb, ne-eqb}
-use Rattle.method.specs.Node.{Node}
-use Rattle.method.specs.Prog.{Want}
-use Rattle.method.specs.Stack.{stackTest}
+use Rattle.method_spec.specs.Node.{Node}
+use Rattle.method_spec.specs.Prog.{Want}
+use Rattle.method_spec.specs.Stack.{stackTest}
 
 module _ (w : Want ℕ) (n : Node ℕ) where
   pub right-link : (n .right .height ≡ 0 → ⊥) → stackTest w n ≡ false

@@ -5,13 +5,13 @@ use mathlib.Core.Path.{_≡_, _∙_, ap}
 use mathlib.Core.List.{List, [], _∷_}
 use lib.ListN.{length, drop}
 use borrow.Author.Tests.{eq-eqb, ne-eqb, lt-ltb, le-ltb}
-use Rattle.method.specs.Node.{Link, Node}
-use Rattle.method.specs.Node as node
-use Rattle.method.specs.Answer.{pushed, popped, empty, full}
-use Rattle.method.specs.Map.{start}
-use Rattle.method.specs.Stack.{pushProg, popProg}
-use Rattle.operations.specs.Method.{nothing}
-use Rattle.operations.specs.Resume.{missing, finished, resume}
+use Rattle.method_spec.specs.Node.{Link, Node}
+use Rattle.method_spec.specs.Node as node
+use Rattle.method_spec.specs.Answer.{pushed, popped, empty, full}
+use Rattle.method_spec.specs.Map.{start}
+use Rattle.method_spec.specs.Stack.{pushProg, popProg}
+use Rattle.operation_spec.specs.Method.{nothing}
+use Rattle.operation_spec.specs.Resume.{missing, finished, resume}
 use Rattle.node_rows.specs.Held.{Held, nodesOf, heldAt}
 use Rattle.node_rows.specs.HeldLaws.{held-next, held-none}
 

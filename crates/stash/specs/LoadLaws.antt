@@ -8,14 +8,14 @@ use mathlib.Core.List.{List}
 use lib.Dec.{leb}
 use lib.ListN.{length, getD, set}
 use borrow.Author.Tests.{leb-true, leb-false}
-use Rattle.basics.specs.Ascending.{ascending}
-use Rattle.slots.specs.Row.{slotsOf}
-use Rattle.buckets.specs.Words.{wordCount}
-use Rattle.waiting.specs.Waiting.{wordsFor, InWidths}
-use Rattle.state.specs.declared.Place.{Place}
-use Rattle.state.specs.declared.State.{State}
-use Rattle.state.specs.Fit.{zeroPlace, allOf, placeGood, keysIn, places, noPlace, placesFrom, used, unused, placesFit}
-use Rattle.state.specs.FitLaws.{all-passes, all-fails, all-end, ascendingAt, ascending-start, keys-ascend, keys-fall, keys-end}
+use Rattle.list_spec.specs.Ascending.{ascending}
+use Rattle.slot_spec.specs.Row.{slotsOf}
+use Rattle.word_round_laws.specs.Words.{wordCount}
+use Rattle.stash_laws.specs.Waiting.{wordsFor, InWidths}
+use Rattle.state_spec.specs.declared.Place.{Place}
+use Rattle.state_spec.specs.declared.State.{State}
+use Rattle.state_spec.specs.Fit.{zeroPlace, allOf, placeGood, keysIn, places, noPlace, placesFrom, used, unused, placesFit}
+use Rattle.state_laws.specs.FitLaws.{all-passes, all-fails, all-end, ascendingAt, ascending-start, keys-ascend, keys-fall, keys-end}
 use Rattle.stash.specs.Stash.{Loaded}
 use Rattle.stash.specs.StashLaws.{nodeAt, LoadedTo, loaded-none, loaded-more, loaded-all}
 

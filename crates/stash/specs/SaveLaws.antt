@@ -9,21 +9,21 @@ use borrow.Author.Tests.{not-true, eqb-true, leb-true}
 use lib.Dec.{eqb, leb}
 use lib.ListN.{length, take, drop, getD, set, replicate, length-map, length-append, length-replicate, length-drop, getD-replicate, take-append-drop, drop-of-length-le, List·getD-append, List·getD-map}
 use lib.Seq.{take-suc, drop-cons, drop-drop, drop-append-add, set-at, append-snoc, getD-append-add, getD-take, length-take-le}
-use Rattle.slots.specs.Slot.{fieldsIn, nodeOf, slotBytes, noLink}
-use Rattle.slots.specs.declared.Slot.{Slot}
-use Rattle.slots.specs.declared.Link.{Link}
-use Rattle.slots.specs.declared.Node as node
-use Rattle.method.specs.Node.{Node}
-use Rattle.rounds.specs.Round.{limit}
-use Rattle.leaf_nodes.specs.Convert.{fromNode}
-use Rattle.slots.specs.Row.{slotsOf, zeroSlot}
-use Rattle.waiting.specs.Waiting.{nodeIn, waitingIn, Holds}
-use Rattle.waiting.specs.WaitingLaws.{waiting-length}
-use Rattle.state.specs.declared.Place.{Place}
-use Rattle.state.specs.declared.State.{State}
-use Rattle.state.specs.Fit.{largestStructure, largestSize, inRange, zeroLink, zeroNode, zeroPlace, allOf, placeGood, keysIn, places, noPlace, placesFrom, used, unused, placesFit, fits}
-use Rattle.basics.specs.Ascending.{ascending}
-use Rattle.store.specs.Store.{placed}
+use Rattle.slot_spec.specs.Slot.{fieldsIn, nodeOf, slotBytes, noLink}
+use Rattle.slot_spec.specs.declared.Slot.{Slot}
+use Rattle.slot_spec.specs.declared.Link.{Link}
+use Rattle.slot_spec.specs.declared.Node as node
+use Rattle.method_spec.specs.Node.{Node}
+use Rattle.round_spec.specs.Round.{limit}
+use Rattle.leaf_spec.specs.Convert.{fromNode}
+use Rattle.slot_spec.specs.Row.{slotsOf, zeroSlot}
+use Rattle.stash_laws.specs.Waiting.{nodeIn, waitingIn, Holds}
+use Rattle.stash_laws.specs.WaitingLaws.{waiting-length}
+use Rattle.state_spec.specs.declared.Place.{Place}
+use Rattle.state_spec.specs.declared.State.{State}
+use Rattle.state_spec.specs.Fit.{largestStructure, largestSize, inRange, zeroLink, zeroNode, zeroPlace, allOf, placeGood, keysIn, places, noPlace, placesFrom, used, unused, placesFit, fits}
+use Rattle.list_spec.specs.Ascending.{ascending}
+use Rattle.call_spec.specs.Store.{placed}
 use Rattle.stash.specs.Stash.{saved}
 
 -- ---- the unused places of a fit state

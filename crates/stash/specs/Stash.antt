@@ -3,17 +3,17 @@ use mathlib.Core.Path.{_≡_}
 use Prim.Native.Nat.{ℕ, _+_}
 use mathlib.Core.List.{List, map}
 use lib.ListN.{length, take}
-use Rattle.slots.specs.declared.Link.{Link}
-use Rattle.slots.specs.declared.Node as node
-use Rattle.method.specs.Node.{Node}
-use Rattle.rounds.specs.Round.{join}
-use Rattle.leaf_nodes.specs.Convert.{toNode}
-use Rattle.leaf_nodes.specs.Leaf.{leafFormat}
-use Rattle.waiting.specs.Waiting.{waitingIn, Holds}
-use Rattle.state.specs.declared.Place.{Place}
-use Rattle.state.specs.declared.State.{State}
-use Rattle.state.specs.Fit.{used}
-use Rattle.store.specs.Store.{placed}
+use Rattle.slot_spec.specs.declared.Link.{Link}
+use Rattle.slot_spec.specs.declared.Node as node
+use Rattle.method_spec.specs.Node.{Node}
+use Rattle.round_spec.specs.Round.{join}
+use Rattle.leaf_spec.specs.Convert.{toNode}
+use Rattle.leaf_spec.specs.Leaf.{leafFormat}
+use Rattle.stash_laws.specs.Waiting.{waitingIn, Holds}
+use Rattle.state_spec.specs.declared.Place.{Place}
+use Rattle.state_spec.specs.declared.State.{State}
+use Rattle.state_spec.specs.Fit.{used}
+use Rattle.call_spec.specs.Store.{placed}
 
 -- The first r slots of the words are the waiting nodes of a state.
 pub record Loaded (s : State) (words : List ℕ) (r : ℕ) : Type 0 where

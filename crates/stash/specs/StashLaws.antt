@@ -6,26 +6,26 @@ use native.Mathlib.Numerals.{add-one}
 use native.Mathlib.Omega.{arith}
 use lib.ListN.{length, take, getD, set}
 use lib.Seq.{take-suc, take-suc-set}
-use Rattle.basics.specs.PermLaws.{perm-sym}
-use Rattle.basics.specs.Distinct.{All}
-use Rattle.basics.specs.DistinctLaws.{all-nil, all-cons, all-append, all-perm}
-use Rattle.slots.specs.declared.Slot.{Slot}
-use Rattle.slots.specs.declared.Node as node
-use Rattle.method.specs.Node.{Node}
-use Rattle.rounds.specs.Format.{Format}
-use Rattle.rounds.specs.Round.{insert, join}
-use Rattle.rounds.specs.Nodes.{wordsFormat}
+use Rattle.list_laws.specs.PermLaws.{perm-sym}
+use Rattle.list_spec.specs.Distinct.{All}
+use Rattle.list_laws.specs.DistinctLaws.{all-nil, all-cons, all-append, all-perm}
+use Rattle.slot_spec.specs.declared.Slot.{Slot}
+use Rattle.slot_spec.specs.declared.Node as node
+use Rattle.method_spec.specs.Node.{Node}
+use Rattle.round_spec.specs.Format.{Format}
+use Rattle.round_spec.specs.Round.{insert, join}
+use Rattle.round_spec.specs.Nodes.{wordsFormat}
 use Rattle.round_laws.specs.Lists.{insert-perm}
-use Rattle.leaf_nodes.specs.Convert.{toNode}
-use Rattle.leaf_nodes.specs.Leaf.{leafFormat}
-use Rattle.buckets.specs.Words.{places, wordCount}
-use Rattle.slots.specs.Row.{slotsOf}
-use Rattle.buckets.specs.WordsLaws.{slots-count}
-use Rattle.waiting.specs.Waiting.{wordsFor, InWidths, waitingIn, Holds}
-use Rattle.waiting.specs.WaitingLaws.{waiting-are, holds-them, insert-words}
-use Rattle.state.specs.declared.Place.{Place}
-use Rattle.state.specs.declared.State.{State}
-use Rattle.state.specs.Fit.{placesFrom, noPlace}
+use Rattle.leaf_spec.specs.Convert.{toNode}
+use Rattle.leaf_spec.specs.Leaf.{leafFormat}
+use Rattle.word_round_laws.specs.Words.{places, wordCount}
+use Rattle.slot_spec.specs.Row.{slotsOf}
+use Rattle.word_round_laws.specs.WordsLaws.{slots-count}
+use Rattle.stash_laws.specs.Waiting.{wordsFor, InWidths, waitingIn, Holds}
+use Rattle.stash_laws.specs.WaitingLaws.{waiting-are, holds-them, insert-words}
+use Rattle.state_spec.specs.declared.Place.{Place}
+use Rattle.state_spec.specs.declared.State.{State}
+use Rattle.state_spec.specs.Fit.{placesFrom, noPlace}
 use Rattle.stash.specs.Stash.{Loaded, NodesJoined}
 
 -- ---- the first n slots

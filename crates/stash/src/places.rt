@@ -1,11 +1,11 @@
 // What is asked of a place that is loaded, and how many are saved.
-use state::Place;
-use state::fit::place_good;
+use fitness::place_good;
+use state_spec::Place;
 ghost use mathlib.Core.Path.{_≡_};
 ghost use mathlib.Core.Bool.{_&&_};
 ghost use Prim.Native.Nat.{max, _≤_};
 ghost use lib.Dec.{leb};
-ghost use Rattle.state.specs.Fit.{placeGood};
+ghost use Rattle.state_spec.specs.Fit.{placeGood};
 
 // The greater of two numbers.
 pub fn greater(a: usize, b: usize) -> usize

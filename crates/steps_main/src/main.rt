@@ -3,7 +3,7 @@
 // character says nothing). The value that a call puts or pushes is its number in the script.
 use memory::Memory;
 use memory::empty;
-use operations::Op;
+use operation_spec::Op;
 use playing::call;
 use show::print_answer;
 use show::print_call;

@@ -1,10 +1,10 @@
 // The nodes that no call holds, in no order.
 use node_rows::ROW;
 use node_rows::node_at;
-use operations::Outcome;
-use slots::Link;
-use slots::Node;
-use slots::codec::no_node;
+use operation_spec::Outcome;
+use slot_spec::Link;
+use slot_spec::Node;
+use slots::no_node;
 ghost use mathlib.Core.Path.{_≡_};
 ghost use Prim.Native.Nat.{_≤_, _<_};
 ghost use lib.ListN.{length};

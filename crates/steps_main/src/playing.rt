@@ -6,17 +6,17 @@ use super::memory::without;
 use node_rows::FETCHES;
 use node_rows::ROW;
 use node_rows::set_node;
-use operations::Answer;
-use operations::Op;
-use operations::Wanted;
-use steps::fetch_test::passes;
-use steps::operation::step;
-use steps::operation::wanted;
+use operation_spec::Answer;
+use operation_spec::Op;
+use operation_spec::Wanted;
+use structures::fetch_test::passes;
+use structures::operation::step;
+use structures::operation::wanted;
 ghost use mathlib.Core.Path.{_≡_};
 ghost use Prim.Native.Nat.{_≤_};
 ghost use lib.ListN.{length};
 ghost use Rattle.node_rows.specs.Row.{words};
-ghost use Rattle.steps.specs.Operation.{LowHeld};
+ghost use Rattle.structures.specs.Operation.{LowHeld};
 
 // As many entries as a store of size 4 has at most.
 const LIMIT: u16 = 15;

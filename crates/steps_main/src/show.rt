@@ -2,9 +2,9 @@
 use super::memory::Memory;
 use super::memory::next_from;
 use libc::STDOUT_FILENO;
-use operations::Answer;
-use slots::Link;
-use slots::Node;
+use operation_spec::Answer;
+use slot_spec::Link;
+use slot_spec::Node;
 ghost use Prim.Native.Nat.{_≤_};
 
 fn text(words: &[u8]) {

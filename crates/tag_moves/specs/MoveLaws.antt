@@ -9,14 +9,14 @@ use mathlib.Core.List.{List, [], _∷_, _++_, map, map-append}
 use borrow.Author.Tests.{eq-eqb, ne-eqb}
 use lib.ListN.{length, getD, take, drop, set, drop-of-length-le, length-map, length-take, List·getD-map}
 use lib.Seq.{take-suc, drop-set-lt, getD-drop, drop-drop, getD-take}
-use Rattle.slots.specs.Slot.{noNode}
-use Rattle.slots.specs.Row.{nodesFrom}
-use Rattle.slots.specs.declared.Node as node
-use Rattle.method.specs.Node.{Link, Node, child, withChild}
-use Rattle.method.specs.Prog.{From, root, side}
-use Rattle.leaf_nodes.specs.Convert.{toNode}
-use Rattle.calls.specs.Fetch as fetch
-use Rattle.calls.specs.Fetch.{movedLink, movedNode, movedNodes}
+use Rattle.slot_spec.specs.Slot.{noNode}
+use Rattle.slot_spec.specs.Row.{nodesFrom}
+use Rattle.slot_spec.specs.declared.Node as node
+use Rattle.method_spec.specs.Node.{Link, Node, child, withChild}
+use Rattle.method_spec.specs.Prog.{From, root, side}
+use Rattle.leaf_spec.specs.Convert.{toNode}
+use Rattle.bucket_call_spec.specs.Fetch as fetch
+use Rattle.bucket_call_spec.specs.Fetch.{movedLink, movedNode, movedNodes}
 use Rattle.node_rows.specs.Row.{places, words, fetches, fromIn, fromsIn}
 use Rattle.node_rows.specs.Held.{heldIn, nodesOf, heldAt}
 use Rattle.node_rows.specs.HeldLaws.{first-next, first-length, held-next, held-length, held-room, row-places, row-more}

@@ -4,10 +4,10 @@ use Prim.Native.Nat.{ℕ}
 use mathlib.Core.Path.{_≡_}
 use mathlib.Core.List.{List, [], _∷_, map}
 use lib.ListN.{length}
-use Rattle.method.specs.Node.{Link, Node}
-use Rattle.method.specs.Prog.{From, root}
-use Rattle.calls.specs.Fetch as fetch
-use Rattle.calls.specs.Fetch.{movedLink, movedNode, movedNodes}
+use Rattle.method_spec.specs.Node.{Link, Node}
+use Rattle.method_spec.specs.Prog.{From, root}
+use Rattle.bucket_call_spec.specs.Fetch as fetch
+use Rattle.bucket_call_spec.specs.Fetch.{movedLink, movedNode, movedNodes}
 use Rattle.node_rows.specs.Row.{words, fromsIn}
 use Rattle.node_rows.specs.Held.{heldIn, nodesOf}
 

@@ -1,14 +1,14 @@
 -- What a ticket asks of a structure, as the code says it.
 use Prim.Native.Nat.{ℕ}
 use lib.Dec.{eqb}
-use Rattle.basics.specs.Choice.{pick}
+use Rattle.list_spec.specs.Choice.{pick}
 use mathlib.Core.List.{List}
 use mathlib.Core.Option.{Option, none, some}
-use Rattle.method.specs.Answer as method
-use Rattle.method.specs.Answer.{Structure, get, put, remove, push, pop}
-use Rattle.operations.specs.declared.Op.{Op}
-use Rattle.operations.specs.declared.Op.the-variants.{Get, Put, Remove, Push, Pop}
-use Rattle.state.specs.Ticket.{opIn, structureOf}
+use Rattle.method_spec.specs.Answer as method
+use Rattle.method_spec.specs.Answer.{Structure, get, put, remove, push, pop}
+use Rattle.operation_spec.specs.declared.Op.{Op}
+use Rattle.operation_spec.specs.declared.Op.the-variants.{Get, Put, Remove, Push, Pop}
+use Rattle.state_spec.specs.Ticket.{opIn, structureOf}
 use Rattle.tickets.specs.declared.Asked.{Asked}
 use Rattle.tickets.specs.declared.Asked.the-variants.{Call, Unknown}
 

@@ -5,10 +5,10 @@ use mathlib.Core.List.{List, [], _∷_}
 use mathlib.Core.Option.{none, some}
 use mathlib.Core.Logic.{_⊎_, ⊎-elim, inl, inr}
 use borrow.Author.Tests.{eq-eqb, ne-eqb, eqb-false}
-use Rattle.basics.specs.Choice.{pick}
-use Rattle.method.specs.Answer.{map as the-map, stack as the-stack, get, put, remove, push, pop}
-use Rattle.state.specs.Ticket.{kindIn, keyIn, valueIn, opIn, structureOf}
-use Rattle.operations.specs.declared.Op.the-variants.{Get, Put, Remove, Push, Pop}
+use Rattle.list_spec.specs.Choice.{pick}
+use Rattle.method_spec.specs.Answer.{map as the-map, stack as the-stack, get, put, remove, push, pop}
+use Rattle.state_spec.specs.Ticket.{kindIn, keyIn, valueIn, opIn, structureOf}
+use Rattle.operation_spec.specs.declared.Op.the-variants.{Get, Put, Remove, Push, Pop}
 use Rattle.tickets.specs.declared.Asked.the-variants.{Call, Unknown}
 use Rattle.tickets.specs.Asked.{asked, fromOp, fromAsked, mapOp, stackOp}
 use Prim.Native.Nat.{ℕ, zero, suc, _+_, _-_, _*_, _≤_, _<_, _^_}
@@ -18,7 +18,7 @@ use native.Mathlib.Decide.{ℕ-discrete}
 use lib.Dec.{eqb}
 use lib.ListN.{length, take, drop, getD, length-take, length-drop}
 use lib.Seq.{drop-cons, getD-take, getD-drop, drop-length}
-use Rattle.slots.specs.LittleEndian.{value}
+use Rattle.slot_spec.specs.LittleEndian.{value}
 
 value-cons : (b : ℕ) (bs : List ℕ) → value (b ∷ bs) ≡ b + 256 * value bs
 unfolding value

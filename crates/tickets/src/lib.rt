@@ -1,9 +1,9 @@
 // What a ticket asks of a structure.
-use operations::Op;
+use operation_spec::Op;
 ghost use mathlib.Core.Path.{_≡_};
 ghost use Prim.Native.Nat.{_+_, _≤_, _^_, _<_};
 ghost use lib.ListN.{length, take, drop, getD};
-ghost use Rattle.slots.specs.LittleEndian.{value};
+ghost use Rattle.slot_spec.specs.LittleEndian.{value};
 ghost use Rattle.tickets.specs.Asked.{asked, mapOp, stackOp};
 
 // A ticket's length in bytes: kind, key (4), value (8).

@@ -1,36 +1,36 @@
 // The walk program: reads a structure byte, a size byte, then for each call a ticket and its tape numbers from standard
 // input, makes the calls on a store, and prints a line for each as soon as it has been made.
+use call_draws::draws_of;
+use call_draws::rounds_of;
+use call_spec::Reply;
 use libc::STDIN_FILENO;
 use libc::STDOUT_FILENO;
-use state::State;
-use state::fetching::draws_of;
-use state::fetching::rounds_of;
-use state::opening::open;
-use store::Reply;
+use opening::open;
+use state_spec::State;
+use text_writer::LONGEST_LINE;
+use text_writer::MOST_LEAVES;
 use tickets::TICKET_LENGTH;
-use walk_lines::Arrived;
-use walk_lines::HEAD_LENGTH;
-use walk_lines::LARGEST_TREE;
-use walk_lines::LONGEST_LINE;
-use walk_lines::LONGEST_RECORD;
-use walk_lines::MOST_DRAWS;
-use walk_lines::MOST_LEAVES;
-use walk_lines::input::arrived;
-use walk_lines::input::read_tape;
-use walk_lines::input::record_length;
-use walk_lines::input::tree_lent;
-use walk_lines::line::line;
-use walk_lines::line::short_line;
+use walk_input::HEAD_LENGTH;
+use walk_input::LARGEST_TREE;
+use walk_input::LONGEST_RECORD;
+use walk_input::MOST_DRAWS;
+use walk_input::arrived;
+use walk_input::read_tape;
+use walk_input::record_length;
+use walk_input::tree_lent;
+use walk_lines::line;
+use walk_lines::short_line;
+use walk_spec::Arrived;
 ghost use mathlib.Core.Path.{_≡_};
 ghost use Prim.Native.Nat.{_+_, _*_, _≤_};
 ghost use lib.ListN.{length};
 ghost use Rattle.io.specs.Counts.{Counts};
-ghost use Rattle.state.specs.Fit.{largestSize};
-ghost use Rattle.state.specs.Ticket.{ticketLength};
-ghost use Rattle.store.specs.Store.{called};
-ghost use Rattle.walk_lines.specs.Lines.{mostLeaves, longestLine};
-ghost use Rattle.walk_lines.specs.Input.{tapeNumber, recordLength, ticketIn, tapeIn};
-ghost use Rattle.walk_lines.specs.Walk.{callIn, Printed};
+ghost use Rattle.state_spec.specs.Fit.{largestSize};
+ghost use Rattle.state_spec.specs.Ticket.{ticketLength};
+ghost use Rattle.call_spec.specs.Store.{called};
+ghost use Rattle.walk_spec.specs.Lines.{mostLeaves, longestLine};
+ghost use Rattle.walk_spec.specs.Input.{tapeNumber, recordLength, ticketIn, tapeIn};
+ghost use Rattle.walk_spec.specs.Walk.{callIn, Printed};
 
 // What a call of the input leaves: the state, and the length of its line.
 struct Walked {

@@ -1,34 +1,95 @@
-// The walk program's input and output as functions on slices: the parts of the input, and the text of a line.
-use slots::BUCKET_LENGTH;
-use state::LARGEST_SIZE;
-use state::fetching::MOST_ROUNDS;
-use state::fetching::MOST_SPARE;
-use tickets::TICKET_LENGTH;
+// The lines that the walk program prints, each with its newline. They return the line's length.
+use call_spec::Reply;
+use operation_spec::Answer;
+use text_writer::put_leaves;
+use text_writer::put_number;
+use text_writer::put_text;
+ghost use mathlib.Core.Path.{_≡_};
+ghost use mathlib.Core.List.{_++_};
+ghost use Prim.Native.Nat.{_≤_};
+ghost use lib.ListN.{length, take, drop};
+ghost use Rattle.io.specs.Counts.{Counts};
+ghost use Rattle.walk_spec.specs.Lines.{answerWord, answerValue, replyWord, replyValue, lineOf, shortLine, longestLine, mostLeaves, Put};
 
-// How a part of the input came: whole, or the input ended before it or within it.
-pub enum Arrived {
-    Whole,
-    End,
-    Short,
+fn answer_word(answer: Answer, out: &mut [u8]) -> usize
+    requires { ⌜ 8 ≤ length (now out) ⌝ }
+    ensures { λ r. ⌜ Put (answerWord answer) 0 (now (out .entry)) (now (out .exit)) r ⌝ }
+{
+    match answer {
+        Answer::Found(_) => put_text(b"found", out, 0),
+        Answer::Absent => put_text(b"absent", out, 0),
+        Answer::Replaced(_) => put_text(b"replaced", out, 0),
+        Answer::New => put_text(b"new", out, 0),
+        Answer::Removed(_) => put_text(b"removed", out, 0),
+        Answer::Pushed => put_text(b"pushed", out, 0),
+        Answer::Popped(_) => put_text(b"popped", out, 0),
+        Answer::Empty => put_text(b"empty", out, 0),
+        Answer::Full => put_text(b"refused", out, 0),
+    }
 }
 
-// The structure byte and the size byte.
-pub const HEAD_LENGTH: usize = 2;
+fn answer_value(answer: Answer) -> u64
+    ensures { λ r. ⌜ r ≡ answerValue answer ⌝ }
+{
+    match answer {
+        Answer::Found(v) => v,
+        Answer::Absent => 0,
+        Answer::Replaced(v) => v,
+        Answer::New => 0,
+        Answer::Removed(v) => v,
+        Answer::Pushed => 0,
+        Answer::Popped(v) => v,
+        Answer::Empty => 0,
+        Answer::Full => 10,
+    }
+}
 
-// The most leaves of a call, one for each fetch round and each put round, and the most tape numbers.
-pub const MOST_LEAVES: usize = 2 * MOST_ROUNDS;
+fn reply_word(reply: Reply, out: &mut [u8]) -> usize
+    requires { ⌜ 8 ≤ length (now out) ⌝ }
+    ensures { λ r. ⌜ Put (replyWord reply) 0 (now (out .entry)) (now (out .exit)) r ⌝ }
+{
+    match reply {
+        Reply::Answered(answer) => answer_word(answer, out),
+        Reply::Refused(_) => put_text(b"refused", out, 0),
+    }
+}
 
-pub const MOST_DRAWS: usize = MOST_LEAVES + MOST_SPARE;
+fn reply_value(reply: Reply) -> u64
+    ensures { λ r. ⌜ r ≡ replyValue reply ⌝ }
+{
+    match reply {
+        Reply::Answered(answer) => answer_value(answer),
+        Reply::Refused(number) => number as u64,
+    }
+}
 
-// The most bytes of one call in the input.
-pub const LONGEST_RECORD: usize = TICKET_LENGTH + 2 * MOST_DRAWS;
+// The first n numbers of a trace buffer.
+fn first(trace: &[u16], n: usize) -> &[u16]
+    ensures { λ r. ⌜ now r ≡ take n (now (trace .entry)) ⌝ }
+{
+    if n < trace.len() {
+        return &trace[..n];
+    }
+    trace
+}
 
-// The tree of the largest size.
-pub const LARGEST_TREE: usize = BUCKET_LENGTH * ((1 << (LARGEST_SIZE as usize + 1)) - 1);
+// The line of a call: its reply, and the first n numbers of its trace buffer.
+pub fn line(reply: Reply, n: usize, trace: &[u16], out: &mut [u8]) -> usize
+    requires { ⌜ (length (now trace) ≤ mostLeaves) × (longestLine ≤ length (now out)) ⌝ }
+    ensures { λ r. ⌜ Counts r (now (out .exit)) ⌝ }
+    ensures { λ r. ⌜ (r ≡ length (lineOf reply (take n (now (trace .entry))))) × (now (out .exit) ≡ lineOf reply (take n (now (trace .entry))) ++ drop r (now (out .entry))) ⌝ }
+{
+    let word = reply_word(reply, out);
+    let value = put_number(reply_value(reply), out, word);
+    let leaves = put_leaves(first(trace, n), out, value);
+    put_text(b"\n", out, leaves)
+}
 
-// A word of 8 letters, a value of 20 digits and leaves of 5 digits, each after a blank, and a newline.
-pub const LONGEST_LINE: usize = 8 + 21 + 6 * MOST_LEAVES + 1;
-
-pub mod input;
-pub mod line;
-pub mod text;
+// The last line where the input ends within its head or within a call.
+pub fn short_line(out: &mut [u8]) -> usize
+    requires { ⌜ longestLine ≤ length (now out) ⌝ }
+    ensures { λ r. ⌜ Counts r (now (out .exit)) ⌝ }
+    ensures { λ r. ⌜ (r ≡ length shortLine) × (now (out .exit) ≡ shortLine ++ drop r (now (out .entry))) ⌝ }
+{
+    put_text(b"short\n", out, 0)
+}

@@ -7,13 +7,13 @@ use lib.ListN.{length, set, length-map}
 use borrow.Author.Tests.{not-true, not-false}
 use borrow.Author.Needs.{needs}
 use native.Mathlib.Omega.{arith}
-use Rattle.slots.specs.Row.{slotsOf}
-use Rattle.state.specs.Fit.{placesFit}
-use Rattle.state.specs.Head.{headFits}
-use Rattle.store.specs.declared.Reply.the-variants.{Refused}
-use Rattle.store.specs.Store.{called}
+use Rattle.slot_spec.specs.Row.{slotsOf}
+use Rattle.state_spec.specs.Fit.{placesFit}
+use Rattle.state_spec.specs.Head.{headFits}
+use Rattle.call_spec.specs.declared.Reply.the-variants.{Refused}
+use Rattle.call_spec.specs.Store.{called}
 use Rattle.call.specs.Run.{endedAs}
-use Rattle.state.specs.FitLaws.{head-true}
+use Rattle.state_laws.specs.FitLaws.{head-true}
 use Rattle.stash.specs.LoadLaws.{LookedAt, looked-none, used-unfit, unused-unfit, used-more, unused-more, looked-all}
 use Rattle.stash.specs.SaveLaws.{fit-places, savedTo, saved-node, saved-none, saved-all}
 use Rattle.call_core.specs.Run.{headOf, StandsFor}
@@ -23,16 +23,16 @@ use Rattle.call.proofs.call.Statement.{statement}
 use Rattle.call.proofs.call.Tie as tie
 use Rattle.call.proofs.call.Reads as reads
 use Rattle.call.proofs.call.Lts as lts
-use Rattle.buckets.proofs.stash_words.get.Reads as get-reads
-use Rattle.buckets.proofs.stash_words.put.Reads as put-reads
+use Rattle.stash_words.proofs.get.Reads as get-reads
+use Rattle.stash_words.proofs.put.Reads as put-reads
 use Rattle.call_core.proofs.call_words.Reads as call-words-reads
-use Rattle.slots.proofs.codec.node_of.Reads as node-of-reads
+use Rattle.slots.proofs.node_of.Reads as node-of-reads
 use Rattle.stash.proofs.places.greater.Reads as greater-reads
 use Rattle.stash.proofs.places.used_fits.Reads as used-fits-reads
 use Rattle.stash.proofs.words_of.Reads as words-of-reads
-use Rattle.state.proofs.fit.head_fits.Reads as head-fits-reads
-use Rattle.state.proofs.fit.zero_place.Reads as zero-place-reads
-use Rattle.state.proofs.opening.no_place.Reads as no-place-reads
+use Rattle.fitness.proofs.head_fits.Reads as head-fits-reads
+use Rattle.fitness.proofs.zero_place.Reads as zero-place-reads
+use Rattle.opening.proofs.no_place.Reads as no-place-reads
 
 abbrev Inv-loop : tie.InvT-loop
 Inv-loop tree ticket tape trace state root size n w₀ least₀ i₀ w least i = LookedAt state i least w × (i ≤ 64)

@@ -1,6 +1,6 @@
 use mathlib.Core.Path.{refl, sym, _∙_}
-use Rattle.operations.specs.declared.Op.{Op}
-use Rattle.state.specs.declared.State.{State}
+use Rattle.operation_spec.specs.declared.Op.{Op}
+use Rattle.state_spec.specs.declared.State.{State}
 use Rattle.call_core.specs.Run.{StandsFor}
 use Rattle.call_core.specs.CallLaws.{Checked, bytes-of, head-sizes, head-rounds, gives-3, gives-4, gives-5, gives-6, gives-7, all-checked, head-runs, head-left, core-refuses}
 use borrow.Author.Needs.{needs}
@@ -12,9 +12,9 @@ use Rattle.call_core.proofs.call_words.Lts as lts
 use Rattle.call_core.proofs.refused.Reads as refused-reads
 use Rattle.call_core.proofs.run.job_for.Reads as job-for-reads
 use Rattle.call_core.proofs.run.run.Reads as run-reads
-use Rattle.slots.proofs.tree.tree_length.Reads as tree-length-reads
-use Rattle.state.proofs.fetching.draws_of.Reads as draws-of-reads
-use Rattle.state.proofs.fetching.rounds_of.Reads as rounds-of-reads
+use Rattle.tree_paths.proofs.tree_length.Reads as tree-length-reads
+use Rattle.call_draws.proofs.draws_of.Reads as draws-of-reads
+use Rattle.call_draws.proofs.rounds_of.Reads as rounds-of-reads
 use Rattle.tickets.proofs.read_ticket.Reads as read-ticket-reads
 
 -- ---- where all checks were passed

@@ -1,13 +1,13 @@
 use mathlib.Core.Path.{_∙_}
 use native.Mathlib.Omega.{arith}
-use Rattle.slots.specs.RowLaws.{row-got}
+use Rattle.slot_laws.specs.RowLaws.{row-got}
 use native.Mathlib.Omega.{arith}
 use borrow.Author.Needs.{needs}
 use Rattle.node_rows.proofs.node_at.Statement.{statement}
 use Rattle.node_rows.proofs.node_at.Tie as tie
 use Rattle.node_rows.proofs.node_at.Reads as reads
 use Rattle.node_rows.proofs.node_at.Lts as lts
-use Rattle.slots.proofs.codec.node_of.Reads as node-of-reads
+use Rattle.slots.proofs.node_of.Reads as node-of-reads
 
 -- src/lib.rt:31:13
 mul-j : tie.Need-mul-j

@@ -2,17 +2,17 @@ use mathlib.Core.Path.{_∙_, ap}
 use Prim.Native.Nat.{_*_}
 use mathlib.Core.List.{List}
 use native.Mathlib.Omega.{arith}
-use Rattle.slots.specs.declared.Slot.{Slot}
-use Rattle.slots.specs.Row.{nodesFrom}
-use Rattle.slots.specs.RowLaws.{stored, row-put, stored-length}
-use Rattle.slots.proofs.Ranges.{NodeRanges, node-ranges}
+use Rattle.slot_spec.specs.declared.Slot.{Slot}
+use Rattle.slot_spec.specs.Row.{nodesFrom}
+use Rattle.slot_laws.specs.RowLaws.{stored, row-put, stored-length}
+use Rattle.slot_laws.specs.Ranges.{NodeRanges, node-ranges}
 use native.Mathlib.Omega.{arith}
 use borrow.Author.Needs.{needs}
 use Rattle.node_rows.proofs.set_node.Statement.{statement}
 use Rattle.node_rows.proofs.set_node.Tie as tie
 use Rattle.node_rows.proofs.set_node.Reads as reads
 use Rattle.node_rows.proofs.set_node.Lts as lts
-use Rattle.slots.proofs.codec.slot_of.Reads as slot-of-reads
+use Rattle.slots.proofs.slot_of.Reads as slot-of-reads
 
 -- src/lib.rt:45:9
 slot-of-requires : tie.Need-slot-of-requires

@@ -1,7 +1,7 @@
 -- `rounds_main::main` is safe and ends.
 use native.Mathlib.Omega.{arith}
 use borrow.Author.Needs.{needs}
-use Rattle.single_rounds.specs.SingleLaws.{none-waits}
+use Rattle.test_rounds.specs.SingleLaws.{none-waits}
 use Rattle.rounds_main.proofs.main.Statement.{statement}
 use Rattle.rounds_main.proofs.main.Tie as tie
 

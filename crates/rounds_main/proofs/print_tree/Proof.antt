@@ -2,7 +2,7 @@
 use mathlib.Core.Path.{_≡_}
 use Prim.Native.Nat.{_≤_, _-_}
 use lib.ListN.{length}
-use Rattle.slots.specs.Tree.{treeLength}
+use Rattle.slot_spec.specs.Tree.{treeLength}
 use borrow.Author.Needs.{needs}
 use Rattle.rounds_main.proofs.print_tree.Statement.{statement}
 use Rattle.rounds_main.proofs.print_tree.Tie as tie

@@ -2,7 +2,7 @@
 use mathlib.Core.Path.{_≡_}
 use Prim.Native.Nat.{_≤_, _-_}
 use lib.ListN.{length}
-use Rattle.buckets.specs.Words.{places, wordCount}
+use Rattle.word_round_laws.specs.Words.{places, wordCount}
 use borrow.Author.Needs.{needs}
 use Rattle.rounds_main.proofs.print_waiting.Statement.{statement}
 use Rattle.rounds_main.proofs.print_waiting.Tie as tie

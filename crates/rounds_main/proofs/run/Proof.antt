@@ -2,7 +2,7 @@
 use mathlib.Core.Path.{_≡_, _∙_}
 use Prim.Native.Nat.{_+_, _≤_, _-_}
 use lib.ListN.{length}
-use Rattle.single_rounds.specs.Single.{Resting}
+use Rattle.test_rounds.specs.Single.{Resting}
 use borrow.Author.Needs.{needs}
 use native.Mathlib.Omega.{arith}
 use Rattle.rounds_main.proofs.run.Statement.{statement}

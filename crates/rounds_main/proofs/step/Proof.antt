@@ -1,6 +1,6 @@
 -- `rounds_main::step` meets its contract.
 use borrow.Author.Tests.{not-false}
-use Rattle.single_rounds.specs.SingleLaws.{resting-waits, stopped-rests}
+use Rattle.test_rounds.specs.SingleLaws.{resting-waits, stopped-rests}
 use borrow.Author.Needs.{needs}
 use Rattle.rounds_main.proofs.step.Statement.{statement}
 use Rattle.rounds_main.proofs.step.Tie as tie

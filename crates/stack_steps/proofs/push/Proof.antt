@@ -1,7 +1,7 @@
 use mathlib.Core.Path.{_∙_, refl}
 use native.Mathlib.Numerals.{add-one}
 use native.Mathlib.Omega.{arith}
-use Rattle.leaf_nodes.specs.Convert.{toLink, toNode}
+use Rattle.leaf_spec.specs.Convert.{toLink, toNode}
 use Rattle.node_rows.specs.HeldLaws.{row-more}
 use Rattle.stack_steps.specs.StackLaws.{push-full, push-one}
 use native.Mathlib.Omega.{arith}
@@ -11,7 +11,7 @@ use Rattle.stack_steps.proofs.push.Tie as tie
 use Rattle.stack_steps.proofs.push.Reads as reads
 use Rattle.stack_steps.proofs.push.Lts as lts
 use Rattle.node_rows.proofs.set_node.Reads as set-node-reads
-use Rattle.slots.proofs.codec.no_link.Reads as no-link-reads
+use Rattle.slots.proofs.no_link.Reads as no-link-reads
 
 -- src/lib.rt:39:9
 returns : tie.Need-returns

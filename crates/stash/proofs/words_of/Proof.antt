@@ -1,5 +1,5 @@
 -- `stash::words_of` meets its contract. Owning a node tells that its numbers are within their widths.
-use Rattle.slots.proofs.Ranges.{NodeRanges, node-ranges}
+use Rattle.slot_laws.specs.Ranges.{NodeRanges, node-ranges}
 use borrow.Author.Needs.{needs}
 use native.Mathlib.Omega.{arith}
 use Rattle.stash.proofs.words_of.Statement.{statement}

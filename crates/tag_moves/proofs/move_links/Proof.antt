@@ -1,11 +1,11 @@
 use Prim.Native.Nat.{ℕ, _-_, _≤_}
 use mathlib.Core.Path.{_≡_, _∙_, ap}
 use lib.ListN.{length}
-use Rattle.slots.specs.declared.Node as node
-use Rattle.method.specs.Node.{Node}
-use Rattle.leaf_nodes.specs.Convert.{toNode}
-use Rattle.calls.specs.Fetch.{movedNode}
-use Rattle.operations.specs.Method.{toFrom}
+use Rattle.slot_spec.specs.declared.Node as node
+use Rattle.method_spec.specs.Node.{Node}
+use Rattle.leaf_spec.specs.Convert.{toNode}
+use Rattle.bucket_call_spec.specs.Fetch.{movedNode}
+use Rattle.operation_spec.specs.Method.{toFrom}
 use Rattle.node_rows.specs.Row.{words}
 use Rattle.tag_moves.specs.Moved.{fetchOf}
 use Rattle.tag_moves.specs.MoveLaws.{Moving, moving-start, moving-turn, moving-end}

@@ -1,7 +1,7 @@
 use Prim.Native.Nat.{_-_}
 use mathlib.Core.Path.{_≡_, _∙_, ap, sym}
-use Rattle.slots.specs.declared.Node as node
-use Rattle.leaf_nodes.specs.Convert.{toLink}
+use Rattle.slot_spec.specs.declared.Node as node
+use Rattle.leaf_spec.specs.Convert.{toLink}
 use Rattle.node_rows.specs.Held.{heldIn, heldAt}
 use Rattle.tag_moves.specs.MoveLaws.{MovingTo, tags-start, tags-turn, tags-end, tag-same}
 use borrow.Author.Needs.{needs}

@@ -1,4 +1,4 @@
-use Rattle.leaf_nodes.specs.Convert.{toLink}
+use Rattle.leaf_spec.specs.Convert.{toLink}
 use Rattle.tag_moves.specs.MoveLaws.{moved-root-link, moved-side-link}
 use native.Mathlib.Omega.{arith}
 use borrow.Author.Needs.{needs}

@@ -4,7 +4,7 @@ use Rattle.tickets.specs.AskedLaws.{number-none, number-more, more-below
 use mathlib.Core.Path.{_≡_, refl, sym, _∙_, ap}
 use Prim.Native.Nat.{_≤_, _<_, _+_, _*_, _-_, _^_}
 use lib.ListN.{take, drop}
-use Rattle.slots.specs.LittleEndian.{value}
+use Rattle.slot_spec.specs.LittleEndian.{value}
 use borrow.Author.Needs.{needs}
 use native.Mathlib.Omega.{arith}
 use Rattle.tickets.proofs.number.Statement.{statement}

@@ -1,8 +1,8 @@
 -- `walk::main` is safe and ends. A state that is not marked has a size of 1 to 8.
 use mathlib.Core.Path.{sym, _∙_, ap}
-use Rattle.state.specs.declared.State.{State}
-use Rattle.walk_lines.specs.InputLaws.{open-size}
-use Rattle.walk_lines.specs.WalkLaws.{fresh-length}
+use Rattle.state_spec.specs.declared.State.{State}
+use Rattle.walk_laws.specs.InputLaws.{open-size}
+use Rattle.walk_laws.specs.WalkLaws.{fresh-length}
 use borrow.Author.Needs.{needs}
 use Rattle.walk.proofs.main.Statement.{statement}
 use Rattle.walk.proofs.main.Tie as tie

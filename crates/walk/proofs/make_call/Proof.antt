@@ -1,9 +1,9 @@
 -- `walk::make_call` meets its contract: the tape is read, the call is made, and its line is put.
 use mathlib.Core.Path.{sym}
 use lib.Seq.{length-take-le}
-use Rattle.store.specs.Store.{called}
-use Rattle.walk_lines.specs.Input.{ticketIn}
-use Rattle.walk_lines.specs.WalkLaws.{printed}
+use Rattle.call_spec.specs.Store.{called}
+use Rattle.walk_spec.specs.Input.{ticketIn}
+use Rattle.walk_laws.specs.WalkLaws.{printed}
 use native.Mathlib.Omega.{arith}
 use borrow.Author.Needs.{needs}
 use Rattle.walk.proofs.make_call.Statement.{statement}

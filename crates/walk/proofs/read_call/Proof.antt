@@ -3,9 +3,9 @@ use mathlib.Core.Path.{_≡_, sym, _∙_, ap}
 use mathlib.Core.List.{List, _++_}
 use Prim.Native.Nat.{ℕ, _≤_}
 use lib.ListN.{length, take, length-append}
-use Rattle.state.specs.declared.State.{State}
-use Rattle.walk_lines.specs.Input.{longestRecord}
-use Rattle.walk_lines.specs.WalkLaws.{fresh-length, filled-length, call-keeps}
+use Rattle.state_spec.specs.declared.State.{State}
+use Rattle.walk_spec.specs.Input.{longestRecord}
+use Rattle.walk_laws.specs.WalkLaws.{fresh-length, filled-length, call-keeps}
 use native.Mathlib.Omega.{arith}
 use borrow.Author.Needs.{needs}
 use Rattle.walk.proofs.read_call.Statement.{statement}

@@ -2,7 +2,7 @@
 use mathlib.Core.Path.{_≡_}
 use Prim.Native.Nat.{_≤_}
 use lib.ListN.{length}
-use Rattle.state.specs.Fit.{largestSize}
+use Rattle.state_spec.specs.Fit.{largestSize}
 use borrow.Author.Needs.{needs}
 use Rattle.walk.proofs.read_calls.Statement.{statement}
 use Rattle.walk.proofs.read_calls.Tie as tie

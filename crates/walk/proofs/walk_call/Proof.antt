@@ -2,9 +2,9 @@
 use mathlib.Core.Path.{_≡_, sym}
 use Prim.Native.Nat.{ℕ, _*_}
 use lib.ListN.{length, take, replicate}
-use Rattle.state.specs.Fetching.{mostDraws}
-use Rattle.walk_lines.specs.Lines.{mostLeaves}
-use Rattle.walk_lines.specs.WalkLaws.{fresh-length, call-in}
+use Rattle.state_spec.specs.Fetching.{mostDraws}
+use Rattle.walk_spec.specs.Lines.{mostLeaves}
+use Rattle.walk_laws.specs.WalkLaws.{fresh-length, call-in}
 use native.Mathlib.Omega.{arith}
 use borrow.Author.Needs.{needs}
 use Rattle.walk.proofs.walk_call.Statement.{statement}

@@ -1,4 +1,4 @@
-use Rattle.calls.specs.Call.{drawOf}
+use Rattle.bucket_call_spec.specs.Call.{drawOf}
 use Rattle.node_rows.specs.Held.{heldIn}
 use Rattle.call_core.specs.EndingLaws.{finish-stepped, finish-ends}
 use borrow.Author.Needs.{needs}
@@ -8,9 +8,9 @@ use Rattle.call_core.proofs.ending.finish.Tie as tie
 use Rattle.call_core.proofs.ending.finish.Reads as reads
 use Rattle.call_core.proofs.ending.finish.Lts as lts
 use Rattle.call_core.proofs.ending.reply_after.Reads as reply-after-reads
-use Rattle.phases.proofs.put.put_rounds.Reads as put-rounds-reads
+use Rattle.put_rounds.proofs.put_rounds.Reads as put-rounds-reads
 use Rattle.stash.proofs.join.join_nodes.Reads as join-nodes-reads
-use Rattle.steps.proofs.operation.step.Reads as step-reads
+use Rattle.structures.proofs.operation.step.Reads as step-reads
 
 -- src/ending.rt:106:9
 step-requires : tie.Need-step-requires

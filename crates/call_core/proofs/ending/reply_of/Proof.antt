@@ -1,7 +1,7 @@
 use mathlib.Core.Path.{sym, ap}
-use Rattle.operations.specs.declared.Answer.{Answer}
-use Rattle.operations.specs.Method.{toAnswer}
-use Rattle.store.specs.Store.{replyOf}
+use Rattle.operation_spec.specs.declared.Answer.{Answer}
+use Rattle.operation_spec.specs.Method.{toAnswer}
+use Rattle.call_spec.specs.Store.{replyOf}
 use native.Mathlib.Omega.{arith}
 use borrow.Author.Needs.{needs}
 use Rattle.call_core.proofs.ending.reply_of.Statement.{statement}

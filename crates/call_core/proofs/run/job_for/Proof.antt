@@ -7,8 +7,8 @@ use Rattle.call_core.proofs.run.job_for.Tie as tie
 use Rattle.call_core.proofs.run.job_for.Reads as reads
 use Rattle.call_core.proofs.run.job_for.Lts as lts
 use Rattle.idle_rounds.proofs.idle.draw_at.Reads as draw-at-reads
-use Rattle.slots.proofs.tree.leaves.Reads as leaves-reads
-use Rattle.state.proofs.fetching.spare_of.Reads as spare-of-reads
+use Rattle.tree_paths.proofs.leaves.Reads as leaves-reads
+use Rattle.call_draws.proofs.spare_of.Reads as spare-of-reads
 
 -- src/run.rt:38:18
 leaves-requires : tie.Need-leaves-requires

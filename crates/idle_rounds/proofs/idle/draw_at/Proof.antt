@@ -9,7 +9,7 @@ use Rattle.idle_rounds.proofs.idle.draw_at.Tie as tie
 use Rattle.idle_rounds.proofs.idle.draw_at.Reads as reads
 use Rattle.idle_rounds.proofs.idle.draw_at.Lts as lts
 use Rattle.idle_rounds.proofs.idle.wide.Reads as wide-reads
-use Rattle.slots.proofs.tree.leaves.Reads as leaves-reads
+use Rattle.tree_paths.proofs.leaves.Reads as leaves-reads
 
 -- src/idle.rt:27:10
 mul-wide : tie.Need-mul-wide

@@ -1,7 +1,7 @@
 use mathlib.Core.Path.{refl, _∙_}
 use lib.ListN.{length-set}
 use Prim.Native.Nat.{_+_, _-_}
-use Rattle.calls.specs.Call.{drawOf}
+use Rattle.bucket_call_spec.specs.Call.{drawOf}
 use Rattle.idle_rounds.specs.IdleLaws.{Idling, idling-sized, idling-begins, idling-ends, idling-shuts, idling-goes, between-ready}
 use borrow.Author.Needs.{needs}
 use native.Mathlib.Omega.{arith}
@@ -9,7 +9,7 @@ use Rattle.idle_rounds.proofs.idle.idle_rounds.Statement.{statement}
 use Rattle.idle_rounds.proofs.idle.idle_rounds.Tie as tie
 use Rattle.idle_rounds.proofs.idle.idle_rounds.Reads as reads
 use Rattle.idle_rounds.proofs.idle.idle_rounds.Lts as lts
-use Rattle.call_rounds.proofs.idle_round.Reads as idle-round-reads
+use Rattle.one_round.proofs.idle_round.Reads as idle-round-reads
 use Rattle.idle_rounds.proofs.idle.draw_at.Reads as draw-at-reads
 
 abbrev Inv-loop : tie.InvT-loop

@@ -1,6 +1,6 @@
 use Prim.Native.Nat.{_+_, _<_}
 use lib.ListN.{length}
-use Rattle.method.specs.Map.{listed}
+use Rattle.method_spec.specs.Map.{listed}
 use Rattle.node_rows.specs.Row.{places}
 use Rattle.map_nodes.specs.Method.{toKid, toSub}
 use Rattle.map_nodes.specs.HeightLaws.{low-sub-more}

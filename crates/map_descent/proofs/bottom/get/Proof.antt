@@ -2,10 +2,10 @@ use mathlib.Core.Path.{refl}
 use Prim.Native.Nat.{_<_}
 use native.Mathlib.Omega.{arith}
 use borrow.Author.Needs.{needs}
-use Rattle.method.specs.Prog.{done}
-use Rattle.method.specs.Map.{getStep}
-use Rattle.leaf_nodes.specs.Convert.{toLink}
-use Rattle.operations.specs.Method.{toWant}
+use Rattle.method_spec.specs.Prog.{done}
+use Rattle.method_spec.specs.Map.{getStep}
+use Rattle.leaf_spec.specs.Convert.{toLink}
+use Rattle.operation_spec.specs.Method.{toWant}
 use Rattle.map_descent.specs.BottomLaws.{get-is, get-gap, get-hit, starts-missing, starts-gap, starts-hit, hit-within, hit-low}
 use Rattle.map_descent.proofs.bottom.get.Statement.{statement}
 use Rattle.map_descent.proofs.bottom.get.Tie as tie

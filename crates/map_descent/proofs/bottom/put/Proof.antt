@@ -3,10 +3,10 @@ use Prim.Native.Nat.{ℕ, _<_}
 use native.Mathlib.Omega.{arith}
 use native.Mathlib.Numerals.{add-one}
 use borrow.Author.Needs.{needs}
-use Rattle.method.specs.Prog.{Prog}
-use Rattle.method.specs.Map.{Outcome, Spot, putStep}
-use Rattle.leaf_nodes.specs.Convert.{toLink}
-use Rattle.operations.specs.Method.{toWant}
+use Rattle.method_spec.specs.Prog.{Prog}
+use Rattle.method_spec.specs.Map.{Outcome, Spot, putStep}
+use Rattle.leaf_spec.specs.Convert.{toLink}
+use Rattle.operation_spec.specs.Method.{toWant}
 use Rattle.map_descent.specs.BottomLaws.{put-is, put-new, put-gap-full, put-replaced, put-hit-full, starts-missing, starts-gap, starts-hit, hit-within, hit-low}
 use Rattle.map_descent.proofs.bottom.put.Statement.{statement}
 use Rattle.map_descent.proofs.bottom.put.Tie as tie

@@ -2,9 +2,9 @@ use mathlib.Core.Path.{refl}
 use Prim.Native.Nat.{_<_}
 use native.Mathlib.Omega.{arith}
 use borrow.Author.Needs.{needs}
-use Rattle.method.specs.Map.{removeStep}
-use Rattle.leaf_nodes.specs.Convert.{toLink}
-use Rattle.operations.specs.Method.{toWant}
+use Rattle.method_spec.specs.Map.{removeStep}
+use Rattle.leaf_spec.specs.Convert.{toLink}
+use Rattle.operation_spec.specs.Method.{toWant}
 use Rattle.map_descent.specs.BottomLaws.{remove-is, remove-gap, remove-left, remove-right, starts-missing, starts-gap, starts-hit, starts-past, hit-within, hit-low}
 use Rattle.map_descent.proofs.bottom.remove.Statement.{statement}
 use Rattle.map_descent.proofs.bottom.remove.Tie as tie

@@ -2,9 +2,9 @@ use mathlib.Core.Path.{_≡_, sym, _∙_, ap, subst}
 use Prim.Native.Nat.{ℕ, _-_, _≤_}
 use native.Mathlib.Omega.{arith}
 use borrow.Author.Needs.{needs}
-use Rattle.method.specs.Prog.{Want}
-use Rattle.method.specs.Map.{Step}
-use Rattle.operations.specs.Method.{toWant}
+use Rattle.method_spec.specs.Prog.{Want}
+use Rattle.method_spec.specs.Map.{Step}
+use Rattle.operation_spec.specs.Method.{toWant}
 use Rattle.node_rows.specs.Heights.{Low}
 use Rattle.node_rows.specs.Held.{Held, heldIn}
 use Rattle.map_descent.specs.Walk.{wantAt}

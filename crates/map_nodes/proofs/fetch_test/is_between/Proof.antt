@@ -1,4 +1,4 @@
-use Rattle.method.specs.Map.{between}
+use Rattle.method_spec.specs.Map.{between}
 use borrow.Author.Tests.{lt-ltb, le-ltb}
 use borrow.Author.Needs.{needs}
 use Rattle.map_nodes.proofs.fetch_test.is_between.Statement.{statement}

@@ -1,7 +1,7 @@
 use mathlib.Core.Path.{sym, _∙_}
 use native.Mathlib.Numerals.{add-one}
-use Rattle.leaf_nodes.specs.Convert.{toNode}
-use Rattle.operations.specs.Method.{toWant}
+use Rattle.leaf_spec.specs.Convert.{toNode}
+use Rattle.operation_spec.specs.Method.{toWant}
 use Rattle.map_nodes.specs.FetchTestLaws.{tall-left, tall-right, other-height, same-height}
 use borrow.Author.Needs.{needs}
 use Rattle.map_nodes.proofs.fetch_test.map_test.Statement.{statement}

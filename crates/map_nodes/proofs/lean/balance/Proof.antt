@@ -1,5 +1,5 @@
 use mathlib.Core.Path.{sym}
-use Rattle.leaf_nodes.specs.Convert.{toNode}
+use Rattle.leaf_spec.specs.Convert.{toNode}
 use Rattle.map_nodes.specs.BalanceLaws.{balance-two, balance-one, balance-zero, balance-minus-one, balance-minus-two}
 use native.Mathlib.Omega.{arith}
 use borrow.Author.Needs.{needs}

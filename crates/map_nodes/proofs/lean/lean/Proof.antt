@@ -1,4 +1,4 @@
-use Rattle.leaf_nodes.specs.Convert.{toNode}
+use Rattle.leaf_spec.specs.Convert.{toNode}
 use Rattle.map_nodes.specs.BalanceLaws.{balance-kept, balance-fits, balance-negated}
 use borrow.Author.Needs.{needs}
 use Rattle.map_nodes.proofs.lean.lean.Statement.{statement}

@@ -1,5 +1,5 @@
 use mathlib.Core.Path.{_∙_, ap}
-use Rattle.method.specs.Map.{beside}
+use Rattle.method_spec.specs.Map.{beside}
 use Rattle.map_nodes.specs.Method.{toStep}
 use borrow.Author.Needs.{needs}
 use Rattle.rotations.proofs.raise.child_want.Statement.{statement}

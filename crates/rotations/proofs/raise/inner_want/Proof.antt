@@ -1,9 +1,9 @@
 use mathlib.Core.Path.{_∙_, ap}
 use mathlib.Core.Bool.{not}
 use Prim.Native.Nat.{ℕ}
-use Rattle.method.specs.Prog.{Want}
-use Rattle.method.specs.Map.{below, stepAt}
-use Rattle.leaf_nodes.specs.Convert.{toNode}
+use Rattle.method_spec.specs.Prog.{Want}
+use Rattle.method_spec.specs.Map.{below, stepAt}
+use Rattle.leaf_spec.specs.Convert.{toNode}
 use borrow.Author.Needs.{needs}
 use Rattle.rotations.proofs.raise.inner_want.Statement.{statement}
 use Rattle.rotations.proofs.raise.inner_want.Tie as tie

@@ -2,8 +2,8 @@ use mathlib.Core.Path.{subst, sym}
 use mathlib.Core.Bool.{not}
 use Prim.Native.Nat.{ℕ}
 use native.Mathlib.Omega.{arith}
-use Rattle.method.specs.Map.{Rotated}
-use Rattle.leaf_nodes.specs.Convert.{toNode}
+use Rattle.method_spec.specs.Map.{Rotated}
+use Rattle.leaf_spec.specs.Convert.{toNode}
 use Rattle.node_rows.specs.Heights.{Low}
 use Rattle.map_nodes.specs.HeightLaws.{low-more, low-up}
 use Rattle.rotations.specs.RotationLaws.{double-is}

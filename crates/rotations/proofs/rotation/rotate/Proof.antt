@@ -2,8 +2,8 @@ use Rattle.rotations.specs.RotationLaws.{rotate-is}
 use mathlib.Core.Path.{subst, sym}
 use mathlib.Core.Bool.{not}
 use Prim.Native.Nat.{ℕ}
-use Rattle.method.specs.Node.{Node}
-use Rattle.leaf_nodes.specs.Convert.{toNode, toLink}
+use Rattle.method_spec.specs.Node.{Node}
+use Rattle.leaf_spec.specs.Convert.{toNode, toLink}
 use Rattle.node_rows.specs.Heights.{Low}
 use Rattle.map_nodes.specs.HeightLaws.{low-child, low-with}
 use borrow.Author.Needs.{needs}

@@ -1,4 +1,4 @@
-use Rattle.leaf_nodes.specs.Convert.{toNode}
+use Rattle.leaf_spec.specs.Convert.{toNode}
 use Rattle.map_nodes.specs.Method.{toKid}
 use Rattle.rotations.specs.RotationLaws.{single-is}
 use borrow.Author.Needs.{needs}

@@ -6,20 +6,20 @@ use mathlib.Core.Path.{_≡_, sym, _∙_, ap}
 use mathlib.Core.List.{List}
 use lib.ListN.{length, getD, set}
 use borrow.Author.Tests.{not-false}
-use Rattle.slots.specs.declared.Link.{Link}
-use Rattle.slots.specs.declared.Node.{Node}
-use Rattle.slots.specs.Slot.{noNode}
-use Rattle.slots.specs.Row.{nodesFrom}
-use Rattle.leaf_nodes.specs.Convert.{toLink, toNode}
-use Rattle.operations.specs.Method.{toOp, toWant, toWanted}
+use Rattle.slot_spec.specs.declared.Link.{Link}
+use Rattle.slot_spec.specs.declared.Node.{Node}
+use Rattle.slot_spec.specs.Slot.{noNode}
+use Rattle.slot_spec.specs.Row.{nodesFrom}
+use Rattle.leaf_spec.specs.Convert.{toLink, toNode}
+use Rattle.operation_spec.specs.Method.{toOp, toWant, toWanted}
 use Rattle.node_rows.specs.Row.{words, fetches}
 use Rattle.node_rows.specs.Heights.{Low}
 use Rattle.node_rows.specs.Held.{heldIn, nodesOf}
 use Rattle.node_rows.specs.HeldLaws.{row-more}
 use Rattle.map_nodes.specs.HeightLaws.{lows-append}
-use Rattle.state.specs.Ticket.{structureOf}
-use Rattle.steps.specs.WantLaws.{wanted-low, tested-low}
-use Rattle.steps.specs.Operation.{LowHeld}
+use Rattle.state_spec.specs.Ticket.{structureOf}
+use Rattle.structures.specs.WantLaws.{wanted-low, tested-low}
+use Rattle.structures.specs.Operation.{LowHeld}
 use borrow.Author.Needs.{needs}
 use native.Mathlib.Omega.{arith}
 use Rattle.steps_main.proofs.playing.gather.Statement.{statement}

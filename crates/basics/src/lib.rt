@@ -1,1 +1,0 @@
-// Facts about lists and choices that every other crate cites; no code.

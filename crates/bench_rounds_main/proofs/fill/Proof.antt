@@ -1,0 +1,95 @@
+-- `bench_rounds::fill` meets its contract. The loop's invariant: the store is at rest.
+use Rattle.bench_rounds_main.specs.RunLaws.{failed-ran}
+use Rattle.bench_rounds_main.specs.Run.{size, nodes}
+use Rattle.test_rounds.specs.Single.{Resting}
+use Prim.Native.Nat.{_≤_, _-_}
+use mathlib.Core.Path.{_≡_, _∙_}
+use lib.ListN.{length, length-set}
+use borrow.Author.Needs.{needs}
+use native.Mathlib.Omega.{arith}
+use Rattle.bench_rounds_main.proofs.fill.Statement.{statement}
+use Rattle.bench_rounds_main.proofs.fill.Tie as tie
+
+abbrev Inv-loop : tie.InvT-loop
+Inv-loop w₀ s₀ tree₀ tags₀ n₀ x₀ i₀ w s tree tags n x i = (i ≤ nodes) × Resting size n w s tree × (length tags ≡ nodes) × (length tree ≡ length tree₀)
+
+abbrev μ-loop : tie.MeasureT-loop
+μ-loop w₀ s₀ tree₀ tags₀ n₀ x₀ i₀ w s tree tags n x i = nodes - i
+
+loop-holds : tie.Need-loop-holds Inv-loop μ-loop
+loop-holds c = search needs
+
+next-requires : tie.Need-next-requires Inv-loop μ-loop
+next-requires c κs = search needs
+
+cast-tag : tie.Need-cast-tag Inv-loop μ-loop
+cast-tag c = search needs
+
+element-write-tags : tie.Need-element-write-tags Inv-loop μ-loop
+element-write-tags c = search needs
+
+cast-leaf : tie.Need-cast-leaf Inv-loop μ-loop
+cast-leaf c = search needs
+
+cast-new-node : tie.Need-cast-new-node Inv-loop μ-loop
+cast-new-node c = search needs
+
+new-node-requires : tie.Need-new-node-requires Inv-loop μ-loop
+new-node-requires c κs = search needs
+
+put-round-requires : tie.Need-put-round-requires Inv-loop μ-loop
+put-round-requires c κs = search needs
+
+failed-requires : tie.Need-failed-requires Inv-loop μ-loop
+failed-requires c κs = search needs
+
+same-length : tie.Need-same-length Inv-loop μ-loop
+same-length c = search needs
+
+returns : tie.Need-returns Inv-loop μ-loop
+returns c = failed-ran (c .failed .result) (c .failed .ensures) (search needs)
+
+add-i : tie.Need-add-i Inv-loop μ-loop
+add-i c = search needs
+
+loop-less : tie.Need-loop-less Inv-loop μ-loop
+loop-less c = search needs
+
+loop-again : tie.Need-loop-again Inv-loop μ-loop
+loop-again c =
+    let loop = c .before .before .before .before .before .before .before .before .before .before .before .loop in
+    let turn = c .before .before .before .before .put-round in (
+      omega (arith, c .before .before .before .before .before .before .before .before .before .before .loop-test .taken),
+      turn .ensures .rests (λ e. omega (arith, c .if1 .left)),
+      simp length-set (loop .inv .2),
+      c .before .before .before .tree .given ∙ loop .inv .3,
+    )
+
+same-length-2 : tie.Need-same-length-2 Inv-loop μ-loop
+same-length-2 c = search needs
+
+returns-2 : tie.Need-returns-2 Inv-loop μ-loop
+returns-2 c = search needs
+
+pub fill-spec : {M : Type 1} → statement M
+fill-spec =
+    tie.close
+    (tie.spec
+    Inv-loop
+    μ-loop
+    loop-holds
+    next-requires
+    cast-tag
+    element-write-tags
+    cast-leaf
+    cast-new-node
+    new-node-requires
+    put-round-requires
+    failed-requires
+    same-length
+    returns
+    add-i
+    loop-less
+    loop-again
+    same-length-2
+    returns-2)

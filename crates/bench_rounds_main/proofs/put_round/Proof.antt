@@ -1,0 +1,33 @@
+-- `bench_rounds::put_round` meets its contract.
+use mathlib.Core.Path.{refl}
+use borrow.Author.Tests.{not-false}
+use Rattle.test_rounds.specs.SingleLaws.{resting-waits}
+use native.Mathlib.Omega.{arith}
+use borrow.Author.Needs.{needs}
+use Rattle.bench_rounds_main.proofs.put_round.Statement.{statement}
+use Rattle.bench_rounds_main.proofs.put_round.Tie as tie
+
+wait-requires : tie.Need-wait-requires
+wait-requires c κs = search needs
+
+returns : tie.Need-returns
+returns c = record { rests = λ other. let z : ⊥ = other refl in absurd z }
+
+add-round : tie.Need-add-round
+add-round c = search needs
+
+round-requires : tie.Need-round-requires
+round-requires c κs =
+    let b = c .before .before .before .before .before .before .before in
+    let wait = c .before .before .before .before .wait in
+    (resting-waits (b .pre) (wait .ensures) (not-false (wait .result) (c .before .before .before .if1 .left)), omega arith)
+
+same-length : tie.Need-same-length
+same-length c = search needs
+
+returns-2 : tie.Need-returns-2
+returns-2 c = search needs
+
+pub put-round-spec : {M : Type 1} → statement M
+put-round-spec =
+    tie.close (tie.spec wait-requires returns add-round round-requires same-length returns-2)

@@ -1,0 +1,107 @@
+-- `bench_rounds::run` meets its contract. The loop's invariant: the store is at rest.
+use mathlib.Core.Path.{_≡_, _∙_}
+use Prim.Native.Nat.{_≤_, _-_}
+use lib.ListN.{length, length-set}
+use Rattle.test_rounds.specs.Single.{Resting}
+use Rattle.bench_rounds_main.specs.Run.{size, nodes}
+use Rattle.bench_rounds_main.specs.RunLaws.{failed-ran}
+use borrow.Author.Needs.{needs}
+use native.Mathlib.Omega.{arith}
+use Rattle.bench_rounds_main.proofs.run.Statement.{statement}
+use Rattle.bench_rounds_main.proofs.run.Tie as tie
+
+abbrev Inv-loop : tie.InvT-loop
+Inv-loop rounds w₀ waiting s₀ tree₀ tags₀ seed n₀ x₀ leaves₀ i₀ w s tree tags n x leaves i = (i ≤ rounds) × Resting size n w s tree × (length tags ≡ nodes) × (length tree ≡ length tree₀)
+
+abbrev μ-loop : tie.MeasureT-loop
+μ-loop rounds w₀ waiting s₀ tree₀ tags₀ seed n₀ x₀ leaves₀ i₀ w s tree tags n x leaves i = rounds - i
+
+loop-holds : tie.Need-loop-holds Inv-loop μ-loop
+loop-holds c = search needs
+
+next-requires : tie.Need-next-requires Inv-loop μ-loop
+next-requires c κs = search needs
+
+element-copy-out-tag : tie.Need-element-copy-out-tag Inv-loop μ-loop
+element-copy-out-tag c = search needs
+
+cast-new-tag : tie.Need-cast-new-tag Inv-loop μ-loop
+cast-new-tag c = search needs
+
+element-write-tags : tie.Need-element-write-tags Inv-loop μ-loop
+element-write-tags c = search needs
+
+wide-requires : tie.Need-wide-requires Inv-loop μ-loop
+wide-requires c κs = search needs
+
+next-requires-2 : tie.Need-next-requires-2 Inv-loop μ-loop
+next-requires-2 c κs = search needs
+
+cast-take-round : tie.Need-cast-take-round Inv-loop μ-loop
+cast-take-round c = search needs
+
+as-tag-requires : tie.Need-as-tag-requires Inv-loop μ-loop
+as-tag-requires c κs = search needs
+
+as-tag-requires-2 : tie.Need-as-tag-requires-2 Inv-loop μ-loop
+as-tag-requires-2 c κs = search needs
+
+take-round-requires : tie.Need-take-round-requires Inv-loop μ-loop
+take-round-requires c κs = (c .before .before .before .before .before .before .before .before .before .before .loop .inv .1, c .before .as-tag .ensures)
+
+failed-requires : tie.Need-failed-requires Inv-loop μ-loop
+failed-requires c κs = search needs
+
+same-length : tie.Need-same-length Inv-loop μ-loop
+same-length c = c .before .before .before .before .tree .given ∙ c .before .before .before .before .before .before .before .before .before .before .before .before .before .before .before .before .loop .inv .3
+
+returns : tie.Need-returns Inv-loop μ-loop
+returns c = failed-ran (c .failed .result) (c .failed .ensures) (simp length-set (c .before .before .before .before .before .before .before .before .before .before .before .before .before .before .before .before .loop .inv .2))
+
+add-i : tie.Need-add-i Inv-loop μ-loop
+add-i c = omega (arith, c .before .before .before .before .before .before .before .before .before .before .before .before .before .before .loop-test .taken, c .before .before .before .before .before .before .before .before .before .before .before .before .before .before .before .before .before .fits .rounds)
+
+loop-less : tie.Need-loop-less Inv-loop μ-loop
+loop-less c = search needs
+
+loop-again : tie.Need-loop-again Inv-loop μ-loop
+loop-again c =
+    let loop = c .before .before .before .before .before .before .before .before .before .before .before .before .before .before .before .loop in
+    let turn = c .before .before .before .before .take-round in (
+      omega (arith, c .before .before .before .before .before .before .before .before .before .before .before .before .before .before .loop-test .taken),
+      turn .ensures .rests (λ e. omega (arith, c .if1 .left)),
+      simp length-set (loop .inv .2),
+      c .before .before .before .tree .given ∙ loop .inv .3,
+    )
+
+same-length-2 : tie.Need-same-length-2 Inv-loop μ-loop
+same-length-2 c = search needs
+
+returns-2 : tie.Need-returns-2 Inv-loop μ-loop
+returns-2 c = search needs
+
+pub run-spec : {M : Type 1} → statement M
+run-spec =
+    tie.close
+    (tie.spec
+    Inv-loop
+    μ-loop
+    loop-holds
+    next-requires
+    element-copy-out-tag
+    cast-new-tag
+    element-write-tags
+    wide-requires
+    next-requires-2
+    cast-take-round
+    as-tag-requires
+    as-tag-requires-2
+    take-round-requires
+    failed-requires
+    same-length
+    returns
+    add-i
+    loop-less
+    loop-again
+    same-length-2
+    returns-2)

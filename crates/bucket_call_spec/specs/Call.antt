@@ -1,0 +1,70 @@
+-- One call over a bucket tree, on a store that fits: F fetch rounds, the step, F put rounds.
+use Prim.Native.Nat.{ℕ, zero, suc, _+_, _%_, _^_}
+use mathlib.Core.List.{List, [], _∷_, _++_, map}
+use mathlib.Core.Option.{Option, none, some}
+use lib.ListN.{length, getD}
+use Rattle.method_spec.specs.Node.{Link, Node}
+use Rattle.method_spec.specs.Prog.{Prog, done, want}
+use Rattle.method_spec.specs.Answer.{Structure, Op, Answer}
+use Rattle.method_spec.specs.Rounds.{spareDraw, putDraw}
+use Rattle.method_spec.specs.Map.{Outcome}
+use Rattle.method_spec.specs.Call.{capacity, program}
+use Rattle.round_spec.specs.Round.{join}
+use Rattle.leaf_spec.specs.Leaf.{leafFormat}
+use Rattle.bucket_call_spec.specs.Fetch.{Going, Left, Round, on, shut, closing, idleRound, fetchRounds}
+
+-- A draw: the remainder of the tape's number by 2^k.
+abbrev pub drawOf : (size : ℕ) → List ℕ → ℕ → ℕ
+drawOf k tape d = getD tape d 0 % 2 ^ k
+
+-- A store as far as a call's rounds ask.
+pub record Store : Type 0 where
+  pub entries : ℕ
+  pub root : Link ℕ
+  pub waiting : List (Node ℕ)
+  pub tree : List ℕ
+
+-- ---- the put rounds: nothing is wanted or held
+unfoldable pub putRounds : (size : ℕ) → (draw : ℕ → ℕ) → (n d : ℕ) → Outcome ℕ → Going → Round (Outcome ℕ)
+putRounds k draw zero d o g = on g (done o)
+putRounds k draw (suc n) d o g = next (idleRound k (draw d) (done o) g) (λ g. putRounds k draw n (suc d) o g)
+  where
+    next : Round (Outcome ℕ) → (Going → Round (Outcome ℕ)) → Round (Outcome ℕ)
+    next (shut m g) f = shut m g
+    next (on g p) f = f g
+
+unfoldable pub afterPuts : Outcome ℕ → Round (Outcome ℕ) → Left
+afterPuts o (shut m g) = closing m (o .entries) (o .root) g
+afterPuts o (on g p) =
+    record {
+      mark = 0;
+      entries = o .entries;
+      root = o .root;
+      waiting = g .waiting;
+      tree = g .tree;
+      leaves = g .leaves;
+      answer = some (o .answer);
+    }
+
+-- After the step the held nodes wait too.
+abbrev pub stepped : Outcome ℕ → Going → Going
+stepped o g =
+    record { tree = g .tree; waiting = join leafFormat (o .nodes) (g .waiting); held = []; leaves = g .leaves }
+
+-- After the fetch rounds. A program that still wants a node was longer than they are: the fetch tests rule that out for a
+-- store that fits; the definition calls it damage.
+unfoldable pub afterFetches : Structure → (size rounds : ℕ) → (draw : ℕ → ℕ) → Store → Round (Outcome ℕ) → Left
+afterFetches s k F draw st (shut m g) = closing m (st .entries) (st .root) g
+afterFetches s k F draw st (on g (want w c)) = closing 8 (st .entries) (st .root) g
+afterFetches s k F draw st (on g (done o)) = afterPuts o (putRounds k draw F (putDraw s F 0) o (stepped o g))
+
+-- Where F fetch rounds come to: a round that closed the store, or the step. The spare draws come after those of the fetch rounds.
+abbrev pub fetchedBy : {s : Structure} → (size rounds : ℕ) → Op s → (draw : ℕ → ℕ) → Store → Round (Outcome ℕ)
+fetchedBy {s} k F op draw st =
+    fetchRounds s (st .entries) k draw F 0
+    (program 0 op (λ i. draw (spareDraw F i)) (capacity k) (st .entries) (st .root))
+    (record { tree = st .tree; waiting = st .waiting; held = []; leaves = [] })
+
+-- One call with F fetch and F put rounds. Fetch round i uses draw i; the draws of the put rounds come after the spare ones.
+unfoldable pub bucketCall : {s : Structure} → (size rounds : ℕ) → Op s → (draw : ℕ → ℕ) → Store → Left
+bucketCall {s} k F op draw st = afterFetches s k F draw st (fetchedBy k F op draw st)

@@ -1,0 +1,50 @@
+-- Document 01's worked push and pop, over bytes.
+use mathlib.Core.Path.{_≡_, refl}
+use Prim.Native.Nat.{ℕ, zero, suc, _+_}
+use mathlib.Core.List.{List, [], _∷_, _++_}
+use mathlib.Core.Option.{Option, none, some}
+use lib.ListN.{replicate}
+use Rattle.slot_spec.specs.LittleEndian.{value, bytes}
+use Rattle.slot_spec.specs.Layout.{fields, pack}
+use Rattle.slot_spec.specs.Tree.{halvings, among}
+use Rattle.slot_spec.specs.Slot.{fieldsIn, fieldsOf, nodeOf, encode, allZero, bad, readSlot, filled}
+use Rattle.round_spec.specs.Round.{withBucket, noneTwice, allGood, readBucket, readBuckets, insert, join, takeFirst, tagged, granted, joined, grantedFrom, readHalf, choose, evict, writeHalf}
+use Rattle.method_spec.specs.Node.{Node}
+use Rattle.method_spec.specs.Prog.{bind}
+use Rattle.method_spec.specs.Answer.{stack, Op, push, pop, pushed, popped}
+use Rattle.method_spec.specs.Rounds.{spare}
+use Rattle.method_spec.specs.Stack.{pushProg, popProg, stackTest}
+use Rattle.method_spec.specs.Call.{program, test}
+use Rattle.leaf_spec.specs.Leaf.{readLeaf, leafFormat}
+use Rattle.bucket_call_spec.specs.Fetch.{Left, movedLink, movedNode, closing, atClose, idleRound, tookRound, wantRound, fetchRound, fetchRounds}
+use Rattle.bucket_call_spec.specs.Call.{Store, drawOf, putRounds, afterPuts, afterFetches, bucketCall}
+
+abbrev empty : Store
+empty =
+    record {
+      entries = 0;
+      root = record { height = 0; key = 0; tag = 0 };
+      waiting = [];
+      tree = replicate 896 0;
+    }
+
+abbrev leftBy : Left → Store
+leftBy l = record { entries = l .entries; root = l .root; waiting = l .waiting; tree = l .tree }
+
+abbrev first : Left
+first = bucketCall {s = stack} 2 1 (push 50) (drawOf 2 (1 ∷ 2 ∷ 3 ∷ [])) empty
+
+abbrev second : Left
+second = bucketCall {s = stack} 2 1 pop (drawOf 2 (0 ∷ 1 ∷ 1 ∷ [])) (leftBy first)
+
+pub push-reveals : first .leaves ≡ 1 ∷ 3 ∷ []
+unfolding bucketCall afterFetches afterPuts putRounds fetchRounds fetchRound wantRound tookRound idleRound atClose closing movedLink movedNode withBucket noneTwice allGood readBucket readBuckets insert join takeFirst tagged granted joined grantedFrom readHalf choose evict halvings among filled encode fieldsOf pack bytes readSlot bad fieldsIn nodeOf fields value allZero readLeaf spare program test pushProg popProg stackTest bind
+push-reveals = refl
+
+pub pop-answers : second .answer ≡ some (popped 50)
+unfolding bucketCall afterFetches afterPuts putRounds fetchRounds fetchRound wantRound tookRound idleRound atClose closing movedLink movedNode withBucket noneTwice allGood readBucket readBuckets insert join takeFirst tagged granted joined grantedFrom readHalf choose evict halvings among filled encode fieldsOf pack bytes readSlot bad fieldsIn nodeOf fields value allZero readLeaf spare program test pushProg popProg stackTest bind
+pop-answers = refl
+
+pub pop-reveals : second .leaves ≡ 2 ∷ 1 ∷ []
+unfolding bucketCall afterFetches afterPuts putRounds fetchRounds fetchRound wantRound tookRound idleRound atClose closing movedLink movedNode withBucket noneTwice allGood readBucket readBuckets insert join takeFirst tagged granted joined grantedFrom readHalf choose evict halvings among filled encode fieldsOf pack bytes readSlot bad fieldsIn nodeOf fields value allZero readLeaf spare program test pushProg popProg stackTest bind
+pop-reveals = refl

@@ -1,0 +1,4 @@
+pub mod Fetch
+pub mod Call
+pub mod Examples
+pub mod Simulates

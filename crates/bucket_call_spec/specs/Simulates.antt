@@ -1,0 +1,31 @@
+-- When a bucket store keeps a memory of the method at leaves, between two calls, and what a call that met overflow left.
+use mathlib.Core.Path.{_≡_}
+use mathlib.Core.List.{List, [], _++_}
+use Prim.Native.Nat.{ℕ, _≤_}
+use lib.ListN.{length}
+use Rattle.list_spec.specs.Perm.{Perm}
+use Rattle.method_spec.specs.Prog.{done}
+use Rattle.method_spec.specs.Plain.{Pair}
+use Rattle.method_spec.specs.Map.{Outcome}
+use Rattle.method_spec.specs.Call.{Memory}
+use Rattle.round_spec.specs.Round.{limit}
+use Rattle.round_spec.specs.Whole.{contents, Kept, Ascending}
+use Rattle.leaf_spec.specs.Leaf.{leafFormat, ProperLeaf}
+use Rattle.bucket_call_spec.specs.Fetch.{Going, Round, on, shut}
+use Rattle.bucket_call_spec.specs.Call.{Store}
+
+-- The same entries and root link; the memory's nodes are, in another order, those of the tree and those that wait; the store is kept;
+-- and at most 64 wait, in ascending order of keys.
+pub record Simulates (k : ℕ) (st : Store) (m : Memory ℕ) : Type 0 where
+  pub entries : st .entries ≡ m .entries
+  pub root : st .root ≡ m .root
+  pub there : Perm (m .nodes) (contents leafFormat k (st .tree) ++ st .waiting)
+  pub kept : Kept leafFormat ProperLeaf k (st .tree) (st .waiting) []
+  pub few : length (st .waiting) ≤ limit
+  pub ascends : Ascending leafFormat (st .waiting)
+
+-- What a call that met overflow left, by where its fetch rounds came to: the pairs before it where a fetch round closed the store, those
+-- after it where a put round did.
+pub data Remains (before after left : List Pair) : Round (Outcome ℕ) → Type 0 where
+  as-before : (g : Going) → Perm before left → Remains before after left (shut 9 g)
+  as-after : (g : Going) (o : Outcome ℕ) → Perm after left → Remains before after left (on g (done o))

@@ -1,0 +1,1 @@
+// One call over a bucket tree: definitions.

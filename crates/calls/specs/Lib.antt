@@ -1,3 +1,0 @@
-pub mod Fetch
-pub mod Call
-pub mod Examples

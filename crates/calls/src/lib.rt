@@ -1,1 +1,0 @@
-// One call over a bucket tree: the definition; no code.

@@ -1,0 +1,82 @@
+-- Which check of a call fails, the first of them, or none: the chain of `called` taken apart once.
+use Prim.Native.Nat.{ℕ, _+_, _*_, _≤_}
+use mathlib.Core.Path.{_≡_, refl}
+use mathlib.Core.Bool.{Bool, true, false, not}
+use mathlib.Core.List.{List}
+use mathlib.Core.Option.{Option, none, some}
+use lib.Dec.{eqb, ltb}
+use lib.ListN.{length}
+use native.Mathlib.Omega.{arith}
+use borrow.Author.Tests.{eqb-true, eqb-false}
+use Rattle.list_spec.specs.Choice.{pick}
+use Rattle.slot_spec.specs.Tree.{treeLength}
+use Rattle.method_spec.specs.Answer.{Structure, Op}
+use Rattle.method_spec.specs.Rounds.{rounds, draws}
+use Rattle.bucket_call_spec.specs.Fetch.{Left}
+use Rattle.bucket_call_spec.specs.Call.{drawOf, bucketCall}
+use Rattle.state_spec.specs.declared.State.{State}
+use Rattle.state_spec.specs.Fit.{fits}
+use Rattle.state_spec.specs.Ticket.{ticketLength, opIn, structureOf}
+use Rattle.call_spec.specs.Store.{Ended, storeOf, refusing, ending, callWith, called}
+
+module _ (st : Structure) (s : State) (tree ticket tape trace : List ℕ) where
+  -- What the rounds of the call of that ticket leave.
+  abbrev pub leftBy : Op st → Left
+  leftBy op = bucketCall (s .size) (rounds st (s .size)) op (drawOf (s .size) tape) (storeOf s tree)
+
+  -- What a call comes to: refusal 1, 2 or 3, one of the refusals 4 to 7 that what it brings decides, or, on a fit state and a tree of its
+  -- size, the rounds.
+  pub data Verdict (e : Ended) : Type 0 where
+    closed : (s .mark ≡ 0 → ⊥) → e ≡ refusing 1 s tree trace → Verdict e
+    unfit : fits s ≡ false → e ≡ refusing 2 s tree trace → Verdict e
+    other-tree : (length tree ≡ treeLength (s .size) → ⊥) → e ≡ refusing 3 s tree trace → Verdict e
+    ill-brought : (n : ℕ) → 4 ≤ n → n ≤ 7 → e ≡ refusing n s tree trace → Verdict e
+    counts : fits s ≡ true → length tree ≡ treeLength (s .size) → (op : Op st) → opIn st ticket ≡ some op
+        → e ≡ ending s trace (leftBy op) → Verdict e
+
+  -- ---- the checks of what the call brings
+
+  module _ (fit : fits s ≡ true) (sized : length tree ≡ treeLength (s .size)) where
+    by-room : (op : Op st) → opIn st ticket ≡ some op → (short few : Bool)
+        → Verdict (pick short (refusing 6 s tree trace) (pick few (refusing 7 s tree trace) (ending s trace (leftBy op))))
+    by-room op e true few = ill-brought 6 (omega arith) (omega arith) refl
+    by-room op e false true = ill-brought 7 (omega arith) (omega arith) refl
+    by-room op e false false = counts fit sized op e refl
+
+    by-kind : (o : Option (Op st)) → opIn st ticket ≡ o → Verdict (callWith st s tree tape trace o)
+    unfolding callWith
+    by-kind none e = ill-brought 5 (omega arith) (omega arith) refl
+    by-kind (some op) e =
+        by-room op e (ltb (length tape) (draws st (s .size))) (ltb (length trace) (2 * rounds st (s .size)))
+
+    by-length : (same : Bool) → Verdict (pick (not same) (refusing 4 s tree trace) (callWith st s tree tape trace (opIn st ticket)))
+    by-length true = by-kind (opIn st ticket) refl
+    by-length false = ill-brought 4 (omega arith) (omega arith) refl
+
+  -- ---- the checks of the state and the tree
+
+  abbrev afterTree : Ended
+  afterTree =
+      pick (not (eqb (length ticket) ticketLength)) (refusing 4 s tree trace) (callWith st s tree tape trace (opIn st ticket))
+
+  by-tree : fits s ≡ true → (same : Bool) → eqb (length tree) (treeLength (s .size)) ≡ same → Verdict (pick (not same) (refusing 3 s tree trace) afterTree)
+  by-tree fit true e =
+      by-length fit (eqb-true (length tree) (treeLength (s .size)) e) (eqb (length ticket) ticketLength)
+  by-tree fit false e = other-tree (eqb-false (length tree) (treeLength (s .size)) e) refl
+
+  abbrev afterFit : Ended
+  afterFit = pick (not (eqb (length tree) (treeLength (s .size)))) (refusing 3 s tree trace) afterTree
+
+  by-fit : (fit : Bool) → fits s ≡ fit → Verdict (pick (not fit) (refusing 2 s tree trace) afterFit)
+  by-fit true e = by-tree e (eqb (length tree) (treeLength (s .size))) refl
+  by-fit false e = unfit e refl
+
+  by-mark : (zero : Bool) → eqb (s .mark) 0 ≡ zero
+      → Verdict (pick (not zero) (refusing 1 s tree trace) (pick (not (fits s)) (refusing 2 s tree trace) afterFit))
+  by-mark true e = by-fit (fits s) refl
+  by-mark false e = closed (eqb-false (s .mark) 0 e) refl
+
+  -- The verdict on a call of a state of that structure.
+  pub verdict : structureOf (s .structure) ≡ st → Verdict (called s tree ticket tape trace)
+  unfolding called
+  verdict e = rw e (by-mark (eqb (s .mark) 0) refl)

@@ -1,0 +1,101 @@
+-- The open state of a store that simulates a memory of the method fits: each cause of an unfit state, ruled out.
+use Prim.Native.Nat.{ℕ, zero, suc, _-_, _^_, _≤_}
+use mathlib.Core.Path.{_≡_, refl}
+use mathlib.Core.Bool.{Bool, true, false, _&&_}
+use mathlib.Core.List.{List, [], _∷_, map, map-map, List·Memᴰ·head, List·Memᴰ·tail}
+use native.Mathlib.Omega.{arith}
+use native.Mathlib.Decide.{decLe}
+use lib.Dec.{eqb, leb, ltb}
+use lib.ListN.{length, replicate}
+use borrow.Author.Tests.{eq-eqb, ne-eqb, lt-ltb, le-leb}
+use Rattle.list_spec.specs.Choice.{pick}
+use Rattle.list_spec.specs.Distinct.{All}
+use Rattle.balance_spec.specs.Shape.{shaped}
+use Rattle.method_spec.specs.Node.{Node}
+use Rattle.method_spec.specs.Answer.{Structure, map as the-map, stack as the-stack}
+use Rattle.method_spec.specs.Plain.{Contents}
+use Rattle.method_spec.specs.Call.{capacity, Memory}
+use Rattle.method_laws.specs.MapRepresents.{holds-shaped}
+use Rattle.method_laws.specs.Represented.{Held, held-fits}
+use Rattle.round_spec.specs.Round.{limit, keysOf}
+use Rattle.leaf_spec.specs.Convert.{fromLink}
+use Rattle.leaf_spec.specs.Leaf.{leafFormat}
+use Rattle.bucket_call_spec.specs.Call.{Store}
+use Rattle.leaf_spec.specs.Leaf.{ProperLeaf}
+use Rattle.simulation_laws.specs.HeldProper.{held-root}
+use Rattle.bucket_call_spec.specs.Simulates.{Simulates}
+use Rattle.simulation_laws.specs.CallSim.{simulates-fits}
+use Rattle.simulation_laws.specs.Root.{root-empty, root-top}
+use Rattle.state_spec.specs.declared.Place.{Place}
+use Rattle.state_spec.specs.Fit.{inRange, largestStructure, largestSize, allOf, placeGood, zeroPlace, noPlace, rootGood, places, placesFit, fits}
+use Rattle.demand_spec.specs.History.{numberOf}
+use Rattle.demand_laws.specs.OpenStates.{stateOf, holding, used-places, unused-places}
+
+-- ---- the waiting nodes
+
+good-places : (k : ℕ) (ns : List (Node ℕ)) → All (ProperLeaf k) ns → allOf (placeGood k) (map holding ns) ≡ true
+unfolding allOf
+good-places k [] h = refl
+good-places k (n ∷ ns) h =
+    rw (h n (List·Memᴰ·head refl) .1) (good-places k ns (λ m i. h m (List·Memᴰ·tail i)))
+
+zero-places : (n : ℕ) → allOf zeroPlace (replicate n noPlace) ≡ true
+unfolding allOf
+zero-places zero = refl
+zero-places (suc n) = zero-places n
+
+-- ---- the root
+
+root-good : (st : Structure) (limit : ℕ) (t : Contents st) (m : Memory ℕ) → Held 0 st limit t m
+    → rootGood (numberOf st) (m .entries) (fromLink (m .root)) ≡ true
+unfolding rootGood
+root-good st limit t m held = go (decLe 1 (m .entries))
+  where
+    some-entries : (st : Structure) (t : Contents st) → Held 0 st limit t m → (m .entries ≡ 0 → ⊥)
+        → pick (eqb (numberOf st) 1) (shaped (m .entries) (m .root .height)) (eqb (m .root .height) 1 && eqb (m .root .key) (m .entries)) ≡ true
+    some-entries the-map t held h = holds-shaped held
+    some-entries the-stack t held h =
+        let top = root-top 0 limit t m held h in
+        rw (eq-eqb (m .root .height) 1 (top .0), eq-eqb (m .root .key) (m .entries) (top .1))
+
+    go : Dec (1 ≤ m .entries) → rootGood (numberOf st) (m .entries) (fromLink (m .root)) ≡ true
+    go (yes h) = rw (ne-eqb (m .entries) 0 (λ e. omega arith)) (some-entries st t held (λ e. omega arith))
+    go (no h) =
+        let none : m .entries ≡ 0 = omega arith in
+        rw (none, root-empty 0 st limit t m held none)
+
+-- ---- the state
+
+pub structure-fits : (st : Structure) → inRange (numberOf st) largestStructure ≡ true
+structure-fits the-map = refl
+structure-fits the-stack = refl
+
+pub in-range : (n most : ℕ) → 1 ≤ n → n ≤ most → inRange n most ≡ true
+in-range n most low high = rw (lt-ltb 0 n low) (le-leb n most high)
+
+module _ (st : Structure) (k : ℕ) (positive : 1 ≤ k) (small : k ≤ 8) (s : Store) (m : Memory ℕ) (sim : Simulates k s m)
+    (t : Contents st) (held : Held 0 st (capacity k) t m) where
+  entries-fit : leb (s .entries) (2 ^ k - 1) ≡ true
+  entries-fit = le-leb (s .entries) (2 ^ k - 1) (rw (sim .entries) (held-fits 0 st (capacity k) t m held))
+
+  places-fit : placesFit (stateOf st k s) ≡ true
+  places-fit =
+      rw (
+        used-places st k s,
+        unused-places st k s,
+        good-places k (s .waiting) (sim .kept .proper),
+        zero-places (places - length (s .waiting)),
+        map-map (λ (p : Place). p .node .key) holding (s .waiting),
+        sim .ascends,
+      )
+
+  root-tag : ltb (s .root .tag) (2 ^ k) ≡ true
+  root-tag = lt-ltb (s .root .tag) (2 ^ k) (rw (sim .root) (held-root k (omega arith) st t m held (simulates-fits sim) .tag))
+
+  root-fits : rootGood (numberOf st) (s .entries) (fromLink (s .root)) ≡ true
+  root-fits = rw (sim .entries, sim .root) (root-good st (capacity k) t m held)
+
+  pub state-fits : fits (stateOf st k s) ≡ true
+  unfolding fits
+  state-fits =
+      rw (structure-fits st, in-range k largestSize positive small, entries-fit, le-leb (length (s .waiting)) limit (sim .few), places-fit, root-tag) root-fits

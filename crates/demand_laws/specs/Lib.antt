@@ -1,0 +1,14 @@
+pub mod Checks
+pub mod Marks
+pub mod Refusals
+pub mod OpenStates
+pub mod FitKept
+pub mod Fresh
+pub mod HistorySteps
+pub mod NoneLost
+pub mod SoundReplies
+pub mod ListSteps
+pub mod ListRuns
+pub mod OpenedRuns
+pub mod UntilClosed
+pub mod Proved

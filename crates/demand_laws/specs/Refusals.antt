@@ -1,0 +1,118 @@
+-- Demand 1 but for the nodes: one reply, refusals 1 to 7 that change nothing, and a store that stays closed.
+use Prim.Native.Nat.{ℕ, _≤_}
+use mathlib.Core.Path.{_≡_, refl, sym, _∙_, ap}
+use mathlib.Core.Logic.{_⊎_, inl, inr}
+use mathlib.Core.List.{List}
+use native.Mathlib.Omega.{arith}
+use borrow.Author.Tests.{ne-eqb}
+use Rattle.method_spec.specs.Answer.{Answer, found, absent, replaced, new, removed, pushed, popped, empty, full}
+use Rattle.method_spec.specs.Rounds.{rounds}
+use Rattle.bucket_call_spec.specs.Fetch.{Left}
+use Rattle.bucket_call_spec.specs.Call.{drawOf}
+use Rattle.state_spec.specs.declared.State.{State}
+use Rattle.state_spec.specs.Ticket.{structureOf}
+use Rattle.call_spec.specs.declared.Reply.the-variants.{Refused}
+use Rattle.call_spec.specs.Store.{Ended, called, refusing, replied, replyOf, storeOf}
+use Rattle.demand_laws.specs.Marks.{Ends, closes, answers, Closing, call-ends}
+use Rattle.demand_laws.specs.Checks.{Verdict, closed, unfit, other-tree, ill-brought, counts, leftBy, verdict}
+use Rattle.demand_spec.specs.Demands.{OneReply, Unchanged, StaysClosed}
+
+pub same-number : {n m : ℕ} → Refused n ≡ Refused m → n ≡ m
+same-number e = cc
+
+-- An answer is refused only where the store is full.
+pub full-number : (a : Answer) {n : ℕ} → replyOf a ≡ Refused n → n ≡ 10
+unfolding replyOf
+full-number (found v) e = cc
+full-number absent e = cc
+full-number (replaced v) e = cc
+full-number new e = cc
+full-number (removed v) e = cc
+full-number pushed e = cc
+full-number (popped v) e = cc
+full-number empty e = cc
+full-number full e = cc
+
+-- The number of a call that counts: 8 or 9, which is the mark then, or 10.
+pub counted-number : (l : Left) → Ends l → (n : ℕ) → replied (l .mark) (l .answer) ≡ Refused n → (Closing n × (l .mark ≡ n)) ⊎ (n ≡ 10)
+unfolding replied
+counted-number l (closes c e) n q = go c (same-number (ap (replied (l .mark)) (sym e) ∙ q))
+  where
+    go : Closing (l .mark) → l .mark ≡ n → (Closing n × (l .mark ≡ n)) ⊎ (n ≡ 10)
+    go (inl m) r = inl (inl (sym r ∙ m), r)
+    go (inr m) r = inl (inr (sym r ∙ m), r)
+counted-number l (answers a m e) n q = inr (full-number a (ap (replied (l .mark)) (sym e) ∙ q))
+
+module _ (s : State) (tree ticket tape trace : List ℕ) where
+  -- What a refusal's number says of the call.
+  data Says (n : ℕ) : Type 0 where
+    early : 1 ≤ n → n ≤ 7 → called s tree ticket tape trace ≡ refusing n s tree trace → Says n
+    late : Closing n → called s tree ticket tape trace .state .mark ≡ n → Says n
+    tenth : n ≡ 10 → Says n
+
+  early-says : (m n : ℕ) → 1 ≤ m → m ≤ 7 → called s tree ticket tape trace ≡ refusing m s tree trace
+      → called s tree ticket tape trace .reply ≡ Refused n → Says n
+  early-says m n low high e r =
+      let same : m ≡ n = same-number (ap (λ (x : Ended). x .reply) (sym e) ∙ r) in
+      early (omega arith) (omega arith) (e ∙ ap (λ (x : ℕ). refusing x s tree trace) same)
+
+  says : (n : ℕ) → called s tree ticket tape trace .reply ≡ Refused n → Says n
+  says n r = go (verdict (structureOf (s .structure)) s tree ticket tape trace refl)
+    where
+      go : Verdict (structureOf (s .structure)) s tree ticket tape trace (called s tree ticket tape trace) → Says n
+      go (closed h e) = early-says 1 n (omega arith) (omega arith) e r
+      go (unfit h e) = early-says 2 n (omega arith) (omega arith) e r
+      go (other-tree h e) = early-says 3 n (omega arith) (omega arith) e r
+      go (ill-brought m low high e) = early-says m n (omega arith) high e r
+      go (counts fit sized op h e) =
+          let l : Left = leftBy (structureOf (s .structure)) s tree ticket tape trace op in
+          which (counted-number l (call-ends (s .size) (rounds (structureOf (s .structure)) (s .size)) op (drawOf (s .size) tape) (storeOf s tree)) n
+          (ap (λ (x : Ended). x .reply) (sym e) ∙ r))
+        where
+          which : (Closing n × (leftBy (structureOf (s .structure)) s tree ticket tape trace op .mark ≡ n)) ⊎ (n ≡ 10) → Says n
+          which (inl x) = late (x .0) (ap (λ (x : Ended). x .state .mark) e ∙ x .1)
+          which (inr x) = tenth x
+
+  -- ---- demand 1, but for the nodes
+
+  pub one-reply : OneReply s tree ticket tape trace
+  one-reply n r = go (says n r)
+    where
+      go : Says n → (1 ≤ n) × (n ≤ 10)
+      go (early low high e) = omega arith
+      go (late (inl x) e) = omega arith
+      go (late (inr x) e) = omega arith
+      go (tenth x) = omega arith
+
+  pub unchanged : Unchanged s tree ticket tape trace
+  unchanged n r h = go (says n r)
+    where
+      go : Says n → called s tree ticket tape trace ≡ refusing n s tree trace
+      go (early low high e) = e
+      go (late (inl x) e) = let z : ⊥ = omega arith in absurd z
+      go (late (inr x) e) = let z : ⊥ = omega arith in absurd z
+      go (tenth x) = let z : ⊥ = omega arith in absurd z
+
+-- A store whose mark is not 0 refuses with 1.
+pub refused-closed : (s : State) (tree ticket tape trace : List ℕ) → (s .mark ≡ 0 → ⊥) → called s tree ticket tape trace ≡ refusing 1 s tree trace
+unfolding called
+refused-closed s tree ticket tape trace h = rw (ne-eqb (s .mark) 0 h)
+
+module _ (s : State) (tree ticket tape trace : List ℕ) where
+  pub stays-closed : StaysClosed s tree ticket tape trace
+  stays-closed n r c = go (says s tree ticket tape trace n r) c
+    where
+      after : called s tree ticket tape trace .state .mark ≡ n → (n ≡ 8) ⊎ (n ≡ 9) → called s tree ticket tape trace .state .mark ≡ 0 → ⊥
+      after e (inl x) z = omega arith
+      after e (inr x) z = omega arith
+
+      go : Says s tree ticket tape trace n → (n ≡ 8) ⊎ (n ≡ 9)
+          → (called s tree ticket tape trace .state .mark ≡ n)
+          × ((tree′ ticket′ tape′ trace′ : List ℕ)
+          → called (called s tree ticket tape trace .state) tree′ ticket′ tape′ trace′
+          ≡ refusing 1 (called s tree ticket tape trace .state) tree′ trace′)
+      go (early low high e) (inl x) = let z : ⊥ = omega arith in absurd z
+      go (early low high e) (inr x) = let z : ⊥ = omega arith in absurd z
+      go (late y e) x = (e, λ tree′ ticket′ tape′ trace′. refused-closed (called s tree ticket tape trace .state) tree′ ticket′ tape′ trace′ (after e x))
+      go (tenth y) (inl x) = let z : ⊥ = omega arith in absurd z
+      go (tenth y) (inr x) = let z : ⊥ = omega arith in absurd z

@@ -1,0 +1,73 @@
+-- `untilClosed` on worked calls.
+use mathlib.Core.Path.{_≡_, refl}
+use Prim.Native.Nat.{ℕ}
+use mathlib.Core.List.{[], _∷_, _++_}
+use lib.ListN.{replicate, set}
+use Rattle.balance_spec.specs.Least.{least}
+use Rattle.balance_spec.specs.Shape.{shaped}
+use Rattle.balance_spec.specs.Greatest.{greatest, tallest}
+use Rattle.slot_spec.specs.LittleEndian.{value, bytes}
+use Rattle.slot_spec.specs.Layout.{fields, pack}
+use Rattle.slot_spec.specs.Tree.{halvings, among}
+use Rattle.slot_spec.specs.Slot.{fieldsIn, fieldsOf, nodeOf, encode, allZero, bad, readSlot, filled, wellFormed}
+use Rattle.round_spec.specs.Round.{withBucket, noneTwice, allGood, readBucket, readBuckets, insert, join, takeFirst, tagged, granted, joined, grantedFrom, readHalf, choose, evict}
+use Rattle.method_spec.specs.Prog.{bind}
+use Rattle.method_spec.specs.Answer.{stack}
+use Rattle.method_spec.specs.Stack.{pushProg, popProg, stackTest}
+use Rattle.method_spec.specs.Call.{program, test}
+use Rattle.method_spec.specs.Rounds.{rounds, spare}
+use Rattle.leaf_spec.specs.Leaf.{readLeaf}
+use Rattle.bucket_call_spec.specs.Fetch.{movedLink, movedNode, closing, atClose, idleRound, tookRound, wantRound, fetchRound, fetchRounds}
+use Rattle.bucket_call_spec.specs.Call.{putRounds, afterPuts, afterFetches, bucketCall}
+use Rattle.list_spec.specs.Ascending.{ascendingFrom, ascending}
+use Rattle.state_spec.specs.Fit.{allOf, rootGood, fits, placesFrom}
+use Rattle.state_spec.specs.Ticket.{opIn}
+use Rattle.state_spec.specs.Opening.{opened}
+use Rattle.call_spec.specs.Store.{called, callWith, replied, replyOf}
+use Rattle.demand_spec.specs.History.{Brought, Kept, callOn, leftBy, untilClosed}
+use Rattle.demand_spec.specs.Demands.{openedStore}
+
+-- A ticket of that kind and value, with a tape of three numbers and room for two leaves.
+abbrev bringing : (kind value a b c : ℕ) → Brought
+bringing kind value a b c =
+    record {
+      ticket = bytes 1 kind ++ (bytes 4 0 ++ bytes 8 value);
+      tape = a ∷ b ∷ c ∷ [];
+      trace = 0 ∷ 0 ∷ [];
+    }
+
+abbrev pushFifty : Brought
+pushFifty = bringing 4 50 1 2 3
+
+abbrev popNext : Brought
+popNext = bringing 5 0 0 1 1
+
+abbrev pushAtZero : Brought
+pushAtZero = bringing 4 50 0 0 0
+
+abbrev pushAtThree : Brought
+pushAtThree = bringing 4 60 3 3 3
+
+-- A fresh stack of size 2; the same after another hand set the flag of the first slot of bucket 7, on leaf 3's path alone, to 7; and
+-- what a call that met that slot left.
+abbrev fresh : Kept
+fresh = openedStore stack 2 (replicate 896 0)
+
+abbrev damaged : Kept
+damaged = record { state = fresh .state; tree = set (fresh .tree) 768 7 }
+
+abbrev closed : Kept
+closed = leftBy (callOn damaged pushAtThree)
+
+pub record Worked : Type 0 where
+  -- No call closes the store.
+  pub all-of-them : untilClosed fresh (pushFifty ∷ popNext ∷ []) ≡ pushFifty ∷ popNext ∷ []
+  -- The second call meets that slot, and closes the store.
+  pub first-alone : untilClosed damaged (pushAtZero ∷ pushAtThree ∷ pushAtZero ∷ []) ≡ pushAtZero ∷ []
+  pub meets-damage : closed .state .mark ≡ 8
+  -- The store was closed before the first call.
+  pub closed-before : untilClosed closed (pushAtZero ∷ []) ≡ []
+
+pub worked : Worked
+unfolding untilClosed opened called callWith replied replyOf fits allOf ascendingFrom ascending rootGood placesFrom opIn rounds spare greatest tallest shaped least bucketCall afterFetches afterPuts putRounds fetchRounds fetchRound wantRound tookRound idleRound atClose closing movedLink movedNode withBucket noneTwice allGood readBucket readBuckets insert join takeFirst tagged granted joined grantedFrom readHalf choose evict halvings among filled encode fieldsOf pack bytes readSlot bad fieldsIn nodeOf fields value allZero wellFormed readLeaf program test pushProg popProg stackTest bind
+worked = record { all-of-them = refl; first-alone = refl; meets-damage = refl; closed-before = refl }

@@ -1,0 +1,3 @@
+pub mod History
+pub mod Demands
+pub mod Examples

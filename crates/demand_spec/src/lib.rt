@@ -1,0 +1,1 @@
+// The three demands, as statements about opening and calls.

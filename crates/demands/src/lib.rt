@@ -1,1 +1,0 @@
-// The three demands, as theorems about opening and calls; no code.

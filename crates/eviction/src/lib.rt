@@ -1,0 +1,151 @@
+// The write half of a round: the path's buckets are filled from the leaf up, and what is left waits. One pass over the slots does
+// it: in key order, each goes to the lowest bucket of the path that its own path passes and that has room.
+use path_levels::BUCKET_SLOTS;
+use path_levels::LEVELS;
+use path_levels::meet;
+use path_levels::start_at;
+use path_reader::PATH_SLOTS;
+use slot_spec::BUCKET_LENGTH;
+use slot_spec::SLOT_LENGTH;
+use slot_spec::Slot;
+use slot_words::store;
+use slots::tag_of;
+use stash_words::WORDS;
+use stash_words::get;
+use stash_words::put;
+ghost use mathlib.Core.Path.{_≡_};
+ghost use Prim.Native.Nat.{_+_, _*_, _%_, _^_, _<_, _≤_};
+ghost use lib.ListN.{length, take};
+ghost use lib.Seq.{sets};
+ghost use Rattle.slot_spec.specs.Tree.{path, pathBucket, bucketStart, slotLength, bucketLength, treeLength};
+ghost use Rattle.slot_spec.specs.Slot.{slotBytes};
+ghost use Rattle.word_round_laws.specs.Words.{places, wordCount, levels, Leaves};
+ghost use Rattle.slot_spec.specs.Row.{slotsOf, zeroSlot};
+ghost use Rattle.word_round_laws.specs.Stash.{without};
+ghost use Rattle.word_round_laws.specs.Gather.{PathGathered};
+ghost use Rattle.word_round_laws.specs.Fill.{roomFrom, cleared};
+ghost use Rattle.eviction.specs.Settle.{PathFilled, Joint, Settled};
+
+// The first level from a given one up whose bucket has room, of the numbers of slots that are used at each; size + 1 if none has.
+fn room_from(used: &[usize; LEVELS], size: usize, from: usize) -> usize
+    requires { ⌜ (length (now used) ≡ levels) × (size ≤ 15) × (from ≤ size) ⌝ }
+    ensures { λ r. ⌜ r ≡ roomFrom from (take (size + 1) (now (used .entry))) ⌝ }
+{
+    let mut level = from;
+    while level <= size {
+        if used[level] < BUCKET_SLOTS {
+            return level;
+        }
+        level += 1;
+    }
+    level
+}
+
+// One slot of a bucket is written: number j of its four-slot part of a lent tree.
+fn write_in(part: &mut [u8], j: usize, x: Slot)
+    requires { ⌜ (length (now part) ≡ bucketLength) × (j < 4) ⌝ }
+    ensures { λ _. ⌜ now (part .exit) ≡ sets (now (part .entry)) (32 * j) (slotBytes x) ⌝ }
+{
+    store(part, SLOT_LENGTH * j, x);
+}
+
+// The slot that starts at a byte gets zero bytes: its bucket's part of the tree is lent on.
+fn clear_slot(tree: &mut [u8], size: usize, at: usize)
+    requires { ⌜ (length (now tree) ≡ treeLength size) × (at + slotLength ≤ length (now tree)) × (at < 2 ^ 24) × (at % slotLength ≡ 0) ⌝ }
+    ensures { λ _. ⌜ now (tree .exit) ≡ sets (now (tree .entry)) at (slotBytes zeroSlot) ⌝ }
+{
+    let a = at / BUCKET_LENGTH * BUCKET_LENGTH;
+    let e = a + BUCKET_LENGTH;
+    let none = Slot {
+        a: 0,
+        b: 0,
+        c: 0,
+        d: 0,
+    };
+    write_in(&mut tree[a..e], (at - a) / SLOT_LENGTH, none);
+}
+
+// The buckets of a leaf's path get zero bytes. Only the full slots are written, whose starts the read half gathered: the others
+// are zero already.
+fn clear_path(tree: &mut [u8], size: usize, leaf: usize, from: &[u32; PATH_SLOTS], full: usize)
+    requires { ⌜ (size ≤ 15) × (leaf < 2 ^ size) × (length (now tree) ≡ treeLength size) × PathGathered size leaf (now tree) (now from) full ⌝ }
+    ensures { λ _. ⌜ now (tree .exit) ≡ cleared (now (tree .entry)) (path size leaf) ⌝ }
+{
+    let mut i = 0;
+    while i < full {
+        clear_slot(tree, size, from[i] as usize);
+        i += 1;
+    }
+}
+
+// A slot is stored as number j of the path's bucket at a level: the bucket's part of the tree is lent on.
+fn store_slot(tree: &mut [u8], size: usize, leaf: usize, level: usize, j: usize, x: Slot)
+    requires { ⌜ (size ≤ 15) × (leaf < 2 ^ size) × (length (now tree) ≡ treeLength size) × (level ≤ size) × (j < 4) ⌝ }
+    ensures { λ _. ⌜ now (tree .exit) ≡ sets (now (tree .entry)) (bucketStart (pathBucket size leaf level) + 32 * j) (slotBytes x) ⌝ }
+{
+    let a = start_at(size, leaf, level);
+    let e = a + BUCKET_LENGTH;
+    write_in(&mut tree[a..e], j, x);
+}
+
+// The path of a leaf is filled by the first m slots but number out, lowest key first. Those that find no room wait in w; how many
+// they are.
+fn fill_path(
+    s: &[u64; WORDS],
+    m: usize,
+    out: usize,
+    w: &mut [u64; WORDS],
+    tree: &mut [u8],
+    size: usize,
+    leaf: usize,
+    from: &[u32; PATH_SLOTS],
+    full: usize,
+) -> usize
+    requires { ⌜ (length (now s) ≡ wordCount) × (m ≤ places) × (length (now w) ≡ wordCount) × (size ≤ 15) × (leaf < 2 ^ size) × (Leaves size (take m (slotsOf (now s)))) × (length (now tree) ≡ treeLength size) × PathGathered size leaf (now tree) (now from) full ⌝ }
+    ensures { λ r. ⌜ PathFilled size leaf (without out (take m (slotsOf (now (s .entry))))) m (now (tree .entry)) (now (w .exit)) (now (tree .exit)) r ⌝ }
+{
+    clear_path(tree, size, leaf, from, full);
+    let mut used = [0usize; LEVELS];
+    let mut kept = 0;
+    let mut i = 0;
+    while i < m {
+        if i != out {
+            let x = get(s, i);
+            let level = room_from(&used, size, meet(leaf, tag_of(x) as usize));
+            if level <= size {
+                let j = used[level];
+                store_slot(tree, size, leaf, level, j, x);
+                used[level] = j + 1;
+            } else {
+                put(w, kept, x);
+                kept += 1;
+            }
+        }
+        i += 1;
+    }
+    kept
+}
+
+// The write half of a round, of the m slots that the read half joined in s: all but a wanted one fill the path, and what is left
+// waits in w; how many those are. The first `full` of `from` are where the path's full slots start, as the read half found them.
+pub fn settle(
+    s: &mut [u64; WORDS],
+    m: usize,
+    wanted: bool,
+    at: usize,
+    w: &mut [u64; WORDS],
+    tree: &mut [u8],
+    size: usize,
+    leaf: usize,
+    from: &[u32; PATH_SLOTS],
+    full: usize,
+) -> usize
+    requires { ⌜ Joint size leaf m wanted at (now s) (now w) (now tree) × PathGathered size leaf (now tree) (now from) full ⌝ }
+    ensures { λ r. ⌜ Settled size leaf m wanted at (now (s .entry)) (now (tree .entry)) (now (s .exit)) (now (w .exit)) (now (tree .exit)) r ⌝ }
+{
+    let mut out = m;
+    if wanted {
+        out = at;
+    }
+    fill_path(s, m, out, w, tree, size, leaf, from, full)
+}

@@ -1,0 +1,5 @@
+pub mod Splits
+pub mod Wanting
+pub mod WantingLaws
+pub mod WalkLaws
+pub mod FetchLaws

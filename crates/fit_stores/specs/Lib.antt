@@ -1,4 +1,0 @@
-pub mod Widths
-pub mod FitState
-pub mod FitStores
-pub mod Tickets

@@ -1,0 +1,19 @@
+-- `state::fit::place_good` meets its contract.
+use mathlib.Core.Path.{_≡_, refl, sym, _∙_, ap}
+use borrow.Author.Tests.{eq-eqb, ne-eqb, lt-leb, le-leb, lt-ltb, le-ltb, not-true, not-false}
+use native.Mathlib.Omega.{arith}
+use borrow.Author.Needs.{needs}
+use Rattle.fitness.proofs.place_good.Statement.{statement}
+use Rattle.fitness.proofs.place_good.Tie as tie
+
+returns : tie.Need-returns
+returns c = let p = c .before .before .before .args .p in rw (not-true (p .full) (c .if1 .taken))
+
+well-formed-requires : tie.Need-well-formed-requires
+well-formed-requires c κs = search needs
+
+returns-2 : tie.Need-returns-2
+returns-2 c = let p = c .before .before .before .before .args .p in rw (not-false (p .full) (c .before .if1 .left)) (c .well-formed .ensures)
+
+pub place-good-spec : {M : Type 1} → statement M
+place-good-spec = tie.close (tie.spec returns well-formed-requires returns-2)

@@ -1,0 +1,35 @@
+-- `state::fit::root_good` meets its contract, structure by structure.
+use mathlib.Core.Path.{_≡_, refl, sym, _∙_, ap}
+use borrow.Author.Tests.{eq-eqb, ne-eqb, lt-leb, le-leb, lt-ltb, le-ltb, not-true, not-false}
+use Rattle.state_spec.specs.Fit.{rootGood}
+use native.Mathlib.Omega.{arith}
+use borrow.Author.Needs.{needs}
+use Rattle.fitness.proofs.root_good.Statement.{statement}
+use Rattle.fitness.proofs.root_good.Tie as tie
+
+zero-link-requires : tie.Need-zero-link-requires
+zero-link-requires c κs = search needs
+
+returns : tie.Need-returns
+unfolding rootGood
+returns c = let a = c .before .before .args in rw (eq-eqb (a .entries) 0 (c .before .if1 .taken)) (c .zero-link .ensures)
+
+shape-exists-requires : tie.Need-shape-exists-requires
+shape-exists-requires c κs = search needs
+
+returns-2 : tie.Need-returns-2
+unfolding rootGood
+returns-2 c = let a = c .before .before .before .args in rw (ne-eqb (a .entries) 0 (c .before .before .if1 .left), eq-eqb (a .structure) 1 (c .before .if2 .taken)) (c .shape-exists .ensures)
+
+returns-3 : tie.Need-returns-3
+unfolding rootGood
+returns-3 c = let a = c .before .before .before .before .args in rw (ne-eqb (a .entries) 0 (c .before .before .before .if1 .left), ne-eqb (a .structure) 1 (c .before .before .if2 .left), ne-eqb (a .root .height) 1 (c .if3 .taken))
+
+returns-4 : tie.Need-returns-4
+unfolding rootGood
+returns-4 c = let a = c .before .before .before .before .before .args in rw (ne-eqb (a .entries) 0 (c .before .before .before .before .if1 .left), ne-eqb (a .structure) 1 (c .before .before .before .if2 .left), eq-eqb (a .root .height) 1 (c .before .if3 .left))
+
+pub root-good-spec : {M : Type 1} → statement M
+root-good-spec =
+    tie.close
+    (tie.spec zero-link-requires returns shape-exists-requires returns-2 returns-3 returns-4)

@@ -1,0 +1,107 @@
+// Whether a state fits: each cause of document 01's list.
+use heights::shape_exists;
+use slot_spec::Link;
+use slots::well_formed;
+use state_spec::Place;
+use tree_paths::leaves;
+ghost use mathlib.Core.Path.{_≡_};
+ghost use mathlib.Core.Bool.{_&&_};
+ghost use Prim.Native.Nat.{_≤_, _^_};
+ghost use lib.Dec.{ltb};
+ghost use Rattle.state_spec.specs.Fit.{zeroLink, zeroPlace, placeGood, rootGood, inRange};
+ghost use Rattle.state_spec.specs.Head.{headFits};
+
+// Structures are numbered from 1: map, stack. Sizes are 1 to 8.
+pub const LARGEST_STRUCTURE: u8 = 2;
+
+pub const LARGEST_SIZE: u8 = 8;
+
+// At a round's close, and so in a state, at most so many nodes wait.
+pub const LIMIT: usize = 64;
+
+// A number from 1 on, up to a greatest.
+pub fn in_range(n: u8, most: u8) -> bool
+    ensures { λ r. ⌜ r ≡ inRange n most ⌝ }
+{
+    if n == 0 {
+        return false;
+    }
+    n <= most
+}
+
+// Numbers are zero together exactly if their bits put together are none: one test for all.
+fn zero_link(l: Link) -> bool
+    ensures { λ r. ⌜ r ≡ zeroLink l ⌝ }
+{
+    l.height as u64 | l.key as u64 | l.tag as u64 == 0
+}
+
+// A place that is all zero: one test of its numbers together.
+pub fn zero_place(p: Place) -> bool
+    ensures { λ r. ⌜ r ≡ zeroPlace p ⌝ }
+{
+    if p.full {
+        return false;
+    }
+    let own = p.node.key as u64 | p.node.value | p.node.tag as u64;
+    let left = p.node.left.height as u64 | p.node.left.key as u64 | p.node.left.tag as u64;
+    let right = p.node.right.height as u64 | p.node.right.key as u64 | p.node.right.tag as u64;
+    own | left | right == 0
+}
+
+pub fn place_good(size: usize, p: Place) -> bool
+    requires { ⌜ size ≤ 16 ⌝ }
+    ensures { λ r. ⌜ r ≡ placeGood size p ⌝ }
+{
+    let n = p.node;
+    if !p.full {
+        return false;
+    }
+    well_formed(size, n)
+}
+
+fn root_good(structure: u8, entries: u16, root: Link) -> bool
+    ensures { λ r. ⌜ r ≡ rootGood structure entries root ⌝ }
+{
+    if entries == 0 {
+        return zero_link(root);
+    }
+    if structure == 1 {
+        return shape_exists(entries, root.height);
+    }
+    if root.height != 1 {
+        return false;
+    }
+    root.key == entries as u32
+}
+
+// The root's tag is a leaf, and the root is one that so many entries have.
+fn root_fits(size: usize, structure: u8, entries: u16, root: Link) -> bool
+    requires { ⌜ size ≤ 16 ⌝ }
+    ensures { λ r. ⌜ r ≡ (ltb (root .tag) (2 ^ size) && rootGood structure entries root) ⌝ }
+{
+    if (root.tag as usize) >= leaves(size) {
+        return false;
+    }
+    root_good(structure, entries, root)
+}
+
+// Whether a state fits, its places not asked about: `call` asks about those.
+pub fn head_fits(structure: u8, size: u8, entries: u16, count: u16, root: Link) -> bool
+    ensures { λ r. ⌜ r ≡ headFits structure size entries count root ⌝ }
+{
+    if !in_range(structure, LARGEST_STRUCTURE) {
+        return false;
+    }
+    if !in_range(size, LARGEST_SIZE) {
+        return false;
+    }
+    let k = size as usize;
+    if (entries as usize) >= leaves(k) {
+        return false;
+    }
+    if (count as usize) > LIMIT {
+        return false;
+    }
+    root_fits(k, structure, entries, root)
+}

@@ -1,0 +1,106 @@
+-- What a state that passes the test of a fit one has: each cause of an unfit state, ruled out.
+use mathlib.Core.Path.{_≡_, refl, sym, _∙_}
+use mathlib.Core.Bool.{Bool, true, false, _&&_, and-eq-true-iff}
+use mathlib.Core.List.{List, [], _∷_}
+use Prim.Native.Nat.{ℕ, zero, suc, _-_, _^_, _≤_, _<_}
+use native.Mathlib.Omega.{arith}
+use lib.Dec.{eqb, leb, ltb}
+use lib.ListN.{length}
+use lib.Pow.{pow-pos}
+use borrow.Author.Tests.{eqb-true, eqb-false, leb-true, ltb-true}
+use Rattle.list_spec.specs.Choice.{pick}
+use Rattle.list_spec.specs.Distinct.{All}
+use Rattle.list_laws.specs.DistinctLaws.{all-nil, all-cons}
+use Rattle.balance_spec.specs.Shape.{shaped}
+use Rattle.balance_laws.specs.ShapeLaws.{shaped-bounds}
+use Rattle.balance_laws.specs.GreatestLaws.{shaped-at-most-greatest}
+use Rattle.slot_spec.specs.Slot.{wellFormed}
+use Rattle.slot_spec.specs.declared.Link.{Link}
+use Rattle.method_spec.specs.Answer.{map, stack}
+use Rattle.round_spec.specs.Round.{limit}
+use Rattle.state_spec.specs.declared.Place.{Place}
+use Rattle.state_spec.specs.declared.State.{State}
+use Rattle.state_spec.specs.Fit.{largestStructure, largestSize, inRange, zeroLink, allOf, placeGood, keysIn, rootGood, placesFrom, used, placesFit, fits}
+use Rattle.state_laws.specs.FitLaws.{in-range-true}
+use Rattle.state_spec.specs.Ticket.{structureOf}
+use Rattle.list_spec.specs.Ascending.{ascending}
+use Rattle.none_lost_laws.specs.Ends.{highest}
+
+-- ---- the places
+pub places-length : (n i : ℕ) (ps : List Place) → length (placesFrom n i ps) ≡ n
+unfolding placesFrom
+places-length zero i ps = refl
+places-length (suc n) i ps = let more = places-length n (suc i) ps in omega arith
+
+all-of : {A : Type 0} (f : A → Bool) (xs : List A) → allOf f xs ≡ true → All (λ a. f a ≡ true) xs
+unfolding allOf
+all-of f [] e = all-nil (λ a. f a ≡ true)
+all-of f (x ∷ xs) e =
+    let both = and-eq-true-iff (f x) (allOf f xs) .0 e in
+    all-cons {P = λ a. f a ≡ true} (both .0) (all-of f xs (both .1))
+
+-- ---- the root link
+zero-link : (l : Link) → zeroLink l ≡ true → (l .height ≡ 0) × ((l .key ≡ 0) × (l .tag ≡ 0))
+zero-link l e =
+    let first = and-eq-true-iff (eqb (l .height) 0) (eqb (l .key) 0 && eqb (l .tag) 0) .0 e in
+    let others = and-eq-true-iff (eqb (l .key) 0) (eqb (l .tag) 0) .0 (first .1) in
+    (eqb-true (l .height) 0 (first .0), (eqb-true (l .key) 0 (others .0), eqb-true (l .tag) 0 (others .1)))
+
+-- A good root link is no higher than a tree of so many entries may be, and an absent one is all zero.
+root-fits : (k structure entries : ℕ) (l : Link) → entries < 2 ^ k → rootGood structure entries l ≡ true
+    → (l .height ≤ highest (structureOf structure) k) × (l .height ≡ 0 → (l .key ≡ 0) × (l .tag ≡ 0))
+unfolding rootGood highest
+root-fits k structure entries l few good = go (eqb entries 0) refl (eqb structure 1) good
+  where
+    go : (none : Bool) → eqb entries 0 ≡ none → (is-map : Bool)
+        → pick none (zeroLink l) (pick is-map (shaped entries (l .height)) (eqb (l .height) 1 && eqb (l .key) entries)) ≡ true
+        → (l .height ≤ highest (pick is-map map stack) k) × (l .height ≡ 0 → (l .key ≡ 0) × (l .tag ≡ 0))
+    go true e is-map h = let z = zero-link l h in (omega arith, λ absent. z .1)
+    go false e true h = (
+      shaped-at-most-greatest k entries (l .height) h few,
+      λ absent.
+          let some = eqb-false entries 0 e in
+          let below : entries < 2 ^ 0 = rw absent at (shaped-bounds entries (l .height) h .1) in
+          absurd (some (omega arith)),
+    )
+    go false e false h =
+        let one = eqb-true (l .height) 1 (and-eq-true-iff (eqb (l .height) 1) (eqb (l .key) entries) .0 h .0) in
+        (omega arith, λ absent. let z : ⊥ = omega arith in absurd z)
+
+-- ---- the state
+pub record FitState (s : State) : Type 0 where
+  pub structure : (1 ≤ s .structure) × (s .structure ≤ largestStructure)
+  pub size : (1 ≤ s .size) × (s .size ≤ largestSize)
+  pub entries : s .entries < 2 ^ s .size
+  pub few : s .count ≤ limit
+  pub well-formed : All (λ (p : Place). wellFormed (s .size) (p .node) ≡ true) (used s)
+  pub order : ascending (keysIn (used s)) ≡ true
+  pub root-tag : s .root .tag < 2 ^ s .size
+  pub low : s .root .height ≤ highest (structureOf (s .structure)) (s .size)
+  pub absent-zero : s .root .height ≡ 0 → (s .root .key ≡ 0) × (s .root .tag ≡ 0)
+
+pub fit-state : (s : State) → fits s ≡ true → FitState s
+unfolding fits
+fit-state s e =
+    let a = and-eq-true-iff (inRange (s .structure) largestStructure) _ .0 e in
+    let b = and-eq-true-iff (inRange (s .size) largestSize) _ .0 (a .1) in
+    let c = and-eq-true-iff (leb (s .entries) (2 ^ s .size - 1)) _ .0 (b .1) in
+    let d = and-eq-true-iff (leb (s .count) limit) _ .0 (c .1) in
+    let f = and-eq-true-iff (placesFit s) _ .0 (d .1) in
+    let g = and-eq-true-iff (ltb (s .root .tag) (2 ^ s .size)) _ .0 (f .1) in
+    let h = and-eq-true-iff (allOf (placeGood (s .size)) (used s)) _ .0 (f .0) in
+    let good = all-of (placeGood (s .size)) (used s) (h .0) in
+    let most = leb-true (s .entries) (2 ^ s .size - 1) (c .0) in
+    let few : s .entries < 2 ^ s .size = omega (arith, pow-pos (s .size)) in
+    let root = root-fits (s .size) (s .structure) (s .entries) (s .root) few (g .1) in
+    record {
+      structure = in-range-true (s .structure) largestStructure (a .0);
+      size = in-range-true (s .size) largestSize (b .0);
+      entries = few;
+      few = leb-true (s .count) limit (d .0);
+      well-formed = λ p m. and-eq-true-iff (p .full) (wellFormed (s .size) (p .node)) .0 (good p m) .1;
+      order = and-eq-true-iff (ascending (keysIn (used s))) _ .0 (h .1) .0;
+      root-tag = ltb-true (s .root .tag) (2 ^ s .size) (g .0);
+      low = root .0;
+      absent-zero = root .1;
+    }

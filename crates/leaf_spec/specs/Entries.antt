@@ -1,0 +1,15 @@
+-- The entry of a node, and what a ticket asks within the widths of its fields.
+use Prim.Native.Nat.{ℕ, _^_, _<_}
+use Rattle.method_spec.specs.Node.{Node}
+use Rattle.method_spec.specs.Answer.{Structure, Op, get, put, remove, push, pop}
+use Rattle.method_spec.specs.Plain.{Pair}
+
+abbrev pub pairOf : {T : Type 0} → Node T → Pair
+pairOf n = record { key = n .key; value = n .value }
+
+abbrev pub OpFits : {s : Structure} → Op s → Type 0
+OpFits (get key) = key < 2 ^ 32
+OpFits (put key value) = (key < 2 ^ 32) × (value < 2 ^ 64)
+OpFits (remove key) = key < 2 ^ 32
+OpFits (push value) = value < 2 ^ 64
+OpFits pop = Unit {0}

@@ -1,0 +1,4 @@
+pub mod ChoiceLaws
+pub mod PermLaws
+pub mod Shuffle
+pub mod DistinctLaws

@@ -1,0 +1,4 @@
+pub mod Choice
+pub mod Perm
+pub mod Distinct
+pub mod Ascending

@@ -1,0 +1,1 @@
+// Choices, permutations, lists with no element twice, ascending numbers: definitions.

@@ -1,1 +1,0 @@
-// The method without buckets or bytes; no code.

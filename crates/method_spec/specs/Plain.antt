@@ -1,0 +1,90 @@
+-- The plain machines: a table with one value for each key, kept in ascending order of keys, and a stack that is a list.
+use Prim.Native.Nat.{suc, ℕ}
+use mathlib.Core.List.{List, [], _∷_}
+use mathlib.Core.Option.{Option, none, some}
+use lib.Dec.{eqb, ltb}
+use lib.ListN.{length}
+use Rattle.list_spec.specs.Choice.{pick}
+use Rattle.method_spec.specs.Answer.{Structure, map, stack, Op, get, put, remove, push, pop, Answer, found, absent, replaced, new, removed, pushed, popped, empty, full}
+
+pub record Pair : Type 0 where
+  pub key : ℕ
+  pub value : ℕ
+
+-- The value of a key.
+unfoldable pub lookup : ℕ → List Pair → Option ℕ
+lookup k [] = none
+lookup k (p ∷ ps) = pick (eqb k (p .key)) (some (p .value)) (lookup k ps)
+
+-- The table with that value for the key, in place of an earlier one if there is one.
+unfoldable pub store : ℕ → ℕ → List Pair → List Pair
+store k v [] = record { key = k; value = v } ∷ []
+store k v (p ∷ ps) =
+    pick (eqb k (p .key)) (record { key = k; value = v } ∷ ps)
+    (pick (ltb k (p .key)) (record { key = k; value = v } ∷ p ∷ ps) (p ∷ store k v ps))
+
+-- The table without the key.
+unfoldable pub erase : ℕ → List Pair → List Pair
+erase k [] = []
+erase k (p ∷ ps) = pick (eqb k (p .key)) ps (p ∷ erase k ps)
+
+abbrev pub Contents : Structure → Type 0
+Contents map = List Pair
+Contents stack = List ℕ
+
+unfoldable pub nothing : (s : Structure) → Contents s
+nothing map = []
+nothing stack = []
+
+pub record Said (s : Structure) : Type 0 where
+  pub contents : Contents s
+  pub answer : Answer
+
+-- A put of a key that had that value, or none.
+unfoldable pub putAnswer : Option ℕ → Answer
+putAnswer none = new
+putAnswer (some v) = replaced v
+
+unfoldable pub getAnswer : Option ℕ → Answer
+getAnswer none = absent
+getAnswer (some v) = found v
+
+unfoldable pub removeAnswer : Option ℕ → Answer
+removeAnswer none = absent
+removeAnswer (some v) = removed v
+
+unfoldable pub popped-from : List ℕ → Said stack
+popped-from [] = record { contents = []; answer = empty }
+popped-from (v ∷ vs) = record { contents = vs; answer = popped v }
+
+-- One call of the plain machine that holds at most `limit` entries. The full rule comes first.
+unfoldable pub plain : {s : Structure} → ℕ → Op s → Contents s → Said s
+plain limit (get k) t = record { contents = t; answer = getAnswer (lookup k t) }
+plain limit (put k v) t =
+    pick (ltb (length t) limit) (record { contents = store k v t; answer = putAnswer (lookup k t) })
+    (record { contents = t; answer = full })
+plain limit (remove k) t = record { contents = erase k t; answer = removeAnswer (lookup k t) }
+plain limit (push v) vs =
+    pick (ltb (length vs) limit) (record { contents = v ∷ vs; answer = pushed })
+    (record { contents = vs; answer = full })
+plain limit pop vs = popped-from vs
+
+module _ {s : Structure} (limit : ℕ) where
+  -- A list of calls of the plain machine: what it holds afterwards, and its answers.
+  unfoldable pub plainContents : List (Op s) → Contents s → Contents s
+  plainContents [] t = t
+  plainContents (op ∷ ops) t = plainContents ops (plain limit op t .contents)
+
+  unfoldable pub plainAnswers : List (Op s) → Contents s → List Answer
+  plainAnswers [] t = []
+  plainAnswers (op ∷ ops) t = plain limit op t .answer ∷ plainAnswers ops (plain limit op t .contents)
+
+-- ---- what a plain machine holds, as pairs
+-- The stack's entries, as its nodes number them: from the bottom, from 1.
+unfoldable pub numbered : List ℕ → List Pair
+numbered [] = []
+numbered (v ∷ vs) = record { key = suc (length vs); value = v } ∷ numbered vs
+
+abbrev pub entriesOf : (s : Structure) → Contents s → List Pair
+entriesOf map t = t
+entriesOf stack vs = numbered vs

@@ -1,0 +1,1 @@
+// The method without buckets or bytes: definitions.

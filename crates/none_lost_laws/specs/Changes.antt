@@ -1,0 +1,75 @@
+-- What a call changes: the entries that it takes out and those that it adds, by its answer; and what a step yields on any content.
+use mathlib.Core.List.{List, [], _∷_}
+use Prim.Native.Nat.{ℕ, suc, _+_, _*_, _^_, _<_}
+use Rattle.method_spec.specs.Node.{Link, Node}
+use Rattle.method_spec.specs.Answer.{Structure, map, stack, Op, get, put, remove, push, pop, Answer, found, absent, replaced, new, removed, pushed, popped, empty, full}
+use Rattle.method_spec.specs.Map.{Outcome}
+use Rattle.method_spec.specs.Plain.{Pair}
+use Rattle.none_lost_laws.specs.Fitting.{LinkFits}
+use Rattle.none_lost_laws.specs.AtHand.{AtHand}
+
+-- The key that a ticket is about, for the entries and the root link of the store, and the value that it brings.
+unfoldable pub keyIn : {s : Structure} → Op s → (entries : ℕ) → Link ℕ → ℕ
+keyIn (get key) entries l = key
+keyIn (put key value) entries l = key
+keyIn (remove key) entries l = key
+keyIn (push value) entries l = suc entries
+keyIn pop entries l = l .key
+
+unfoldable pub valueIn : {s : Structure} → Op s → ℕ
+valueIn (get key) = 0
+valueIn (put key value) = value
+valueIn (remove key) = 0
+valueIn (push value) = value
+valueIn pop = 0
+
+-- The entry of that key that is taken out, with the value that is answered.
+unfoldable pub takenOut : ℕ → Answer → List Pair
+takenOut key (found v) = []
+takenOut key absent = []
+takenOut key (replaced v) = record { key = key; value = v } ∷ []
+takenOut key new = []
+takenOut key (removed v) = record { key = key; value = v } ∷ []
+takenOut key pushed = []
+takenOut key (popped v) = record { key = key; value = v } ∷ []
+takenOut key empty = []
+takenOut key full = []
+
+-- The entry that is added, with the ticket's value.
+unfoldable pub added : ℕ → ℕ → Answer → List Pair
+added key value (found v) = []
+added key value absent = []
+added key value (replaced v) = record { key = key; value = value } ∷ []
+added key value new = record { key = key; value = value } ∷ []
+added key value (removed v) = []
+added key value pushed = record { key = key; value = value } ∷ []
+added key value (popped v) = []
+added key value empty = []
+added key value full = []
+
+-- The answers of each kind of ticket.
+pub data AnswerOf : (s : Structure) → Op s → Answer → Type 0 where
+  get-found : {key v : ℕ} → AnswerOf map (get key) (found v)
+  get-absent : {key : ℕ} → AnswerOf map (get key) absent
+  put-replaced : {key value v : ℕ} → AnswerOf map (put key value) (replaced v)
+  put-new : {key value : ℕ} → AnswerOf map (put key value) new
+  put-full : {key value : ℕ} → AnswerOf map (put key value) full
+  remove-removed : {key v : ℕ} → AnswerOf map (remove key) (removed v)
+  remove-absent : {key : ℕ} → AnswerOf map (remove key) absent
+  push-pushed : {value : ℕ} → AnswerOf stack (push value) pushed
+  push-full : {value : ℕ} → AnswerOf stack (push value) full
+  pop-popped : {v : ℕ} → AnswerOf stack pop (popped v)
+  pop-empty : AnswerOf stack pop empty
+
+abbrev pub Answers : {s : Structure} → Op s → Answer → Type 0
+Answers {s} op a = AnswerOf s op a
+
+-- The heights of a step's nodes, by that of the root link.
+abbrev pub mostHigh : ℕ → ℕ
+mostHigh h = 9 * h + 4
+
+-- A step's nodes are those that it was given, but for what its answer says of the key; the answer is of its kind, and the root link in order.
+pub record Yielded (k h key value : ℕ) (Kind : Answer → Type 0) (o : Outcome ℕ) (held : List (Node ℕ)) : Type 0 where
+  pub kind : Kind (o .answer)
+  pub nodes : AtHand k (mostHigh h) (takenOut key (o .answer)) (added key value (o .answer)) (o .nodes) held
+  pub root : LinkFits k (suc (mostHigh h)) (o .root)

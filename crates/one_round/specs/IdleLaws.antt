@@ -1,0 +1,71 @@
+-- A round that wants none: it finds damage, or it goes through.
+use mathlib.Core.Path.{_≡_, sym, _∙_, ap, subst}
+use mathlib.Core.Bool.{true, false}
+use mathlib.Core.List.{List, _++_, append-nil}
+use mathlib.Core.Option.{none, some}
+use Prim.Native.Nat.{ℕ, _≤_}
+use native.Mathlib.Omega.{arith}
+use lib.ListN.{length, length-map}
+use Rattle.list_spec.specs.Choice.{pick}
+use Rattle.method_spec.specs.Node.{Node}
+use Rattle.method_spec.specs.Prog.{Prog}
+use Rattle.round_spec.specs.Round.{Hand, readHalf, overflows}
+use Rattle.round_laws.specs.ReadHalf.{read-grants}
+use Rattle.leaf_spec.specs.Leaf.{leafFormat}
+use Rattle.word_round_laws.specs.Words.{places, wordCount}
+use Rattle.path_reader.specs.Look.{LookedFor}
+use Rattle.eviction.specs.Settle.{Settled}
+use Rattle.word_round_laws.specs.KeepLaws.{takenKeys}
+use Rattle.path_reader.specs.declared.Looked.{Looked}
+use Rattle.path_reader.specs.declared.Wish.the-variants.{Nothing}
+use Rattle.stash_laws.specs.Waiting.{waitingIn}
+use Rattle.bucket_call_spec.specs.Fetch.{Held, Going, shut, atClose, written, revealing, heldKeys, idleRound}
+use Rattle.one_round.specs.OneRound.{going, Ready, Rests, Idled}
+use Rattle.one_round.specs.HandLaws.{looked-damage, looked-hand}
+use Rattle.one_round.specs.CloseLaws.{settled-rests, settled-close}
+
+-- ---- the definition's two ways
+module _ {A : Type 0} (k leaf : ℕ) (p : Prog ℕ A) (g : Going) where
+  pub idle-damaged : readHalf leafFormat k (g .tree) leaf none (heldKeys g) (g .waiting) ≡ none → idleRound k leaf p g ≡ shut 8 (revealing leaf g)
+  unfolding idleRound
+  idle-damaged read = rw (read, idleRound)
+
+  pub idle-undamaged : (h : Hand (Node ℕ)) → readHalf leafFormat k (g .tree) leaf none (heldKeys g) (g .waiting) ≡ some h
+      → idleRound k leaf p g ≡ atClose (written k leaf (h .waiting) (g .held) g) p
+  unfolding idleRound
+  idle-undamaged h read = rw (read, idleRound)
+
+-- What waited and was held, waits and is held still, with other words in the scratch space.
+pub ready-rests : {k leaf n : ℕ} {words scratch tree held : List ℕ} → Ready k leaf n words scratch tree held → (scratch′ : List ℕ) → length scratch′ ≡ wordCount
+    → Rests n words scratch′ held
+ready-rests ready scratch′ sized =
+    record { holds = ready .holds; scratch-sized = sized; order = ready .order; apart = ready .apart }
+
+module _ {k leaf n : ℕ} {words scratch tree held after : List ℕ} (r : Looked) (ready : Ready k leaf n words scratch tree held)
+    (looked : LookedFor k leaf Nothing n words tree held after r) where
+  -- Damage: nothing was written.
+  pub idle-damage : r .ok ≡ false → Idled k leaf n words tree held words after tree (record { mark = 8; waiting = n })
+  idle-damage bad =
+      record {
+        round =
+            λ hs ls p keys. idle-damaged k leaf p (going n words tree hs ls)
+            (ap (λ (ks : List ℕ). readHalf leafFormat k tree leaf none ks (waitingIn n words)) keys ∙ looked-damage Nothing r ready looked bad);
+        rests = ready-rests ready after (looked .sized);
+      }
+
+  pub idle-goes : {scratch′ words′ tree′ : List ℕ} {left : ℕ} (mark : ℕ) → r .ok ≡ true
+      → Settled k leaf (r .count) false 0 after tree scratch′ words′ tree′ left → mark ≡ pick (overflows left (length held)) 9 0
+      → Idled k leaf n words tree held words′ scratch′ tree′ (record { mark = mark; waiting = left })
+  idle-goes {scratch′} {words′} {tree′} {left} mark good settled marked =
+      let i = looked-hand Nothing r ready looked good in
+      let nothing : i .hand .taken ≡ none = read-grants leafFormat k tree leaf none held (waitingIn n words) (i .hand) (i .read) in
+      let room : r .count ≤ places = omega (arith, looked .within, ready .small, ready .few) in
+      let same : held ++ takenKeys leafFormat (i .hand .taken) ≡ held = rw nothing (append-nil held) in
+      record {
+        round =
+            λ hs ls p keys. idle-undamaged k leaf p (going n words tree hs ls) (i .hand)
+            (ap (λ (ks : List ℕ). readHalf leafFormat k tree leaf none ks (waitingIn n words)) keys ∙ i .read)
+            ∙ settled-close ready i settled room hs hs ls p (length held) mark
+            (sym (length-map hs (λ (h : Held). h .node .key)) ∙ ap length keys) marked;
+        rests = subst (Rests left words′ scratch′) same (settled-rests ready i settled room);
+      }

@@ -1,0 +1,83 @@
+-- The code's values as the method's, at leaf numbers for tags.
+use Prim.Native.Nat.{ℕ}
+use mathlib.Core.List.{List, []}
+use mathlib.Core.Option.{Option, none, some}
+use Rattle.leaf_spec.specs.Convert.{toLink}
+use Rattle.operation_spec.specs.declared.Op as op
+use Rattle.operation_spec.specs.declared.Op.the-variants.{Get, Put, Remove, Push, Pop}
+use Rattle.operation_spec.specs.declared.Answer as answer
+use Rattle.operation_spec.specs.declared.Answer.the-variants.{Found, Absent, Replaced, New, Removed, Pushed, Popped, Empty, Full}
+use Rattle.operation_spec.specs.declared.From as from
+use Rattle.operation_spec.specs.declared.From.the-variants.{Root, Side}
+use Rattle.operation_spec.specs.declared.Bound.{Bound}
+use Rattle.operation_spec.specs.declared.Bound.the-variants.{Open, Key}
+use Rattle.operation_spec.specs.declared.Want as wanted
+use Rattle.operation_spec.specs.declared.Wanted.{Wanted}
+use Rattle.operation_spec.specs.declared.Wanted.the-variants.{Done, Fetch}
+use Rattle.operation_spec.specs.declared.Outcome as outcome
+use Rattle.method_spec.specs.Node.{Link, Node}
+use Rattle.method_spec.specs.Prog.{From, root, side, Want, Prog, done, want}
+use Rattle.method_spec.specs.Answer.{Structure, Op, Answer}
+use Rattle.method_spec.specs.Answer as method
+use Rattle.method_spec.specs.Map.{Outcome}
+
+abbrev pub toFrom : from.From → From
+toFrom Root = root
+toFrom (Side k s) = side k s
+
+abbrev pub toBound : Bound → Option ℕ
+toBound Open = none
+toBound (Key k) = some k
+
+abbrev pub toWant : wanted.Want → Want ℕ
+toWant w =
+    record { link = toLink (w .link); from = toFrom (w .from); low = toBound (w .low); high = toBound (w .high) }
+
+-- What a ticket asks, and of which structure.
+abbrev pub structureOf : op.Op → Structure
+structureOf (Get k) = method.map
+structureOf (Put k v) = method.map
+structureOf (Remove k) = method.map
+structureOf (Push v) = method.stack
+structureOf Pop = method.stack
+
+abbrev pub toOp : (o : op.Op) → Op (structureOf o)
+toOp (Get k) = method.get k
+toOp (Put k v) = method.put k v
+toOp (Remove k) = method.remove k
+toOp (Push v) = method.push v
+toOp Pop = method.pop
+
+abbrev pub toAnswer : answer.Answer → Answer
+toAnswer (Found v) = method.found v
+toAnswer Absent = method.absent
+toAnswer (Replaced v) = method.replaced v
+toAnswer New = method.new
+toAnswer (Removed v) = method.removed v
+toAnswer Pushed = method.pushed
+toAnswer (Popped v) = method.popped v
+toAnswer Empty = method.empty
+toAnswer Full = method.full
+
+-- ---- what a program wants next, and its outcome
+
+abbrev pub toWanted : Wanted → Option (Want ℕ)
+toWanted Done = none
+toWanted (Fetch w) = some (toWant w)
+
+abbrev pub wantedIn : {A : Type 0} → Prog ℕ A → Option (Want ℕ)
+wantedIn (done a) = none
+wantedIn (want w k) = some w
+
+-- A step's outcome, with the nodes that it made.
+abbrev pub toOutcome : outcome.Outcome → List (Node ℕ) → Outcome ℕ
+toOutcome o ns = record { nodes = ns; root = toLink (o .root); entries = o .entries; answer = toAnswer (o .answer) }
+
+-- No nodes, with that root link, entries and answer.
+abbrev pub nothing : Link ℕ → ℕ → Answer → Outcome ℕ
+nothing l entries a = record { nodes = []; root = l; entries = entries; answer = a }
+
+-- The outcome of a program that is done; of one that still wants a node nothing, with root link and entries as they were.
+abbrev pub outcomeIn : Link ℕ → ℕ → Prog ℕ (Outcome ℕ) → Outcome ℕ
+outcomeIn l entries (done o) = o
+outcomeIn l entries (want w k) = nothing l entries method.absent

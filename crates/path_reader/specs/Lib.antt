@@ -1,0 +1,5 @@
+pub mod Joined
+pub mod JoinedLaws
+pub mod GatherLaws
+pub mod Look
+pub mod LookedLaws

@@ -1,7 +1,0 @@
-pub mod Splits
-pub mod Wanting
-pub mod WantingLaws
-pub mod WalkLaws
-pub mod FetchLaws
-pub mod Put
-pub mod PutLaws

@@ -1,0 +1,73 @@
+-- The put rounds: all of them, or the damage that the first finds.
+use mathlib.Core.Path.{_≡_, refl, sym, _∙_, ap}
+use mathlib.Core.Bool.{Bool, true, false}
+use mathlib.Core.List.{List, [], _∷_, _++_, append-nil}
+use Prim.Native.Nat.{ℕ, zero, suc, _+_, _-_, _≤_, _<_}
+use native.Mathlib.Omega.{arith}
+use lib.ListN.{length, set}
+use lib.Seq.{sets}
+use Rattle.method_spec.specs.Prog.{done}
+use Rattle.method_spec.specs.Map.{Outcome}
+use Rattle.method_spec.specs.Call.{drawsFrom}
+use Rattle.round_spec.specs.Round.{noneTwice, keysOf}
+use Rattle.round_laws.specs.ReadHalf.{distinct-none-twice}
+use Rattle.list_spec.specs.Ascending.{ascending}
+use Rattle.round_laws.specs.Sorted.{ascending-distinct}
+use Rattle.leaf_spec.specs.Leaf.{leafFormat}
+use Rattle.bucket_call_spec.specs.Fetch.{Going, shut}
+use Rattle.bucket_call_spec.specs.Call.{putRounds}
+use Rattle.one_round.specs.OneRound.{going, endedWith, keysWaiting}
+use Rattle.one_round.specs.TwiceLaws.{twice-shuts}
+use Rattle.stash_laws.specs.Waiting.{waitingIn}
+use Rattle.idle_rounds.specs.declared.idle.Idle.{Idle}
+use Rattle.idle_rounds.specs.Idle.{Between, IdledAll}
+use Rattle.idle_rounds.specs.IdleLaws.{put-shuts, draws-one}
+use Rattle.put_rounds.specs.Put.{Stepped, Puts}
+
+module _ {k n : ℕ} {words scratch tree : List ℕ} (b : Stepped k n words scratch tree) where
+  -- Where the keys ascend the rounds can begin.
+  pub stepped-between : ascending (keysWaiting n words) ≡ true → Between k n words scratch tree []
+  stepped-between e =
+      record {
+        small = b .small;
+        is-tree = b .is-tree;
+        rests =
+            record {
+              holds = b .holds;
+              scratch-sized = b .scratch-sized;
+              order = e;
+              apart = rw (append-nil (keysWaiting n words)) (distinct-none-twice (keysWaiting n words) (ascending-distinct leafFormat (waitingIn n words) e));
+            };
+        proper = b .proper;
+        few = omega (arith, b .few);
+      }
+
+module _ (k n : ℕ) (draw : ℕ → ℕ) (F first : ℕ) (words tree trace : List ℕ) where
+  pub puts-idled : {words′ scratch′ tree′ trace′ : List ℕ} {r : Idle} → IdledAll k n draw F first F words tree trace [] words′ scratch′ tree′ trace′ r
+      → Puts k n draw F first words tree trace words′ tree′ trace′ r
+  puts-idled i =
+      record {
+        rounds = λ ls o. i .rounds [] ls o refl;
+        revealed = i .revealed;
+        holds = i .rests .holds;
+        no-more = i .no-more;
+        all-shown = i .all-shown;
+      }
+
+  -- A key that stands twice is damage to the first round.
+  pub puts-twice : {scratch : List ℕ} → Stepped k n words scratch tree → ascending (keysWaiting n words) ≡ false → 1 ≤ F → (leaf : ℕ) → leaf ≡ draw first
+      → Puts k n draw F first words tree trace words tree (set trace F leaf) (record { mark = 8; waiting = n; shown = 1 })
+  puts-twice b e some leaf drawn =
+      let one : drawsFrom draw 1 first ≡ leaf ∷ [] = draws-one draw first ∙ ap (λ (d : ℕ). d ∷ []) (sym drawn) in
+      record {
+        rounds = λ ls o.
+            let more : F ≡ suc (F - 1) = omega arith in
+            ap (λ (m : ℕ). putRounds k draw m first o (going n words tree [] ls)) more
+            ∙ put-shuts k draw (F - 1) first o (going n words tree [] ls) (going n words tree [] (ls ++ (draw first ∷ []))) 8
+            (twice-shuts k (draw first) (done o) (going n words tree [] ls) refl (b .twice e))
+            ∙ rw (one, drawn);
+        revealed = rw one;
+        holds = b .holds;
+        no-more = some;
+        all-shown = λ z. let y : ⊥ = omega arith in absurd y;
+      }

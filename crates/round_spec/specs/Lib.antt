@@ -1,0 +1,5 @@
+pub mod Whole
+pub mod Format
+pub mod Round
+pub mod Nodes
+pub mod Examples

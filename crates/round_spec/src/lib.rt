@@ -1,0 +1,1 @@
+// One round over a tree and the waiting nodes: definitions.

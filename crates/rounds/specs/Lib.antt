@@ -1,4 +1,0 @@
-pub mod Format
-pub mod Round
-pub mod Nodes
-pub mod Examples

@@ -1,1 +1,0 @@
-// One round over a tree and the waiting nodes: definitions and their laws; no code.

@@ -1,0 +1,35 @@
+-- The leaves revealed are those of the draws that the origin rule names, and the answers are the origin rule's.
+use Prim.Native.Nat.{ℕ}
+use mathlib.Core.Path.{_≡_, ap}
+use mathlib.Core.List.{List, map}
+use Rattle.method_spec.specs.Answer as answer
+use Rattle.method_spec.specs.Answer.{Structure, Op}
+use Rattle.method_spec.specs.Call.{capacity, emptyMemory, run, Ran}
+use Rattle.method_spec.specs.Origin as origin
+use Rattle.method_spec.specs.Origin.{drawn, origins, names, leafOf, leafRun}
+use Rattle.run_laws.specs.Natural.{mapRan, Natural, run-natural}
+use Rattle.run_laws.specs.MapNatural.{map-natural}
+use Rattle.run_laws.specs.StackNatural.{stack-natural}
+
+pub natural : {T S : Type 0} (f : T → S) (s : Structure) (nil : T) → Natural f s nil
+natural f answer.map nil = map-natural f nil
+natural f answer.stack nil = stack-natural f nil
+
+-- From the empty structure: a run over tags and then the function on them is the run over what the function gives.
+pub run-mapped : {T S : Type 0} (f : T → S) (nil : T) {s : Structure} (rounds limit : ℕ) (draw : ℕ → ℕ → T) (ops : List (Op s))
+    → run (f nil) rounds limit (λ c d. f (draw c d)) 1 ops (emptyMemory (f nil)) ≡ mapRan f (run nil rounds limit draw 1 ops (emptyMemory nil))
+unfolding emptyMemory
+run-mapped f nil {s} rounds limit draw ops = run-natural f nil (natural f s nil) rounds limit draw 1 ops (emptyMemory nil)
+
+pub leaves : {s : Structure} (rounds size : ℕ) (tapes : List (List ℕ)) (ops : List (Op s))
+    → leafRun rounds size tapes ops ≡ mapRan (leafOf size tapes) (origins rounds size ops)
+unfolding leafRun origins leafOf
+leaves rounds size tapes ops = run-mapped (leafOf size tapes) origin.none rounds (capacity size) drawn ops
+
+pub leaves-revealed : {s : Structure} (rounds size : ℕ) (tapes : List (List ℕ)) (ops : List (Op s))
+    → leafRun rounds size tapes ops .revealed ≡ map (leafOf size tapes) (names rounds size ops)
+leaves-revealed rounds size tapes ops = ap (λ (r : Ran ℕ). r .revealed) (leaves rounds size tapes ops)
+
+pub leaves-answers : {s : Structure} (rounds size : ℕ) (tapes : List (List ℕ)) (ops : List (Op s))
+    → leafRun rounds size tapes ops .answers ≡ origins rounds size ops .answers
+leaves-answers rounds size tapes ops = ap (λ (r : Ran ℕ). r .answers) (leaves rounds size tapes ops)

@@ -1,0 +1,120 @@
+-- One call over a kept bucket store does what the method's call does at leaves, or meets overflow. It never finds damage.
+use mathlib.Core.Path.{_≡_, refl, ap, subst}
+use mathlib.Core.Logic.{_⊎_}
+use mathlib.Core.List.{List, [], _++_, map}
+use mathlib.Core.Option.{some}
+use Prim.Native.Nat.{ℕ, _^_, _≤_, _<_}
+use native.Mathlib.Omega.{arith}
+use Rattle.list_laws.specs.PermLaws.{perm-refl, perm-member}
+use Rattle.list_spec.specs.Distinct.{Distinct, All}
+use Rattle.balance_spec.specs.Least.{least}
+use Rattle.balance_spec.specs.Shape.{shaped}
+use Rattle.balance_spec.specs.Greatest.{tallest, greatest}
+use Rattle.balance_laws.specs.GreatestLaws.{greatest-mono}
+use Rattle.method_spec.specs.Node.{Node}
+use Rattle.method_spec.specs.Prog.{Prog, done, want}
+use Rattle.method_spec.specs.Answer.{Structure, Op, Answer}
+use Rattle.method_spec.specs.Answer as answer
+use Rattle.method_spec.specs.Plain.{Contents}
+use Rattle.method_spec.specs.Map.{Outcome}
+use Rattle.method_spec.specs.Rounds.{rounds, spareDraw}
+use Rattle.method_spec.specs.Call.{capacity, program, Memory, emptyMemory, Fetched, fetches, stepped, answered, Called, call}
+use Rattle.run_laws.specs.RoundsLaws.{some-rounds}
+use Rattle.run_laws.specs.SafeLaws.{safe-map}
+use Rattle.run_laws.specs.Fetches.{keys}
+use Rattle.run_laws.specs.Calls.{memoryOf}
+use Rattle.run_laws.specs.Answers.{represents-call}
+use Rattle.method_laws.specs.Represented.{Held, represents}
+use Rattle.leaf_spec.specs.Leaf.{leafFormat}
+use Rattle.bucket_call_spec.specs.Fetch.{Going, Round}
+use Rattle.bucket_call_spec.specs.Call.{Store, fetchedBy, bucketCall}
+use Rattle.round_laws.specs.NoDamage.{there-proper}
+use Rattle.round_laws.specs.Kept.{fresh-empty, fresh-kept}
+use Rattle.list_spec.specs.Ascending.{ascending}
+use Rattle.leaf_spec.specs.Leaf.{ProperLeaf}
+use Rattle.leaf_laws.specs.Proper.{leaves-lawful, Fits, proper-fits}
+use Rattle.leaf_spec.specs.Entries.{OpFits}
+use Rattle.simulation_laws.specs.ProperCall.{call-held, call-proper}
+use Rattle.bucket_call_spec.specs.Simulates.{Simulates}
+use Rattle.simulation_laws.specs.Relation.{emptyStore, memoryEntries, Matches, Overflowed}
+use Rattle.simulation_laws.specs.RoundSim.{Went}
+use Rattle.simulation_laws.specs.FetchSim.{WentAs, fetches-went}
+use Rattle.simulation_laws.specs.StepSim.{fetches-match}
+
+-- ---- one call
+
+answered-done : (p : Prog ℕ (Outcome ℕ)) {a : Answer} → answered p ≡ some a → (o : Outcome ℕ) × (p ≡ done o)
+unfolding answered
+answered-done (done o) e = (o, refl)
+answered-done (want w c) e = let z : _≡_ {A = ℕ} 0 1 = cc in absurd (omega arith)
+
+-- All own numbers of a simulated memory's nodes are within their bounds.
+pub simulates-fits : {k : ℕ} {st : Store} {m : Memory ℕ} → Simulates k st m → All (Fits k) (m .nodes)
+simulates-fits {k} {st} {m} sim n i =
+    proper-fits k n
+    (there-proper leafFormat leaves-lawful k (st .tree) (st .waiting) [] (sim .kept) n (perm-member (sim .there) i))
+
+module _ {s : Structure} (k : ℕ) (positive : 1 ≤ k) (small : k ≤ 16) (t : Contents s) (m : Memory ℕ) (held : Held 0 s (capacity k) t m)
+    (st : Store) (sim : Simulates k st m) (op : Op s) (op-fits : OpFits op) (draw : ℕ → ℕ) (leaves : (d : ℕ) → draw d < 2 ^ k) where
+  abbrev F : ℕ
+  F = rounds s k
+
+  abbrev spares : ℕ → ℕ
+  spares i = draw (spareDraw F i)
+
+  abbrev called : Called ℕ
+  called = call 0 F (capacity k) op draw m
+
+  abbrev fetched : Fetched ℕ (Outcome ℕ)
+  fetched = fetches draw F 0 (program 0 op spares (capacity k) (m .entries) (m .root)) (m .nodes)
+
+  abbrev started : Going
+  started = record { tree = st .tree; waiting = st .waiting; held = []; leaves = [] }
+
+  abbrev fetchEnd : Round (Outcome ℕ)
+  fetchEnd = fetchedBy k F op draw st
+
+  -- The fetch rounds are the method's fetches.
+  fetch-phase : WentAs k (memoryEntries m) started fetched fetchEnd
+  fetch-phase =
+      rw (sim .entries, sim .root)
+      (fetches-went s (m .entries) k draw leaves {Post = λ o held ns. Unit {0}} (λ o held xs ys p h. h) F 0
+      (program 0 op spares (capacity k) (m .entries) (m .root)) started (omega arith)
+      (record { there = sim .there; kept = sim .kept; ascends = sim .ascends; whole = perm-refl (memoryEntries m) })
+      (safe-map (λ o held ns post. tt) (represents 0 s k .safe t m held op spares)))
+
+  -- The program is done.
+  outcome : (o : Outcome ℕ) × (fetched .prog ≡ done o)
+  unfolding call
+  outcome = answered-done (fetched .prog) (represents-call (represents 0 s k) t op draw m held .answers)
+
+  -- One call over buckets is one call of the method at leaves, or it meets overflow.
+  pub simulate : Overflowed k m (fetchedBy k (rounds s k) op draw st) (bucketCall k (rounds s k) op draw st) (call 0 (rounds s k) (capacity k) op draw m)
+      ⊎ Matches k (bucketCall k (rounds s k) op draw st) (call 0 (rounds s k) (capacity k) op draw m)
+  unfolding call stepped answered bucketCall
+  simulate =
+      let o = outcome .0 in
+      let e = outcome .1 in
+      let remembers : called .memory ≡ memoryOf o (fetched .nodes) = ap (stepped m (fetched .nodes)) e in
+      let nodes : called .memory .nodes ≡ o .nodes ++ fetched .nodes = ap (λ (x : Memory ℕ). x .nodes) remembers in
+      fetches-match s k F (some-rounds s k positive) draw leaves m called o (fetched .nodes) remembers (ap answered e)
+      (fetched .revealed) refl
+      (subst (λ (ns : List (Node ℕ)). Distinct (keys ns)) nodes
+      (represents 0 s k .distinct-keys _ (called .memory) (call-held k small t m held op draw)))
+      (subst (All (ProperLeaf k)) nodes (call-proper k small t m held op draw op-fits leaves (simulates-fits sim)))
+      st fetchEnd
+      (subst (λ (p : Prog ℕ (Outcome ℕ)). Went k (memoryEntries m) p (fetched .nodes) (fetched .revealed) fetchEnd) e fetch-phase)
+
+-- ---- the start
+
+pub simulate-start : (k : ℕ) → Simulates k (emptyStore k) (emptyMemory 0)
+unfolding emptyMemory ascending
+simulate-start k =
+    record {
+      entries = refl;
+      root = refl;
+      there = rw (fresh-empty leafFormat leaves-lawful k) (perm-refl []);
+      kept = fresh-kept leafFormat leaves-lawful k;
+      few = omega arith;
+      ascends = refl;
+    }

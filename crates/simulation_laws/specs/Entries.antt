@@ -1,0 +1,107 @@
+-- The entries of a structure, as pairs of a key and a value: those of the plain machine are those of the memory's nodes. Tickets
+-- whose keys and values are within their widths keep all entries within them.
+use mathlib.Core.Path.{_≡_, refl, sym, _∙_, ap, ap₂}
+use mathlib.Core.Bool.{Bool, true, false}
+use mathlib.Core.List.{List, [], _∷_, map-append, List·Memᴰ·head, List·Memᴰ·tail}
+use mathlib.Core.List as list
+use Prim.Native.Nat.{ℕ, suc, _^_, _≤_, _<_}
+use native.Mathlib.Omega.{arith}
+use lib.Dec.{eqb, ltb}
+use lib.ListN.{length, length-map}
+use lib.Pow.{pow-mono}
+use borrow.Author.Tests.{ltb-true}
+use Rattle.leaf_spec.specs.Entries.{OpFits, pairOf}
+use Rattle.list_spec.specs.Choice.{pick}
+use Rattle.list_spec.specs.Perm.{Perm, nil as perm-none, cons, trans}
+use Rattle.list_laws.specs.PermLaws.{perm-sym, perm-of-eq, perm-append, perm-front, perm-map}
+use Rattle.list_spec.specs.Distinct.{All}
+use Rattle.list_laws.specs.DistinctLaws.{all-nil, all-cons}
+use Rattle.balance_spec.specs.Tree.{Tree, leaf, node}
+use Rattle.method_spec.specs.Node.{Node}
+use Rattle.method_spec.specs.Answer.{Structure, map, stack, Op, get, put, remove, push, pop}
+use Rattle.method_spec.specs.Plain.{Pair, Contents, store, erase, popped-from, plain}
+use Rattle.method_spec.specs.Call.{capacity, Memory}
+use Rattle.run_laws.specs.StackRepresents.{Cell, chain}
+use Rattle.avl_laws.specs.Search.{Entry, pairs, nodesOf}
+use Rattle.method_laws.specs.Represented.{Held}
+use Rattle.method_spec.specs.Plain.{numbered, entriesOf}
+
+-- ---- within their widths
+
+abbrev pub PairFits : Pair → Type 0
+PairFits p = (p .key < 2 ^ 32) × (p .value < 2 ^ 64)
+
+abbrev pub EntriesFit : (s : Structure) → Contents s → Type 0
+EntriesFit s t = All PairFits (entriesOf s t)
+
+all-tail : {P : Pair → Type 0} {p : Pair} {ps : List Pair} → All P (p ∷ ps) → All P ps
+all-tail h q m = h q (List·Memᴰ·tail m)
+
+store-fits : (key value : ℕ) (t : List Pair) → (key < 2 ^ 32) × (value < 2 ^ 64) → All PairFits t → All PairFits (store key value t)
+unfolding store
+store-fits key value [] f h = all-cons {P = PairFits} f (all-nil PairFits)
+store-fits key value (p ∷ t) f h =
+    go (eqb key (p .key)) (ltb key (p .key)) (store-fits key value t f (all-tail {P = PairFits} h))
+  where
+    go : (same less : Bool) → All PairFits (store key value t)
+        → All PairFits (pick same (record { key = key; value = value } ∷ t)
+        (pick less (record { key = key; value = value } ∷ p ∷ t) (p ∷ store key value t)))
+    go true less later = all-cons {P = PairFits} f (all-tail {P = PairFits} h)
+    go false true later = all-cons {P = PairFits} f h
+    go false false later = all-cons {P = PairFits} (h p (List·Memᴰ·head refl)) later
+
+erase-fits : (key : ℕ) (t : List Pair) → All PairFits t → All PairFits (erase key t)
+unfolding erase
+erase-fits key [] h = h
+erase-fits key (p ∷ t) h = go (eqb key (p .key)) (erase-fits key t (all-tail {P = PairFits} h))
+  where
+    go : (same : Bool) → All PairFits (erase key t) → All PairFits (pick same t (p ∷ erase key t))
+    go true later = all-tail {P = PairFits} h
+    go false later = all-cons {P = PairFits} (h p (List·Memᴰ·head refl)) later
+
+-- A step of the plain machine keeps its entries within their widths.
+pub plain-fits : {s : Structure} (k : ℕ) → k ≤ 32 → (op : Op s) → OpFits op → (t : Contents s) → EntriesFit s t
+    → EntriesFit s (plain (capacity k) op t .contents)
+unfolding plain numbered popped-from
+plain-fits k small (get key) f t h = h
+plain-fits k small (put key value) f t h = go (ltb (length t) (capacity k)) refl
+  where
+    go : (room : Bool) → ltb (length t) (capacity k) ≡ room → All PairFits (plain (capacity k) (put key value) t .contents)
+    go true e = rw e (store-fits key value t f h)
+    go false e = rw e h
+plain-fits k small (remove key) f t h = erase-fits key t h
+plain-fits k small (push value) f vs h = go (ltb (length vs) (capacity k)) refl
+  where
+    go : (room : Bool) → ltb (length vs) (capacity k) ≡ room → EntriesFit stack (plain (capacity k) (push value) vs .contents)
+    go true e =
+        let less = ltb-true (length vs) (capacity k) e in
+        let most : 2 ^ k ≤ 2 ^ 32 = pow-mono small in
+        rw e (all-cons {P = PairFits} (omega arith, f) h)
+    go false e = rw e h
+plain-fits k small pop f [] h = h
+plain-fits k small pop f (v ∷ vs) h = all-tail {P = PairFits} h
+
+-- ---- the entries of a memory
+
+module _ {T : Type 0} (nil : T) where
+  tree-entries : (t : Tree (Entry T)) → Perm (list.map pairOf (nodesOf nil t)) (pairs t)
+  unfolding nodesOf pairs
+  tree-entries leaf = perm-none
+  tree-entries (node l e r) =
+      simp map-append
+      (trans (cons (record { key = e .key; value = e .value }) (perm-append (tree-entries l) (tree-entries r)))
+      (perm-sym (perm-front (pairs l) (record { key = e .key; value = e .value }) (pairs r))))
+
+  chain-entries : (cs : List (Cell T)) → list.map pairOf (chain nil cs) ≡ numbered (list.map (λ c. c .value) cs)
+  unfolding chain numbered
+  chain-entries [] = refl
+  chain-entries (c ∷ cs) =
+      ap₂ (λ (n : ℕ) (ps : List Pair). record { key = suc n; value = c .value } ∷ ps)
+      (sym (length-map cs (λ (c : Cell T). c .value))) (chain-entries cs)
+
+  pub held-entries : (s : Structure) (limit : ℕ) (t : Contents s) (m : Memory T) → Held nil s limit t m
+      → Perm (list.map pairOf (m .nodes)) (entriesOf s t)
+  held-entries map limit t m h =
+      trans (perm-map pairOf (h .stored)) (trans (tree-entries (h .tree)) (perm-of-eq (h .same)))
+  held-entries stack limit t m h =
+      trans (perm-map pairOf (h .there)) (perm-of-eq (chain-entries (h .cells) ∙ ap numbered (h .values)))

@@ -1,0 +1,9 @@
+pub mod Ranges
+pub mod LittleEndianLaws
+pub mod LayoutLaws
+pub mod TreeLaws
+pub mod RowLaws
+pub mod SlotLaws
+pub mod ReadLaws
+pub mod BucketLaws
+pub mod WordLaws

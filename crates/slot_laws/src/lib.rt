@@ -1,0 +1,1 @@
+// A written node reads back, and no other bytes read as it; laws of bytes, layouts, words and paths; no code.

@@ -1,0 +1,3 @@
+pub mod FitLaws
+pub mod OpeningLaws
+pub mod FetchingLaws

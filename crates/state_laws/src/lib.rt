@@ -1,0 +1,1 @@
+// What the definitions of fitness, opening and a call's draws give the code; no code.

@@ -1,0 +1,6 @@
+pub mod Widths
+pub mod Fit
+pub mod Head
+pub mod Opening
+pub mod Ticket
+pub mod Fetching

@@ -1,0 +1,33 @@
+-- A ticket's 13 bytes: kind, key and value, and what they ask of each structure.
+use Prim.Native.Nat.{ℕ}
+use mathlib.Core.List.{List}
+use mathlib.Core.Option.{Option, none, some}
+use lib.Dec.{eqb}
+use lib.ListN.{take, drop}
+use Rattle.list_spec.specs.Choice.{pick}
+use Rattle.slot_spec.specs.LittleEndian.{value}
+use Rattle.method_spec.specs.Answer.{Structure, map, stack, Op, get, put, remove, push, pop}
+
+abbrev pub ticketLength : ℕ
+ticketLength = 13
+
+abbrev pub kindIn : List ℕ → ℕ
+kindIn t = value (take 1 t)
+
+abbrev pub keyIn : List ℕ → ℕ
+keyIn t = value (take 4 (drop 1 t))
+
+abbrev pub valueIn : List ℕ → ℕ
+valueIn t = value (take 8 (drop 5 t))
+
+-- "Kinds: 1 get, 2 put, 3 remove (map); 4 push, 5 pop (stack)"
+unfoldable pub opIn : (s : Structure) → List ℕ → Option (Op s)
+opIn map t =
+    pick (eqb (kindIn t) 1) (some (get (keyIn t)))
+    (pick (eqb (kindIn t) 2) (some (put (keyIn t) (valueIn t))) (pick (eqb (kindIn t) 3) (some (remove (keyIn t))) none))
+opIn stack t =
+    pick (eqb (kindIn t) 4) (some (push (valueIn t))) (pick (eqb (kindIn t) 5) (some pop) none)
+
+-- 1 map, 2 stack.
+abbrev pub structureOf : ℕ → Structure
+structureOf n = pick (eqb n 1) map stack

@@ -1,0 +1,23 @@
+-- `steps::fetch_test::passes` meets its contract: it is the test of the structure that the number says.
+use borrow.Author.Needs.{needs}
+use borrow.Author.Tests.{eq-eqb, ne-eqb}
+use Rattle.method_spec.specs.Call.{test}
+use Rattle.structures.proofs.fetch_test.passes.Statement.{statement}
+use Rattle.structures.proofs.fetch_test.passes.Tie as tie
+
+map-test-requires : tie.Need-map-test-requires
+map-test-requires c κs = search needs
+
+returns : tie.Need-returns
+unfolding test
+returns c = rw (eq-eqb (c .before .before .args .structure) 1 (c .before .if1 .taken)) (c .map-test .ensures)
+
+stack-test-requires : tie.Need-stack-test-requires
+stack-test-requires c κs = search needs
+
+returns-2 : tie.Need-returns-2
+unfolding test
+returns-2 c = rw (ne-eqb (c .before .before .args .structure) 1 (c .before .if1 .left)) (c .stack-test .ensures)
+
+pub passes-spec : {M : Type 1} → statement M
+passes-spec = tie.close (tie.spec map-test-requires returns stack-test-requires returns-2)

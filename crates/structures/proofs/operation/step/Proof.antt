@@ -1,0 +1,142 @@
+use mathlib.Core.Path.{_∙_}
+use native.Mathlib.Omega.{arith}
+use Rattle.leaf_spec.specs.Convert.{toLink}
+use Rattle.node_rows.specs.Held.{heldIn, nodesOf}
+use Rattle.structures.specs.OperationLaws.{walks-of, program-get, program-put, program-remove, program-push, program-pop, outcome-by, outcome-up}
+use native.Mathlib.Omega.{arith}
+use borrow.Author.Needs.{needs}
+use Rattle.structures.proofs.operation.step.Statement.{statement}
+use Rattle.structures.proofs.operation.step.Tie as tie
+use Rattle.structures.proofs.operation.step.Reads as reads
+use Rattle.structures.proofs.operation.step.Lts as lts
+use Rattle.map_ascent.proofs.step.map_step.Reads as map-step-reads
+use Rattle.map_descent.proofs.bottom.get.Reads as get-reads
+use Rattle.map_descent.proofs.bottom.put.Reads as put-reads
+use Rattle.map_descent.proofs.bottom.remove.Reads as remove-reads
+use Rattle.stack_steps.proofs.pop.Reads as pop-reads
+use Rattle.stack_steps.proofs.push.Reads as push-reads
+
+-- src/operation.rt:85:17
+enum-known-op : tie.Need-enum-known-op
+enum-known-op c = search needs
+
+-- src/operation.rt:86:13
+get-requires : tie.Need-get-requires
+get-requires c κs = let s = c .before .before .before in (s .pre .0 .sized, walks-of (s .pre .0))
+
+-- src/operation.rt:85:25
+map-step-requires : tie.Need-map-step-requires
+map-step-requires c κs = let s = c .before .before .before .before .before in (s .pre .0 .sized, s .pre .1, walks-of (s .pre .0), c .before .get .ensures .ready)
+
+-- src/operation.rt:94:17
+enum-known-op-2 : tie.Need-enum-known-op-2
+enum-known-op-2 c = search needs
+
+-- src/operation.rt:95:13
+put-requires : tie.Need-put-requires
+put-requires c κs = let s = c .before .before .before in (s .pre .0 .sized, walks-of (s .pre .0))
+
+-- src/operation.rt:94:32
+map-step-requires-2 : tie.Need-map-step-requires-2
+map-step-requires-2 c κs = let s = c .before .before .before .before .before in (s .pre .0 .sized, s .pre .1, walks-of (s .pre .0), c .before .put .ensures .ready)
+
+-- src/operation.rt:103:20
+enum-known-op-3 : tie.Need-enum-known-op-3
+enum-known-op-3 c = search needs
+
+-- src/operation.rt:104:13
+remove-requires : tie.Need-remove-requires
+remove-requires c κs = let s = c .before .before .before in (s .pre .0 .sized, walks-of (s .pre .0))
+
+-- src/operation.rt:103:28
+map-step-requires-3 : tie.Need-map-step-requires-3
+map-step-requires-3 c κs = let s = c .before .before .before .before .before in (s .pre .0 .sized, s .pre .1, walks-of (s .pre .0), c .before .remove .ensures .ready)
+
+-- src/operation.rt:112:18
+enum-known-op-4 : tie.Need-enum-known-op-4
+enum-known-op-4 c = search needs
+
+-- src/operation.rt:112:28
+push-requires : tie.Need-push-requires
+push-requires c κs = c .before .before .before .before .pre .1
+
+-- src/operation.rt:113:20
+enum-told : tie.Need-enum-told
+enum-told c = search needs
+
+-- src/operation.rt:113:20
+pop-requires : tie.Need-pop-requires
+pop-requires c κs = let s = c .before .before in (s .pre .0 .sized, omega (arith, s .pre .0 .few))
+
+-- src/operation.rt:71:1
+returns : tie.Need-returns
+returns c =
+    let s = c .before .before .before .before .before .before in
+    let a = s .args in (
+      outcome-up (program-get (a .op) (a .tag) (a .limit) (a .entries) (toLink (a .root)) (c .before .before .before .before .op .given .1)) (heldIn (a .held .now) (a .count)) _ (a .root) (c .before .before .get .result)
+          (c .before .before .get .ensures) (toLink (a .root)) (a .entries) (c .map-step .ensures .0),
+      c .map-step .ensures .1,
+    )
+
+-- src/operation.rt:71:1
+returns-2 : tie.Need-returns-2
+returns-2 c =
+    let s = c .before .before .before .before .before .before in
+    let a = s .args in (
+      outcome-up (program-put (a .op) (a .tag) (a .limit) (a .entries) (toLink (a .root)) (c .before .before .before .before .op2 .given .1)) (heldIn (a .held .now) (a .count)) _ (a .root) (c .before .before .put .result)
+          (c .before .before .put .ensures) (toLink (a .root)) (a .entries) (c .map-step2 .ensures .0),
+      c .map-step2 .ensures .1,
+    )
+
+-- src/operation.rt:71:1
+returns-3 : tie.Need-returns-3
+returns-3 c =
+    let s = c .before .before .before .before .before .before in
+    let a = s .args in (
+      outcome-up (program-remove (a .op) (a .tag) (a .limit) (a .entries) (toLink (a .root)) (c .before .before .before .before .op3 .given .1)) (heldIn (a .held .now) (a .count)) _ (a .root) (c .before .before .remove .result)
+          (c .before .before .remove .ensures) (toLink (a .root)) (a .entries) (c .map-step3 .ensures .0),
+      c .map-step3 .ensures .1,
+    )
+
+-- src/operation.rt:71:1
+returns-4 : tie.Need-returns-4
+returns-4 c =
+    let a = c .before .before .before .before .before .args in
+    let h = heldIn (a .held .now) (a .count) in (
+      outcome-by (program-push (a .op) (a .tag) (a .limit) (a .entries) (toLink (a .root)) (c .before .before .before .op4 .given .1)) h (toLink (a .root)) (a .entries) (c .push .ensures .0 (nodesOf h)),
+      (omega (arith, c .push .ensures .1 .0), c .push .ensures .1 .1),
+    )
+
+-- src/operation.rt:71:1
+returns-5 : tie.Need-returns-5
+returns-5 c =
+    let s = c .before .before .before in
+    let a = s .args in
+    let h = heldIn (a .held .now) (a .count) in
+    let none = c .pop .ensures .1 in (
+      rw none (outcome-by (program-pop (a .op) (a .tag) (a .limit) (a .entries) (toLink (a .root)) (c .before .enum-told .given .1)) h (toLink (a .root)) (a .entries) (c .pop .ensures .0)),
+      (omega arith, s .pre .1),
+    )
+
+pub step-spec : {M : Type 1} → statement M
+step-spec =
+    tie.close
+    (tie.spec
+    enum-known-op
+    get-requires
+    map-step-requires
+    enum-known-op-2
+    put-requires
+    map-step-requires-2
+    enum-known-op-3
+    remove-requires
+    map-step-requires-3
+    enum-known-op-4
+    push-requires
+    enum-told
+    pop-requires
+    returns
+    returns-2
+    returns-3
+    returns-4
+    returns-5)

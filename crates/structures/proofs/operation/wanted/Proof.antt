@@ -1,0 +1,132 @@
+use mathlib.Core.Path.{_∙_, ap}
+use native.Mathlib.Omega.{arith}
+use Rattle.leaf_spec.specs.Convert.{toLink}
+use Rattle.node_rows.specs.Held.{heldIn, nodesOf}
+use Rattle.structures.specs.OperationLaws.{walks-of, program-get, program-put, program-remove, program-push, program-pop, push-wants-none, wanted-by, wanted-up}
+use native.Mathlib.Omega.{arith}
+use borrow.Author.Needs.{needs}
+use Rattle.structures.proofs.operation.wanted.Statement.{statement}
+use Rattle.structures.proofs.operation.wanted.Tie as tie
+use Rattle.structures.proofs.operation.wanted.Reads as reads
+use Rattle.structures.proofs.operation.wanted.Lts as lts
+use Rattle.map_ascent.proofs.step.map_wanted.Reads as map-wanted-reads
+use Rattle.map_descent.proofs.bottom.get.Reads as get-reads
+use Rattle.map_descent.proofs.bottom.put.Reads as put-reads
+use Rattle.map_descent.proofs.bottom.remove.Reads as remove-reads
+use Rattle.stack_steps.proofs.pop_wanted.Reads as pop-wanted-reads
+
+-- src/operation.rt:40:17
+enum-known-op : tie.Need-enum-known-op
+enum-known-op c = search needs
+
+-- src/operation.rt:41:13
+get-requires : tie.Need-get-requires
+get-requires c κs = let s = c .before .before .before in (s .pre .0 .sized, walks-of (s .pre .0))
+
+-- src/operation.rt:40:25
+map-wanted-requires : tie.Need-map-wanted-requires
+map-wanted-requires c κs = let s = c .before .before .before .before .before in (s .pre .0 .sized, s .pre .1, walks-of (s .pre .0), c .before .get .ensures .ready)
+
+-- src/operation.rt:48:17
+enum-known-op-2 : tie.Need-enum-known-op-2
+enum-known-op-2 c = search needs
+
+-- src/operation.rt:49:13
+put-requires : tie.Need-put-requires
+put-requires c κs = let s = c .before .before .before in (s .pre .0 .sized, walks-of (s .pre .0))
+
+-- src/operation.rt:48:32
+map-wanted-requires-2 : tie.Need-map-wanted-requires-2
+map-wanted-requires-2 c κs = let s = c .before .before .before .before .before in (s .pre .0 .sized, s .pre .1, walks-of (s .pre .0), c .before .put .ensures .ready)
+
+-- src/operation.rt:56:20
+enum-known-op-3 : tie.Need-enum-known-op-3
+enum-known-op-3 c = search needs
+
+-- src/operation.rt:57:13
+remove-requires : tie.Need-remove-requires
+remove-requires c κs = let s = c .before .before .before in (s .pre .0 .sized, walks-of (s .pre .0))
+
+-- src/operation.rt:56:28
+map-wanted-requires-3 : tie.Need-map-wanted-requires-3
+map-wanted-requires-3 c κs = let s = c .before .before .before .before .before in (s .pre .0 .sized, s .pre .1, walks-of (s .pre .0), c .before .remove .ensures .ready)
+
+-- src/operation.rt:64:24
+enum-told : tie.Need-enum-told
+enum-told c = search needs
+
+-- src/operation.rt:65:20
+enum-told-2 : tie.Need-enum-told-2
+enum-told-2 c = search needs
+
+-- src/operation.rt:65:20
+pop-wanted-requires : tie.Need-pop-wanted-requires
+pop-wanted-requires c κs = let s = c .before .before in (s .pre .0 .sized, omega (arith, s .pre .0 .few))
+
+-- src/operation.rt:26:1
+returns : tie.Need-returns
+returns c =
+    let s = c .before .before .before .before .before .before in
+    let a = s .args in (
+      wanted-up (program-get (a .op) (a .tag) (a .limit) (a .entries) (toLink (a .root)) (c .before .before .before .before .op .given .1)) (heldIn (a .held .now) (a .count)) _ (a .root) (c .before .before .get .result)
+          (c .before .before .get .ensures) (c .map-wanted .ensures .0),
+      c .map-wanted .ensures .1,
+    )
+
+-- src/operation.rt:26:1
+returns-2 : tie.Need-returns-2
+returns-2 c =
+    let s = c .before .before .before .before .before .before in
+    let a = s .args in (
+      wanted-up (program-put (a .op) (a .tag) (a .limit) (a .entries) (toLink (a .root)) (c .before .before .before .before .op2 .given .1)) (heldIn (a .held .now) (a .count)) _ (a .root) (c .before .before .put .result)
+          (c .before .before .put .ensures) (c .map-wanted2 .ensures .0),
+      c .map-wanted2 .ensures .1,
+    )
+
+-- src/operation.rt:26:1
+returns-3 : tie.Need-returns-3
+returns-3 c =
+    let s = c .before .before .before .before .before .before in
+    let a = s .args in (
+      wanted-up (program-remove (a .op) (a .tag) (a .limit) (a .entries) (toLink (a .root)) (c .before .before .before .before .op3 .given .1)) (heldIn (a .held .now) (a .count)) _ (a .root) (c .before .before .remove .result)
+          (c .before .before .remove .ensures) (c .map-wanted3 .ensures .0),
+      c .map-wanted3 .ensures .1,
+    )
+
+-- src/operation.rt:26:1
+returns-4 : tie.Need-returns-4
+returns-4 c =
+    let s = c .before .before in
+    let a = s .args in
+    let h = heldIn (a .held .now) (a .count) in
+    (wanted-by (program-push (a .op) (a .tag) (a .limit) (a .entries) (toLink (a .root)) (c .enum-told .given .1)) h (push-wants-none _ (a .tag) (a .entries) (a .limit) (toLink (a .root)) h), s .pre .1)
+
+-- src/operation.rt:26:1
+returns-5 : tie.Need-returns-5
+returns-5 c =
+    let s = c .before .before .before in
+    let a = s .args in
+    let h = heldIn (a .held .now) (a .count) in
+    (wanted-by (program-pop (a .op) (a .tag) (a .limit) (a .entries) (toLink (a .root)) (c .before .enum-told2 .given .1)) h (c .pop-wanted .ensures), s .pre .1)
+
+pub wanted-spec : {M : Type 1} → statement M
+wanted-spec =
+    tie.close
+    (tie.spec
+    enum-known-op
+    get-requires
+    map-wanted-requires
+    enum-known-op-2
+    put-requires
+    map-wanted-requires-2
+    enum-known-op-3
+    remove-requires
+    map-wanted-requires-3
+    enum-told
+    enum-told-2
+    pop-wanted-requires
+    returns
+    returns-2
+    returns-3
+    returns-4
+    returns-5)

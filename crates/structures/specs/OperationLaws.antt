@@ -1,0 +1,86 @@
+-- The operations by their programs.
+use Prim.Native.Nat.{ℕ, _<_}
+use mathlib.Core.Path.{_≡_, sym, _∙_, ap}
+use mathlib.Core.List.{List}
+use mathlib.Core.Option.{Option, none}
+use native.Mathlib.Omega.{arith}
+use native.Mathlib.Decide.{decLt}
+use Rattle.method_spec.specs.Node.{Link}
+use Rattle.method_spec.specs.Prog.{Want, Prog, after}
+use Rattle.method_spec.specs.Map.{Outcome, getProg, putProg, removeProg}
+use Rattle.method_spec.specs.Stack.{pushProg, popProg}
+use Rattle.method_spec.specs.Call.{program}
+use Rattle.slot_spec.specs.declared.Link as link
+use Rattle.operation_spec.specs.declared.Op.{Op}
+use Rattle.operation_spec.specs.declared.Op.the-variants.{Get, Put, Remove, Push, Pop}
+use Rattle.operation_spec.specs.Method.{toOp, wantedIn, outcomeIn}
+use Rattle.operation_spec.specs.Resume.{resume, wantedOf, outcomeOf}
+use Rattle.operations.specs.ResumeLaws.{wanted-after, outcome-after}
+use Rattle.node_rows.specs.Held.{Held, heldIn, HeldFrom, nodesOf}
+use Rattle.node_rows.specs.HeldLaws.{row-places}
+use Rattle.map_descent.specs.declared.bottom.Bottom.{Bottom}
+use Rattle.map_descent.specs.Walk.{Walks}
+use Rattle.map_descent.specs.Bottom.{StartsUp}
+use Rattle.map_ascent.specs.Outcome.{fromBottom}
+use Rattle.stack_steps.specs.StackLaws.{push-full, push-one}
+use Rattle.structures.specs.Operation.{LowHeld}
+
+-- What the map's ways down and up ask.
+pub walks-of : {root : link.Link} {row : List ℕ} {count : ℕ} → LowHeld root row count → Walks root (heldIn row count)
+walks-of {row = row} low =
+    record {
+      held = record { places = row-places row (low .sized); few = low .few; within = omega arith; low = low .low };
+      root-low = low .root-low;
+    }
+
+module _ (op : Op) (tag limit entries : ℕ) (l : Link ℕ) where
+  abbrev pub programOf : Prog ℕ (Outcome ℕ)
+  programOf = program 0 (toOp op) (λ i. tag) limit entries l
+
+  abbrev at : Op → Prog ℕ (Outcome ℕ)
+  at o = program 0 (toOp o) (λ i. tag) limit entries l
+
+  pub program-get : {key : ℕ} → op ≡ Get key → programOf ≡ getProg key entries l
+  unfolding program
+  program-get e = ap at e
+
+  pub program-put : {key value : ℕ} → op ≡ Put key value → programOf ≡ putProg 0 key value tag entries limit l
+  unfolding program
+  program-put e = ap at e
+
+  pub program-remove : {key : ℕ} → op ≡ Remove key → programOf ≡ removeProg key entries l
+  unfolding program
+  program-remove e = ap at e
+
+  pub program-push : {value : ℕ} → op ≡ Push value → programOf ≡ pushProg 0 value tag entries limit l
+  unfolding program
+  program-push e = ap at e
+
+  pub program-pop : op ≡ Pop → programOf ≡ popProg entries l
+  unfolding program
+  program-pop e = ap at e
+
+-- The next wanted node and the outcome of a program, by any other that is the same.
+module _ {p q : Prog ℕ (Outcome ℕ)} (e : p ≡ q) (h : Held) where
+  pub wanted-by : {w : Option (Want ℕ)} → w ≡ wantedOf (resume q (nodesOf h)) → w ≡ wantedIn (after p (nodesOf h))
+  wanted-by f = f ∙ sym (wanted-after q (nodesOf h)) ∙ ap (λ (x : Prog ℕ (Outcome ℕ)). wantedIn (after x (nodesOf h))) (sym e)
+
+  module _ (l : Link ℕ) (entries : ℕ) where
+    pub outcome-by : {o : Outcome ℕ} → o ≡ outcomeOf l entries (resume q (nodesOf h)) → o ≡ outcomeIn l entries (after p (nodesOf h))
+    outcome-by f =
+        f ∙ sym (outcome-after l entries q (nodesOf h)) ∙ ap (λ (x : Prog ℕ (Outcome ℕ)). outcomeIn l entries (after x (nodesOf h))) (sym e)
+
+  module _ (key : ℕ) (root : link.Link) (b : Bottom) (starts : StartsUp key root h q b) where
+    pub wanted-up : {w : Option (Want ℕ)} → w ≡ wantedOf (fromBottom key root h b) → w ≡ wantedIn (after p (nodesOf h))
+    wanted-up f = wanted-by (f ∙ ap wantedOf (sym (starts .resumes)))
+
+    pub outcome-up : (l : Link ℕ) (entries : ℕ) {o : Outcome ℕ} → o ≡ outcomeOf l entries (fromBottom key root h b)
+        → o ≡ outcomeIn l entries (after p (nodesOf h))
+    outcome-up l entries f = outcome-by l entries (f ∙ ap (outcomeOf l entries) (sym (starts .resumes)))
+
+pub push-wants-none : (value tag entries limit : ℕ) (l : Link ℕ) (h : Held) → none ≡ wantedOf (resume (pushProg 0 value tag entries limit l) (nodesOf h))
+push-wants-none value tag entries limit l h = go (decLt entries limit)
+  where
+    go : Dec (entries < limit) → none ≡ wantedOf (resume (pushProg 0 value tag entries limit l) (nodesOf h))
+    go (yes k) = sym (ap wantedOf (push-one value tag entries limit l (nodesOf h) k))
+    go (no k) = sym (ap wantedOf (push-full value tag entries limit l (nodesOf h) (omega arith)))

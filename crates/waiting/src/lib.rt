@@ -1,1 +1,0 @@
-// The waiting nodes of a state as words, for the length of a call.

@@ -1,0 +1,3 @@
+pub mod InputLaws
+pub mod LinesLaws
+pub mod WalkLaws

@@ -1,5 +1,5 @@
--- The three demands, in terms of the definitions that the contracts of `open` and `call` cite: `opened` (crate state) and `called`
--- (crate store). A reader opens this file first.
+-- The three demands, in terms of the definitions that the contracts of `open` and `call` cite: `opened` (state_spec) and `called`
+-- (call_spec). A reader opens this file first.
 use Prim.Native.Nat.{ℕ, _*_, _≤_, _<_}
 use mathlib.Core.Path.{_≡_}
 use mathlib.Core.Bool.{true}

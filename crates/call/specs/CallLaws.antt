@@ -14,7 +14,7 @@ use Rattle.call_spec.specs.Store.{refusing, called}
 use Rattle.stash.specs.Stash.{Loaded, saved}
 use Rattle.stash_laws.specs.Waiting.{waitingIn}
 use Rattle.call_core.specs.declared.Head.{Head}
-use Rattle.call_core.specs.declared.ending.Ran.{Ran}
+use Rattle.call_ending.specs.declared.Ran.{Ran}
 use Rattle.call_core.specs.Run.{headOf, StandsFor, Stands, CallsAs}
 use Rattle.call_core.specs.CallLaws.{refused-1, refused-2}
 use Rattle.call.specs.Run.{endedAs}

@@ -16,7 +16,7 @@ use Rattle.slot_spec.specs.Tree.{treeLength}
 use Rattle.method_spec.specs.Node.{Node}
 use Rattle.method_spec.specs.Answer as method
 use Rattle.method_spec.specs.Answer.{Structure, get, put, remove, push, pop}
-use Rattle.method_spec.specs.Rounds.{rounds, spare, putDraw}
+use Rattle.method_spec.specs.Rounds.{rounds, spare}
 use Rattle.run_laws.specs.RoundsLaws.{some-rounds}
 use Rattle.round_laws.specs.Sorted.{ascending-distinct}
 use Rattle.round_laws.specs.ReadHalf.{distinct-none-twice}
@@ -39,13 +39,14 @@ use Rattle.fitness_laws.specs.FitState.{FitState, fit-state}
 use Rattle.fitness_laws.specs.FitStores.{fit-store}
 use Rattle.state_spec.specs.Widths.{LinkWidths, Widths}
 use Rattle.fitness_laws.specs.Tickets.{op-fits}
-use Rattle.stash.specs.Stash.{Loaded, saved}
-use Rattle.fetch_rounds.specs.declared.wanting.Job.{Job}
-use Rattle.fetch_rounds.specs.Wanting.{storeAt}
+use Rattle.stash.specs.Stash.{Loaded}
+use Rattle.want_rounds.specs.declared.Job.{Job}
+use Rattle.want_rounds.specs.Wanting.{storeAt}
 use Rattle.call_spec.specs.declared.Reply.the-variants.{Refused}
 use Rattle.call_core.specs.declared.Head.{Head}
-use Rattle.call_core.specs.declared.ending.Ran.{Ran}
-use Rattle.call_core.specs.Run.{StandsFor, Stands, leftOf, CallsAs, leftBy, endingWith, jobFor, Runs}
+use Rattle.call_ending.specs.declared.Ran.{Ran}
+use Rattle.call_ending.specs.Ending.{leftBy, endingWith}
+use Rattle.call_core.specs.Run.{StandsFor, Stands, leftOf, CallsAs, jobFor, Runs}
 
 -- Numbers each of which is below 256 are bytes.
 pub bytes-of : (l : List ℕ) → ((i : ℕ) → getD l i 0 < 256) → Bytes l

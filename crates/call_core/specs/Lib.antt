@@ -1,4 +1,3 @@
 pub mod Run
 pub mod RunLaws
-pub mod EndingLaws
 pub mod CallLaws

@@ -21,22 +21,22 @@ use Rattle.state_spec.specs.Ticket as ticket
 use Rattle.leaf_spec.specs.Convert.{toLink}
 use Rattle.operation_spec.specs.Method.{toOp, outcomeIn}
 use Rattle.node_rows.specs.Row.{words as rowWords, fromIn, fromsIn}
-use Rattle.node_rows.specs.Held.{Held, heldIn, nodesOf}
+use Rattle.node_rows.specs.Held.{Held, nodesOf}
 use Rattle.node_rows.specs.HeldLaws.{first-length}
 use Rattle.node_rows.specs.HeldLaws as row
 use Rattle.call_spec.specs.Store.{Ended}
 use Rattle.stash_laws.specs.WaitingLaws.{waiting-length}
 use Rattle.one_round.specs.OneRound.{going}
-use Rattle.fetch_rounds.specs.declared.wanting.Job.{Job}
-use Rattle.fetch_rounds.specs.declared.wanting.Fetched.{Fetched}
+use Rattle.want_rounds.specs.declared.Job.{Job}
+use Rattle.want_rounds.specs.declared.Fetched.{Fetched}
 use Rattle.idle_rounds.specs.IdleLaws.{draw-leaf, goes-on, stops-here}
-use Rattle.fetch_rounds.specs.Wanting.{heldBy, structureIn, programOf, storeAt, fetched, Begins, Fetches}
-use Rattle.fetch_rounds.specs.WantingLaws.{at-most, root-low, same-program, held-length}
+use Rattle.want_rounds.specs.Wanting.{structureIn, programOf, storeAt, fetched, Begins, Fetches}
+use Rattle.want_rounds.specs.WantingLaws.{at-most, root-low, same-program, held-length}
 use Rattle.fetch_rounds.specs.FetchLaws.{Done, is-done, drop-on}
-use Rattle.idle_rounds.specs.Idle.{keysHeld}
-use Rattle.call_core.specs.declared.ending.Ran.{Ran}
-use Rattle.call_core.specs.Run.{leftBy, endingWith, goingBy, outcomeOf, Shuts, ShutAs, Finishes, finishedBy, FinishedAs, Runs}
-use Rattle.call_core.specs.EndingLaws.{joined-length, numbers-first}
+use Rattle.call_ending.specs.declared.Ran.{Ran}
+use Rattle.call_ending.specs.Ending.{leftBy, endingWith, goingBy, outcomeOf, Shuts, ShutAs, Finishes, finishedBy, FinishedAs}
+use Rattle.call_core.specs.Run.{Runs}
+use Rattle.call_ending.specs.EndingLaws.{joined-length, numbers-first}
 
 -- What follows the leaves in the trace buffer is all that an end takes from it.
 ending-on : (structure size : ℕ) (trace trace′ : List ℕ) (l : Left) → drop (length (l .leaves)) trace′ ≡ drop (length (l .leaves)) trace

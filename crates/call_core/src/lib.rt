@@ -2,8 +2,8 @@
 // state, a struct or bytes, stands above it.
 use call_draws::draws_of;
 use call_draws::rounds_of;
+use call_ending::Ran;
 use call_spec::Reply;
-use ending::Ran;
 use slot_spec::Link;
 use stash_words::WORDS;
 use tickets::Asked;
@@ -15,7 +15,6 @@ ghost use mathlib.Core.Bool.{false};
 ghost use Rattle.call_spec.specs.declared.Reply.the-variants.{Refused};
 ghost use Rattle.call_core.specs.Run.{Stands, CallsAs};
 
-pub mod ending;
 pub mod run;
 
 // The head of an open state that fits; its waiting nodes are in words.

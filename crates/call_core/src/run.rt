@@ -1,10 +1,9 @@
 // The rounds and the step of a call whose checks were passed.
-use super::ending::Ran;
-use super::ending::finish;
-use super::ending::shut;
 use call_draws::spare_of;
-use fetch_rounds::fetch::fetch_rounds;
-use fetch_rounds::wanting::Job;
+use call_ending::Ran;
+use call_ending::finish;
+use call_ending::shut;
+use fetch_rounds::fetch_rounds;
 use idle_rounds::idle::draw_at;
 use node_rows::FETCHES;
 use node_rows::ROW;
@@ -12,6 +11,7 @@ use operation_spec::Op;
 use slot_spec::Link;
 use stash_words::WORDS;
 use tree_paths::leaves;
+use want_rounds::Job;
 ghost use mathlib.Core.Path.{_≡_};
 ghost use Prim.Native.Nat.{_≤_, _<_};
 ghost use lib.ListN.{length};
@@ -19,8 +19,9 @@ ghost use mathlib.Core.Bool.{true};
 ghost use Rattle.operation_spec.specs.Method.{toOp};
 ghost use Rattle.bucket_call_spec.specs.Call.{drawOf, bucketCall};
 ghost use Rattle.stash_laws.specs.Waiting.{Holds};
-ghost use Rattle.fetch_rounds.specs.Wanting.{storeAt};
-ghost use Rattle.call_core.specs.Run.{leftBy, endingWith, jobFor, Runs};
+ghost use Rattle.want_rounds.specs.Wanting.{storeAt};
+ghost use Rattle.call_ending.specs.Ending.{leftBy, endingWith};
+ghost use Rattle.call_core.specs.Run.{jobFor, Runs};
 
 // What the rounds of a call are for: a new node would get the draw after those of the fetch rounds as its tag.
 pub fn job_for(

@@ -14,13 +14,12 @@ use Rattle.run_laws.specs.Calls.{draws-length}
 use Rattle.bucket_call_spec.specs.Fetch.{Going}
 use Rattle.operation_spec.specs.Method.{wantedIn}
 use Rattle.node_rows.specs.Held.{Held, nodesOf}
-use Rattle.one_round.specs.OneRound.{going, endedWith, Rests}
+use Rattle.one_round.specs.OneRound.{going}
 use Rattle.idle_rounds.specs.declared.idle.Idle.{Idle}
-use Rattle.fetch_rounds.specs.declared.wanting.Job.{Job}
-use Rattle.fetch_rounds.specs.declared.wanting.Fetched.{Fetched}
-use Rattle.idle_rounds.specs.Idle.{Between, keysHeld, IdledAll}
-use Rattle.fetch_rounds.specs.Wanting.{heldBy, structureIn, programOf, Begins, Walked, Fetches}
-use Rattle.fetch_rounds.specs.WantingLaws.{rounds-left, done-rounds, walked-few}
+use Rattle.want_rounds.specs.declared.Job.{Job}
+use Rattle.idle_rounds.specs.Idle.{Between, IdledAll}
+use Rattle.want_rounds.specs.Wanting.{heldBy, structureIn, programOf, Begins, Walked, Fetches}
+use Rattle.want_rounds.specs.WantingLaws.{rounds-left, done-rounds, walked-few}
 
 -- A program that wants none is done.
 pub record Done (q : Prog ℕ (Outcome ℕ)) : Type 0 where

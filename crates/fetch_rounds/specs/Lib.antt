@@ -1,5 +1,1 @@
-pub mod Splits
-pub mod Wanting
-pub mod WantingLaws
-pub mod WalkLaws
 pub mod FetchLaws

@@ -14,9 +14,9 @@ use Rattle.map_nodes.specs.declared.Sub as sub
 use Rattle.map_nodes.specs.Method.{toSub}
 use Rattle.map_nodes.specs.Heights.{LowSub}
 use Rattle.map_nodes.specs.Upward.{upward, weight}
-use Rattle.map_descent.specs.declared.bottom.Bottom.{Bottom}
+use Rattle.map_changes.specs.declared.Bottom.{Bottom}
 use Rattle.map_descent.specs.PathTo.{pathTo}
-use Rattle.map_descent.specs.Bottom.{wayUp}
+use Rattle.map_changes.specs.Bottom.{wayUp}
 use Rattle.map_ascent.specs.declared.climb.Climbed.{Climbed}
 
 -- More nodes after the first `count` of a row.

@@ -35,11 +35,11 @@ use Rattle.rotations.specs.declared.raise.Others.{Others}
 use Rattle.rotations.specs.declared.raise.Raised.{Raised}
 use Rattle.rotations.specs.Raise.{Raises, builtOf, listOf, level}
 use Rattle.rotations.specs.LevelLaws.{Kept, raise-kept, rest-kept}
-use Rattle.map_descent.specs.declared.bottom.Bottom.{Bottom}
+use Rattle.map_changes.specs.declared.Bottom.{Bottom}
 use Rattle.map_descent.specs.Walk.{Walks}
 use Rattle.map_descent.specs.PathTo.{stepTo, pathTo}
 use Rattle.map_descent.specs.PathLaws.{path-more}
-use Rattle.map_descent.specs.Bottom.{Ready, wayUp}
+use Rattle.map_changes.specs.Bottom.{Ready, wayUp}
 use Rattle.map_ascent.specs.Climb.{Lists, stepsTo, ClimbsTo, Climbing}
 
 -- ---- the method's way up

@@ -11,8 +11,8 @@ use Rattle.node_rows.specs.Held.{Held, nodesOf}
 use Rattle.map_nodes.specs.Method.{toSub}
 use Rattle.map_nodes.specs.Heights.{LowSub}
 use Rattle.map_nodes.specs.Upward.{weight}
-use Rattle.map_descent.specs.declared.bottom.Bottom.{Bottom}
-use Rattle.map_descent.specs.Bottom.{upFrom}
+use Rattle.map_changes.specs.declared.Bottom.{Bottom}
+use Rattle.map_changes.specs.Bottom.{upFrom}
 use Rattle.map_ascent.specs.declared.climb.Climbed.{Climbed}
 
 -- What comes of the way up from the bottom.

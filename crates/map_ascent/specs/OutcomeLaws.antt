@@ -25,8 +25,8 @@ use Rattle.map_nodes.specs.declared.Kid.{Kid}
 use Rattle.map_nodes.specs.declared.Kid.the-variants.{Away, Here}
 use Rattle.map_nodes.specs.Method.{toKid, toSub}
 use Rattle.map_nodes.specs.Upward.{upward}
-use Rattle.map_descent.specs.declared.bottom.Bottom.{Bottom}
-use Rattle.map_descent.specs.Bottom.{wayUp}
+use Rattle.map_changes.specs.declared.Bottom.{Bottom}
+use Rattle.map_changes.specs.Bottom.{wayUp}
 use Rattle.map_ascent.specs.declared.climb.Climbed.{Climbed}
 use Rattle.map_ascent.specs.Climb.{Lists, climbedIn, ClimbsTo}
 use Rattle.map_ascent.specs.ClimbLaws.{lists-then}

@@ -1,5 +1,5 @@
 // The way up from the place of a change to the root. Nodes that are done with go into the first places of a lent row.
-use map_descent::bottom::Bottom;
+use map_changes::Bottom;
 use map_descent::path_steps::step_to;
 use map_nodes::Kid;
 use map_nodes::Sub;
@@ -19,7 +19,7 @@ ghost use Rattle.node_rows.specs.Held.{heldIn};
 ghost use Rattle.map_nodes.specs.Method.{toKid};
 ghost use Rattle.rotations.specs.Raise.{listOf};
 ghost use Rattle.map_descent.specs.Walk.{Walks};
-ghost use Rattle.map_descent.specs.Bottom.{Ready};
+ghost use Rattle.map_changes.specs.Bottom.{Ready};
 ghost use Rattle.map_ascent.specs.Climb.{Lists, ClimbsTo};
 
 // One more node in a row's next place, if it is at hand: how many there are then.

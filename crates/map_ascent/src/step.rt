@@ -2,7 +2,7 @@
 use super::climb::Climbed;
 use super::climb::climb;
 use super::climb::list_kid;
-use map_descent::bottom::Bottom;
+use map_changes::Bottom;
 use map_nodes::subtree::kid_of;
 use map_nodes::subtree::link_of;
 use map_nodes::subtree::top_of;
@@ -21,7 +21,7 @@ ghost use Rattle.operation_spec.specs.Resume.{wantedOf, outcomeOf};
 ghost use Rattle.node_rows.specs.Row.{places, words};
 ghost use Rattle.node_rows.specs.Held.{heldIn, nodesOf};
 ghost use Rattle.map_descent.specs.Walk.{Walks};
-ghost use Rattle.map_descent.specs.Bottom.{Ready};
+ghost use Rattle.map_changes.specs.Bottom.{Ready};
 ghost use Rattle.map_ascent.specs.Climb.{climbedIn};
 ghost use Rattle.map_ascent.specs.Outcome.{RoomToFinish, fromBottom};
 

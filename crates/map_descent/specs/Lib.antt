@@ -3,5 +3,3 @@ pub mod WalkLaws
 pub mod LowestLaws
 pub mod PathTo
 pub mod PathLaws
-pub mod Bottom
-pub mod BottomLaws

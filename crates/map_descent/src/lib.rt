@@ -1,5 +1,4 @@
-// The map's walk down over the nodes that a call has fetched: by key, then to where each operation's change stands, and the
-// steps that it passed on its way.
-pub mod bottom;
+// The map's walk down over the nodes that a call has fetched: by key, to the next larger one, and the steps that it passed on
+// its way.
 pub mod descend;
 pub mod path_steps;

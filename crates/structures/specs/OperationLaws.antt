@@ -18,9 +18,9 @@ use Rattle.operation_spec.specs.Resume.{resume, wantedOf, outcomeOf}
 use Rattle.operations.specs.ResumeLaws.{wanted-after, outcome-after}
 use Rattle.node_rows.specs.Held.{Held, heldIn, HeldFrom, nodesOf}
 use Rattle.node_rows.specs.HeldLaws.{row-places}
-use Rattle.map_descent.specs.declared.bottom.Bottom.{Bottom}
+use Rattle.map_changes.specs.declared.Bottom.{Bottom}
 use Rattle.map_descent.specs.Walk.{Walks}
-use Rattle.map_descent.specs.Bottom.{StartsUp}
+use Rattle.map_changes.specs.Bottom.{StartsUp}
 use Rattle.map_ascent.specs.Outcome.{fromBottom}
 use Rattle.stack_steps.specs.StackLaws.{push-full, push-one}
 use Rattle.structures.specs.Operation.{LowHeld}

@@ -6,9 +6,9 @@ use Rattle.call_core.proofs.run.run.Statement.{statement}
 use Rattle.call_core.proofs.run.run.Tie as tie
 use Rattle.call_core.proofs.run.run.Reads as reads
 use Rattle.call_core.proofs.run.run.Lts as lts
-use Rattle.call_core.proofs.ending.finish.Reads as finish-reads
-use Rattle.call_core.proofs.ending.shut.Reads as shut-reads
-use Rattle.fetch_rounds.proofs.fetch.fetch_rounds.Reads as fetch-rounds-reads
+use Rattle.call_ending.proofs.finish.Reads as finish-reads
+use Rattle.call_ending.proofs.shut.Reads as shut-reads
+use Rattle.fetch_rounds.proofs.fetch_rounds.Reads as fetch-rounds-reads
 
 -- src/run.rt:79:9
 slice-aggregate-fetch-rounds : tie.Need-slice-aggregate-fetch-rounds

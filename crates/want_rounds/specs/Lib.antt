@@ -1,0 +1,4 @@
+pub mod Splits
+pub mod Wanting
+pub mod WantingLaws
+pub mod WalkLaws

@@ -9,7 +9,7 @@ use slots::reading;
 use slots::slot_of;
 ghost use mathlib.Core.Path.{_≡_};
 ghost use mathlib.Core.List.{map};
-ghost use Prim.Native.Nat.{_+_, _≤_, _<_};
+ghost use Prim.Native.Nat.{_+_, _*_, _≤_, _<_};
 ghost use lib.ListN.{length, take, drop, getD, replicate};
 ghost use lib.Seq.{sets};
 ghost use Rattle.slot_spec.specs.Tree.{slotLength, bucketLength};
@@ -57,4 +57,12 @@ pub fn write_bucket(part: &mut [u8], slots: [Slot; 4], count: usize)
         store(part, SLOT_LENGTH * j, slot_or_zero(slots, count, j));
         j += 1;
     }
+}
+
+// One slot of a bucket is written: number j of its four-slot part of a lent tree.
+pub fn write_in(part: &mut [u8], j: usize, x: Slot)
+    requires { ⌜ (length (now part) ≡ bucketLength) × (j < 4) ⌝ }
+    ensures { λ _. ⌜ now (part .exit) ≡ sets (now (part .entry)) (32 * j) (slotBytes x) ⌝ }
+{
+    store(part, SLOT_LENGTH * j, x);
 }

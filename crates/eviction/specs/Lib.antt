@@ -1,3 +1,2 @@
-pub mod ClearLaws
 pub mod Settle
 pub mod SettleLaws

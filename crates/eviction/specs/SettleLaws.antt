@@ -8,15 +8,15 @@ use native.Mathlib.Omega.{arith}
 use lib.Dec.{ltb}
 use lib.ListN.{length, take, drop, getD, set, replicate, length-append, length-take, length-drop, length-set, length-map, drop-of-length-le, List·getD-map}
 use lib.Pow.{pow-pos}
-use lib.Seq.{sets, drop-cons, getD-take, getD-drop, drop-drop, take-suc, take-suc-set, take-set-lt, take-take}
-use borrow.Author.Tests.{ltb-true, lt-ltb, le-ltb}
+use lib.Seq.{sets, getD-take, getD-drop, take-suc, take-suc-set, take-set-lt, take-take}
+use borrow.Author.Tests.{ltb-true}
 use Rattle.list_spec.specs.Choice.{pick}
 use Rattle.list_laws.specs.DistinctLaws.{all-getD}
-use Rattle.slot_spec.specs.Tree.{path, pathBucket, leafBucket, bucketStart, bucketLength, treeLength}
+use Rattle.slot_spec.specs.Tree.{path, pathBucket, leafBucket, bucketStart, treeLength}
 use Rattle.slot_laws.specs.TreeLaws.{halvings-length}
 use Rattle.slot_spec.specs.Slot.{slotBytes, fieldsIn}
 use Rattle.slot_spec.specs.declared.Slot.{Slot}
-use Rattle.round_spec.specs.Round.{Written, withBucket, writeHalf}
+use Rattle.round_spec.specs.Round.{Written, writeHalf}
 use Rattle.round_spec.specs.Nodes.{wordsFormat}
 use Rattle.word_round_laws.specs.Words.{places, wordCount, levels, Leaves}
 use Rattle.slot_spec.specs.Row.{slotsOf, zeroSlot}
@@ -31,22 +31,6 @@ use Rattle.word_round_laws.specs.StoreLaws.{written-more, written-length, clear
 use Rattle.eviction.specs.Settle.{PathFilled, Settled}
 
 -- ---- room
-crowded-none : crowded [] ≡ 0
-unfolding crowded
-crowded-none = refl
-
--- From a level up: it has room, or it has not.
-pub crowded-here : (us : List ℕ) (i : ℕ) → i < length us → getD us i 0 < 4 → crowded (drop i us) ≡ 0
-unfolding crowded
-crowded-here us i h r = rw (drop-cons us i 0 h, lt-ltb (getD us i 0) 4 r)
-
-pub crowded-past : (us : List ℕ) (i : ℕ) → i < length us → 4 ≤ getD us i 0 → i + crowded (drop i us) ≡ (i + 1) + crowded (drop (i + 1) us)
-unfolding crowded
-crowded-past us i h r = rw (drop-cons us i 0 h, le-ltb (getD us i 0) 4 r, add-one i) (omega arith)
-
-pub crowded-end : (us : List ℕ) (i : ℕ) → length us ≤ i → crowded (drop i us) ≡ 0
-crowded-end us i h = rw (drop-of-length-le us {i = i} h) crowded-none
-
 crowded-room : (us : List ℕ) → crowded us < length us → getD us (crowded us) 0 < 4
 unfolding crowded
 crowded-room [] h = let z : ⊥ = omega arith in absurd z
@@ -246,11 +230,6 @@ pub path-filled : (k t : ℕ) (tree : List ℕ) (xs : List Slot) (now used waiti
     → Placing k t tree xs now used waiting kept → PathFilled k t xs m tree waiting now kept
 path-filled k t tree xs now used waiting m kept h p =
     record { sized = p .sized; fewer = h; half = evict-fill wordsFormat k (path k t) xs tree ∙ rw (p .left, p .filled) }
-
--- A part of the tree that was lent and written is a bucket's.
-pub bucket-lent : (tree part : List ℕ) (b a n : ℕ) → a ≡ bucketStart b → n ≡ bucketLength → take a tree ++ (part ++ drop n (drop a tree)) ≡ withBucket tree b part
-unfolding withBucket
-bucket-lent tree part b a n p q = rw (drop-drop n a tree, p, q)
 
 -- ---- one taken out
 pub removed-part : (want : Bool) (at : ℕ) (ws : List Slot) → Part (removed want at ws) ws

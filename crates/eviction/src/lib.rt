@@ -1,82 +1,29 @@
 // The write half of a round: the path's buckets are filled from the leaf up, and what is left waits. One pass over the slots does
 // it: in key order, each goes to the lowest bucket of the path that its own path passes and that has room.
-use path_levels::BUCKET_SLOTS;
+use bucket_writer::write_in;
+use path_clearing::clear_path;
 use path_levels::LEVELS;
 use path_levels::meet;
 use path_levels::start_at;
 use path_reader::PATH_SLOTS;
+use path_room::room_from;
 use slot_spec::BUCKET_LENGTH;
-use slot_spec::SLOT_LENGTH;
 use slot_spec::Slot;
-use slot_words::store;
 use slots::tag_of;
 use stash_words::WORDS;
 use stash_words::get;
 use stash_words::put;
 ghost use mathlib.Core.Path.{_≡_};
-ghost use Prim.Native.Nat.{_+_, _*_, _%_, _^_, _<_, _≤_};
+ghost use Prim.Native.Nat.{_+_, _*_, _^_, _<_, _≤_};
 ghost use lib.ListN.{length, take};
 ghost use lib.Seq.{sets};
-ghost use Rattle.slot_spec.specs.Tree.{path, pathBucket, bucketStart, slotLength, bucketLength, treeLength};
+ghost use Rattle.slot_spec.specs.Tree.{path, pathBucket, bucketStart, treeLength};
 ghost use Rattle.slot_spec.specs.Slot.{slotBytes};
-ghost use Rattle.word_round_laws.specs.Words.{places, wordCount, levels, Leaves};
-ghost use Rattle.slot_spec.specs.Row.{slotsOf, zeroSlot};
+ghost use Rattle.word_round_laws.specs.Words.{places, wordCount, Leaves};
+ghost use Rattle.slot_spec.specs.Row.{slotsOf};
 ghost use Rattle.word_round_laws.specs.Stash.{without};
 ghost use Rattle.word_round_laws.specs.Gather.{PathGathered};
-ghost use Rattle.word_round_laws.specs.Fill.{roomFrom, cleared};
 ghost use Rattle.eviction.specs.Settle.{PathFilled, Joint, Settled};
-
-// The first level from a given one up whose bucket has room, of the numbers of slots that are used at each; size + 1 if none has.
-fn room_from(used: &[usize; LEVELS], size: usize, from: usize) -> usize
-    requires { ⌜ (length (now used) ≡ levels) × (size ≤ 15) × (from ≤ size) ⌝ }
-    ensures { λ r. ⌜ r ≡ roomFrom from (take (size + 1) (now (used .entry))) ⌝ }
-{
-    let mut level = from;
-    while level <= size {
-        if used[level] < BUCKET_SLOTS {
-            return level;
-        }
-        level += 1;
-    }
-    level
-}
-
-// One slot of a bucket is written: number j of its four-slot part of a lent tree.
-fn write_in(part: &mut [u8], j: usize, x: Slot)
-    requires { ⌜ (length (now part) ≡ bucketLength) × (j < 4) ⌝ }
-    ensures { λ _. ⌜ now (part .exit) ≡ sets (now (part .entry)) (32 * j) (slotBytes x) ⌝ }
-{
-    store(part, SLOT_LENGTH * j, x);
-}
-
-// The slot that starts at a byte gets zero bytes: its bucket's part of the tree is lent on.
-fn clear_slot(tree: &mut [u8], size: usize, at: usize)
-    requires { ⌜ (length (now tree) ≡ treeLength size) × (at + slotLength ≤ length (now tree)) × (at < 2 ^ 24) × (at % slotLength ≡ 0) ⌝ }
-    ensures { λ _. ⌜ now (tree .exit) ≡ sets (now (tree .entry)) at (slotBytes zeroSlot) ⌝ }
-{
-    let a = at / BUCKET_LENGTH * BUCKET_LENGTH;
-    let e = a + BUCKET_LENGTH;
-    let none = Slot {
-        a: 0,
-        b: 0,
-        c: 0,
-        d: 0,
-    };
-    write_in(&mut tree[a..e], (at - a) / SLOT_LENGTH, none);
-}
-
-// The buckets of a leaf's path get zero bytes. Only the full slots are written, whose starts the read half gathered: the others
-// are zero already.
-fn clear_path(tree: &mut [u8], size: usize, leaf: usize, from: &[u32; PATH_SLOTS], full: usize)
-    requires { ⌜ (size ≤ 15) × (leaf < 2 ^ size) × (length (now tree) ≡ treeLength size) × PathGathered size leaf (now tree) (now from) full ⌝ }
-    ensures { λ _. ⌜ now (tree .exit) ≡ cleared (now (tree .entry)) (path size leaf) ⌝ }
-{
-    let mut i = 0;
-    while i < full {
-        clear_slot(tree, size, from[i] as usize);
-        i += 1;
-    }
-}
 
 // A slot is stored as number j of the path's bucket at a level: the bucket's part of the tree is lent on.
 fn store_slot(tree: &mut [u8], size: usize, leaf: usize, level: usize, j: usize, x: Slot)

@@ -17,7 +17,7 @@ use Rattle.map_nodes.specs.Upward.{upward, weight}
 use Rattle.map_changes.specs.declared.Bottom.{Bottom}
 use Rattle.map_descent.specs.PathTo.{pathTo}
 use Rattle.map_changes.specs.Bottom.{wayUp}
-use Rattle.map_ascent.specs.declared.climb.Climbed.{Climbed}
+use Rattle.map_ascent.specs.declared.Climbed.{Climbed}
 
 -- More nodes after the first `count` of a row.
 pub record Lists (ws : List ℕ) (count : ℕ) (more : List (Node ℕ)) (ws′ : List ℕ) (count′ : ℕ) : Type 0 where

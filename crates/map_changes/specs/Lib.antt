@@ -1,2 +1,1 @@
 pub mod Bottom
-pub mod BottomLaws

@@ -1,8 +1,5 @@
-// The walk of each of the map's operations down to where its change stands.
-use map_descent::descend::End;
+// Where an operation of the map changes it, and what it changes: the subtree there, and the answer.
 use map_descent::descend::Lowest;
-use map_descent::descend::descend;
-use map_descent::descend::next_larger;
 use map_nodes::Kid;
 use map_nodes::Sub;
 use node_rows::ROW;
@@ -10,20 +7,16 @@ use node_rows::node_at;
 use operation_spec::Answer;
 use operation_spec::Want;
 use operation_spec::Wanted;
-use operations::one_less;
 use slot_spec::Link;
 use slot_spec::Node;
 use slots::no_link;
 ghost use mathlib.Core.Path.{_≡_};
 ghost use mathlib.Core.Bool.{true, false};
-ghost use Prim.Native.Nat.{_+_, _<_, pred};
+ghost use Prim.Native.Nat.{_+_, _<_};
 ghost use lib.ListN.{length};
-ghost use Rattle.method_spec.specs.Map.{getProg, putProg, removeProg};
-ghost use Rattle.leaf_spec.specs.Convert.{toLink};
 ghost use Rattle.node_rows.specs.Row.{words, fetches};
 ghost use Rattle.node_rows.specs.Held.{heldIn, HeldFrom};
-ghost use Rattle.map_descent.specs.Walk.{Walks};
-ghost use Rattle.map_changes.specs.Bottom.{StartsUp, unfinishedAt, bottomAt, leafOf, valued, pastFound};
+ghost use Rattle.map_changes.specs.Bottom.{unfinishedAt, bottomAt, leafOf, valued, pastFound};
 
 // Where the way up starts: the subtree there, the path to it over the first fetched nodes (see path_steps), how many
 // fetched nodes are taken so far, and what the step makes of the entries and answers; or the node that is missing.
@@ -39,7 +32,7 @@ pub struct Bottom {
 }
 
 // The node that is missing.
-fn unfinished(want: Want) -> Bottom
+pub fn unfinished(want: Want) -> Bottom
     ensures { λ r. ⌜ r ≡ unfinishedAt want ⌝ }
 {
     let link = want.link;
@@ -56,7 +49,7 @@ fn unfinished(want: Want) -> Bottom
 }
 
 // A subtree at the end of a path of that length.
-fn bottom_at(
+pub fn bottom_at(
     rotating: bool,
     sub: Sub,
     length: usize,
@@ -79,7 +72,7 @@ fn bottom_at(
 }
 
 // The place where the key would be, with its link as it is.
-fn at_gap(want: Want, depth: usize, entries: u16, answer: Answer) -> Bottom
+pub fn at_gap(want: Want, depth: usize, entries: u16, answer: Answer) -> Bottom
     ensures { λ r. ⌜ r ≡ bottomAt false (Sub.Stub (want .link)) depth depth entries answer ⌝ }
 {
     let link = want.link;
@@ -87,7 +80,7 @@ fn at_gap(want: Want, depth: usize, entries: u16, answer: Answer) -> Bottom
 }
 
 // The node with the key, as it is.
-fn at_node(n: Node, depth: usize, entries: u16, answer: Answer) -> Bottom
+pub fn at_node(n: Node, depth: usize, entries: u16, answer: Answer) -> Bottom
     requires { ⌜ depth < fetches ⌝ }
     ensures { λ r. ⌜ r ≡ bottomAt false (Sub.Top n Kid.Away Kid.Away) depth (depth + 1) entries answer ⌝ }
 {
@@ -96,7 +89,7 @@ fn at_node(n: Node, depth: usize, entries: u16, answer: Answer) -> Bottom
 }
 
 // The place of the next larger key's node: its right link takes that, and its entry goes to the node `found`.
-fn past_found(
+pub fn past_found(
     y: Lowest,
     found: usize,
     entries: u16,
@@ -128,26 +121,7 @@ fn past_found(
     }
 }
 
-// A get changes nothing but tags.
-pub fn get(key: u32, entries: u16, root: Link, held: &[u64; ROW], count: usize) -> Bottom
-    requires { ⌜ (length (now held) ≡ words) × Walks root (heldIn (now held) count) ⌝ }
-    ensures { λ r. ⌜ StartsUp key root (heldIn (now (held .entry)) count) (getProg key entries (toLink root)) r ⌝ }
-{
-    let d = descend(key, root, held, count);
-    let want = d.want;
-    let depth = d.depth;
-    let end = d.end;
-    match end {
-        End::Missing => unfinished(want),
-        End::Gap => at_gap(want, depth, entries, Answer::Absent),
-        End::Hit => {
-            let n = node_at(held, depth);
-            at_node(n, depth, entries, Answer::Found(n.value))
-        }
-    }
-}
-
-fn leaf(key: u32, value: u64, tag: u16) -> Node
+pub fn leaf(key: u32, value: u64, tag: u16) -> Node
     ensures { λ r. ⌜ r ≡ leafOf key value tag ⌝ }
 {
     let none = no_link();
@@ -161,7 +135,7 @@ fn leaf(key: u32, value: u64, tag: u16) -> Node
 }
 
 // A new node where the key would be.
-fn added(key: u32, value: u64, tag: u16, depth: usize, entries: u16) -> Bottom
+pub fn added(key: u32, value: u64, tag: u16, depth: usize, entries: u16) -> Bottom
     requires { ⌜ entries < 65535 ⌝ }
     ensures { λ r. ⌜ r ≡ bottomAt true (Sub.Top (leafOf key value tag) Kid.Away Kid.Away) depth depth (entries + 1) Answer.New ⌝ }
 {
@@ -171,7 +145,7 @@ fn added(key: u32, value: u64, tag: u16, depth: usize, entries: u16) -> Bottom
 }
 
 // The node with the key, with the new value.
-fn replaced(n: Node, value: u64, depth: usize, entries: u16) -> Bottom
+pub fn replaced(n: Node, value: u64, depth: usize, entries: u16) -> Bottom
     requires { ⌜ depth < fetches ⌝ }
     ensures { λ r. ⌜ r ≡ bottomAt false (Sub.Top (valued value n) Kid.Away Kid.Away) depth (depth + 1) entries (Answer.Replaced (n .value)) ⌝ }
 {
@@ -187,76 +161,11 @@ fn replaced(n: Node, value: u64, depth: usize, entries: u16) -> Bottom
     )
 }
 
-// A put replaces the value of a present key, or adds a node with the new tag. The full rule comes first.
-pub fn put(
-    key: u32,
-    value: u64,
-    tag: u16,
-    limit: u16,
-    entries: u16,
-    root: Link,
-    held: &[u64; ROW],
-    count: usize,
-) -> Bottom
-    requires { ⌜ (length (now held) ≡ words) × Walks root (heldIn (now held) count) ⌝ }
-    ensures { λ r. ⌜ StartsUp key root (heldIn (now (held .entry)) count) (putProg 0 key value tag entries limit (toLink root)) r ⌝ }
-{
-    let d = descend(key, root, held, count);
-    let want = d.want;
-    let depth = d.depth;
-    let end = d.end;
-    match end {
-        End::Missing => unfinished(want),
-        End::Gap => {
-            if entries < limit {
-                return added(key, value, tag, depth, entries);
-            }
-            at_gap(want, depth, entries, Answer::Full)
-        }
-        End::Hit => {
-            let n = node_at(held, depth);
-            if entries < limit {
-                return replaced(n, value, depth, entries);
-            }
-            at_node(n, depth, entries, Answer::Full)
-        }
-    }
-}
-
 // The place of the node with the key: its only child's link, or an absent one, takes that.
-fn taken_out(child: Link, depth: usize, entries: u16, value: u64) -> Bottom
+pub fn taken_out(child: Link, depth: usize, entries: u16, value: u64) -> Bottom
     requires { ⌜ depth < fetches ⌝ }
     ensures { λ r. ⌜ r ≡ bottomAt true (Sub.Stub child) depth (depth + 1) entries (Answer.Removed value) ⌝ }
 {
     let sub = Sub::Stub(child);
     bottom_at(true, sub, depth, depth + 1, entries, Answer::Removed(value))
-}
-
-// A remove takes the node with the key out of the tree. One with two children leaves its place to the next larger key's node.
-pub fn remove(key: u32, entries: u16, root: Link, held: &[u64; ROW], count: usize) -> Bottom
-    requires { ⌜ (length (now held) ≡ words) × Walks root (heldIn (now held) count) ⌝ }
-    ensures { λ r. ⌜ StartsUp key root (heldIn (now (held .entry)) count) (removeProg key entries (toLink root)) r ⌝ }
-{
-    let d = descend(key, root, held, count);
-    let want = d.want;
-    let depth = d.depth;
-    let end = d.end;
-    match end {
-        End::Missing => unfinished(want),
-        End::Gap => at_gap(want, depth, entries, Answer::Absent),
-        End::Hit => {
-            let n = node_at(held, depth);
-            let left = n.left;
-            let right = n.right;
-            let fewer = one_less(entries);
-            if left.height == 0 {
-                return taken_out(right, depth, fewer, n.value);
-            }
-            if right.height == 0 {
-                return taken_out(left, depth, fewer, n.value);
-            }
-            let y = next_larger(want, depth, held, count);
-            past_found(y, depth, fewer, n.value, held, count)
-        }
-    }
 }

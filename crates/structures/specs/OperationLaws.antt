@@ -21,7 +21,7 @@ use Rattle.node_rows.specs.HeldLaws.{row-places}
 use Rattle.map_changes.specs.declared.Bottom.{Bottom}
 use Rattle.map_descent.specs.Walk.{Walks}
 use Rattle.map_changes.specs.Bottom.{StartsUp}
-use Rattle.map_ascent.specs.Outcome.{fromBottom}
+use Rattle.map_steps.specs.Outcome.{fromBottom}
 use Rattle.stack_steps.specs.StackLaws.{push-full, push-one}
 use Rattle.structures.specs.Operation.{LowHeld}
 

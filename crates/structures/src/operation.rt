@@ -1,9 +1,9 @@
 // What an operation wants next of the nodes fetched for it so far, and its step once it wants none.
-use map_ascent::step::map_step;
-use map_ascent::step::map_wanted;
-use map_changes::get;
-use map_changes::put;
-use map_changes::remove;
+use map_operations::get;
+use map_operations::put;
+use map_operations::remove;
+use map_steps::map_step;
+use map_steps::map_wanted;
 use node_rows::ROW;
 use operation_spec::Op;
 use operation_spec::Outcome;

@@ -1,4 +1,5 @@
 // The lines that the walk program prints, each with its newline. They return the line's length.
+use answer_words::reply_word;
 use call_spec::Reply;
 use operation_spec::Answer;
 use text_writer::put_leaves;
@@ -9,24 +10,7 @@ ghost use mathlib.Core.List.{_++_};
 ghost use Prim.Native.Nat.{_≤_};
 ghost use lib.ListN.{length, take, drop};
 ghost use Rattle.io.specs.Counts.{Counts};
-ghost use Rattle.walk_spec.specs.Lines.{answerWord, answerValue, replyWord, replyValue, lineOf, shortLine, longestLine, mostLeaves, Put};
-
-fn answer_word(answer: Answer, out: &mut [u8]) -> usize
-    requires { ⌜ 8 ≤ length (now out) ⌝ }
-    ensures { λ r. ⌜ Put (answerWord answer) 0 (now (out .entry)) (now (out .exit)) r ⌝ }
-{
-    match answer {
-        Answer::Found(_) => put_text(b"found", out, 0),
-        Answer::Absent => put_text(b"absent", out, 0),
-        Answer::Replaced(_) => put_text(b"replaced", out, 0),
-        Answer::New => put_text(b"new", out, 0),
-        Answer::Removed(_) => put_text(b"removed", out, 0),
-        Answer::Pushed => put_text(b"pushed", out, 0),
-        Answer::Popped(_) => put_text(b"popped", out, 0),
-        Answer::Empty => put_text(b"empty", out, 0),
-        Answer::Full => put_text(b"refused", out, 0),
-    }
-}
+ghost use Rattle.walk_spec.specs.Lines.{answerValue, replyValue, lineOf, shortLine, longestLine, mostLeaves};
 
 fn answer_value(answer: Answer) -> u64
     ensures { λ r. ⌜ r ≡ answerValue answer ⌝ }
@@ -41,16 +25,6 @@ fn answer_value(answer: Answer) -> u64
         Answer::Popped(v) => v,
         Answer::Empty => 0,
         Answer::Full => 10,
-    }
-}
-
-fn reply_word(reply: Reply, out: &mut [u8]) -> usize
-    requires { ⌜ 8 ≤ length (now out) ⌝ }
-    ensures { λ r. ⌜ Put (replyWord reply) 0 (now (out .entry)) (now (out .exit)) r ⌝ }
-{
-    match reply {
-        Reply::Answered(answer) => answer_word(answer, out),
-        Reply::Refused(_) => put_text(b"refused", out, 0),
     }
 }
 

@@ -183,3 +183,8 @@ pub cleared-written : (bs tree : List ℕ) → cleared tree bs ≡ written words
 unfolding cleared written
 cleared-written [] tree = refl
 cleared-written (b ∷ bs) tree = cleared-written bs (withBucket tree b (bucketBytes []))
+
+-- A part of the tree that was lent and written is a bucket's.
+pub bucket-lent : (tree part : List ℕ) (b a n : ℕ) → a ≡ bucketStart b → n ≡ bucketLength → take a tree ++ (part ++ drop n (drop a tree)) ≡ withBucket tree b part
+unfolding withBucket
+bucket-lent tree part b a n p q = rw (drop-drop n a tree, p, q)

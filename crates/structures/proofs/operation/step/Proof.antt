@@ -9,10 +9,10 @@ use Rattle.structures.proofs.operation.step.Statement.{statement}
 use Rattle.structures.proofs.operation.step.Tie as tie
 use Rattle.structures.proofs.operation.step.Reads as reads
 use Rattle.structures.proofs.operation.step.Lts as lts
-use Rattle.map_ascent.proofs.step.map_step.Reads as map-step-reads
-use Rattle.map_changes.proofs.get.Reads as get-reads
-use Rattle.map_changes.proofs.put.Reads as put-reads
-use Rattle.map_changes.proofs.remove.Reads as remove-reads
+use Rattle.map_steps.proofs.map_step.Reads as map-step-reads
+use Rattle.map_operations.proofs.get.Reads as get-reads
+use Rattle.map_operations.proofs.put.Reads as put-reads
+use Rattle.map_operations.proofs.remove.Reads as remove-reads
 use Rattle.stack_steps.proofs.pop.Reads as pop-reads
 use Rattle.stack_steps.proofs.push.Reads as push-reads
 

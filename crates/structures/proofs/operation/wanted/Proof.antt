@@ -9,10 +9,10 @@ use Rattle.structures.proofs.operation.wanted.Statement.{statement}
 use Rattle.structures.proofs.operation.wanted.Tie as tie
 use Rattle.structures.proofs.operation.wanted.Reads as reads
 use Rattle.structures.proofs.operation.wanted.Lts as lts
-use Rattle.map_ascent.proofs.step.map_wanted.Reads as map-wanted-reads
-use Rattle.map_changes.proofs.get.Reads as get-reads
-use Rattle.map_changes.proofs.put.Reads as put-reads
-use Rattle.map_changes.proofs.remove.Reads as remove-reads
+use Rattle.map_steps.proofs.map_wanted.Reads as map-wanted-reads
+use Rattle.map_operations.proofs.get.Reads as get-reads
+use Rattle.map_operations.proofs.put.Reads as put-reads
+use Rattle.map_operations.proofs.remove.Reads as remove-reads
 use Rattle.stack_steps.proofs.pop_wanted.Reads as pop-wanted-reads
 
 -- src/operation.rt:40:17

@@ -1,11 +1,11 @@
 -- One call over a bucket tree, on a store that fits: F fetch rounds, the step, F put rounds.
-use Prim.Native.Nat.{ℕ, zero, suc, _+_, _%_, _^_}
-use mathlib.Core.List.{List, [], _∷_, _++_, map}
-use mathlib.Core.Option.{Option, none, some}
-use lib.ListN.{length, getD}
+use Prim.Native.Nat.{ℕ, zero, suc, _%_, _^_}
+use mathlib.Core.List.{List, []}
+use mathlib.Core.Option.{some}
+use lib.ListN.{getD}
 use Rattle.method_spec.specs.Node.{Link, Node}
-use Rattle.method_spec.specs.Prog.{Prog, done, want}
-use Rattle.method_spec.specs.Answer.{Structure, Op, Answer}
+use Rattle.method_spec.specs.Prog.{done, want}
+use Rattle.method_spec.specs.Answer.{Structure, Op}
 use Rattle.method_spec.specs.Rounds.{spareDraw, putDraw}
 use Rattle.method_spec.specs.Map.{Outcome}
 use Rattle.method_spec.specs.Call.{capacity, program}

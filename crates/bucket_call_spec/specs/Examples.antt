@@ -1,21 +1,19 @@
 -- Document 01's worked push and pop, over bytes.
 use mathlib.Core.Path.{_≡_, refl}
-use Prim.Native.Nat.{ℕ, zero, suc, _+_}
-use mathlib.Core.List.{List, [], _∷_, _++_}
-use mathlib.Core.Option.{Option, none, some}
+use mathlib.Core.List.{[], _∷_}
+use mathlib.Core.Option.{some}
 use lib.ListN.{replicate}
 use Rattle.slot_spec.specs.LittleEndian.{value, bytes}
 use Rattle.slot_spec.specs.Layout.{fields, pack}
 use Rattle.slot_spec.specs.Tree.{halvings, among}
 use Rattle.slot_spec.specs.Slot.{fieldsIn, fieldsOf, nodeOf, encode, allZero, bad, readSlot, filled}
-use Rattle.round_spec.specs.Round.{withBucket, noneTwice, allGood, readBucket, readBuckets, insert, join, takeFirst, tagged, granted, joined, grantedFrom, readHalf, choose, evict, writeHalf}
-use Rattle.method_spec.specs.Node.{Node}
+use Rattle.round_spec.specs.Round.{withBucket, noneTwice, allGood, readBucket, readBuckets, insert, join, takeFirst, tagged, granted, joined, grantedFrom, readHalf, choose, evict}
 use Rattle.method_spec.specs.Prog.{bind}
-use Rattle.method_spec.specs.Answer.{stack, Op, push, pop, pushed, popped}
+use Rattle.method_spec.specs.Answer.{stack, push, pop, popped}
 use Rattle.method_spec.specs.Rounds.{spare}
 use Rattle.method_spec.specs.Stack.{pushProg, popProg, stackTest}
 use Rattle.method_spec.specs.Call.{program, test}
-use Rattle.leaf_spec.specs.Leaf.{readLeaf, leafFormat}
+use Rattle.leaf_spec.specs.Leaf.{readLeaf}
 use Rattle.bucket_call_spec.specs.Fetch.{Left, movedLink, movedNode, closing, atClose, idleRound, tookRound, wantRound, fetchRound, fetchRounds}
 use Rattle.bucket_call_spec.specs.Call.{Store, drawOf, putRounds, afterPuts, afterFetches, bucketCall}
 

@@ -6,12 +6,11 @@ use mathlib.Core.Option.{Option, none, some}
 use lib.Dec.{eqb}
 use lib.ListN.{length}
 use Rattle.list_spec.specs.Choice.{pick}
-use Rattle.method_spec.specs.Node.{Link, Node, child, withChild, retag}
+use Rattle.method_spec.specs.Node.{Link, Node, retag}
 use Rattle.method_spec.specs.Prog.{From, root, side, Want, Prog, done, want}
 use Rattle.method_spec.specs.Answer.{Structure, Answer}
-use Rattle.method_spec.specs.Map.{Outcome}
 use Rattle.method_spec.specs.Call.{test}
-use Rattle.round_spec.specs.Round.{Wish, Hand, Written, join, readHalf, writeHalf, overflows}
+use Rattle.round_spec.specs.Round.{Wish, join, readHalf, writeHalf, overflows}
 use Rattle.leaf_spec.specs.Leaf.{leafFormat}
 
 -- A node that the call holds, as it was fetched under its new tag, and where the link to it stood.

@@ -1,9 +1,8 @@
 -- A call on a state: refused by it, or made by the core over its head and its waiting nodes' words.
 use mathlib.Core.Path.{_≡_, refl, sym, _∙_, ap}
-use mathlib.Core.Bool.{Bool, true, false, _&&_}
+use mathlib.Core.Bool.{Bool, true, false}
 use mathlib.Core.List.{List}
 use Prim.Native.Nat.{ℕ}
-use borrow.Author.Tests.{eq-eqb, ne-eqb}
 use Rattle.state_spec.specs.declared.State.{State}
 use Rattle.state_spec.specs.Fit.{fits, placesFit}
 use Rattle.state_spec.specs.Head.{headFits}
@@ -13,10 +12,8 @@ use Rattle.call_spec.specs.declared.Reply.the-variants.{Refused}
 use Rattle.call_spec.specs.Store.{refusing, called}
 use Rattle.stash.specs.Stash.{Loaded, saved}
 use Rattle.stash_laws.specs.Waiting.{waitingIn}
-use Rattle.call_core.specs.declared.Head.{Head}
 use Rattle.call_ending.specs.declared.Ran.{Ran}
-use Rattle.call_core.specs.Run.{headOf, StandsFor, Stands, CallsAs}
-use Rattle.call_core.specs.CallLaws.{refused-1, refused-2}
+use Rattle.call_core.specs.Run.{headOf, StandsFor, CallsAs}
 use Rattle.call.specs.Run.{endedAs}
 
 module _ (s : State) where

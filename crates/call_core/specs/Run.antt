@@ -1,10 +1,9 @@
 -- What the code of a call returns and leaves, as the definition of a call says it.
 use mathlib.Core.Path.{_≡_}
 use mathlib.Core.Bool.{true}
-use mathlib.Core.List.{List, [], _++_}
+use mathlib.Core.List.{List}
 use Prim.Native.Nat.{ℕ, _+_, _*_, _≤_}
-use lib.Dec.{eqb}
-use lib.ListN.{length, take, drop}
+use lib.ListN.{length}
 use Rattle.list_spec.specs.Choice.{pick}
 use Rattle.slot_spec.specs.declared.Link.{Link}
 use Rattle.method_spec.specs.Call.{capacity}

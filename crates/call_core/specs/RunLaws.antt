@@ -1,9 +1,8 @@
 -- The rounds and the step of a call, together: what the code leaves is what the definition leaves.
-use mathlib.Core.Path.{_≡_, refl, sym, _∙_, ap, ap₂}
-use mathlib.Core.List.{List, [], map}
-use Prim.Native.Nat.{ℕ, _+_, _-_, _*_, _^_, _≤_, _<_}
+use mathlib.Core.Path.{_≡_, refl, sym, _∙_, ap}
+use mathlib.Core.List.{List, []}
+use Prim.Native.Nat.{ℕ, _+_, _-_, _^_, _≤_, _<_}
 use native.Mathlib.Omega.{arith}
-use borrow.Author.Tests.{ne-eqb}
 use lib.ListN.{length, take, drop, replicate, length-map}
 use Rattle.method_spec.specs.Prog.{Prog, done, after}
 use Rattle.method_spec.specs.Answer as answer

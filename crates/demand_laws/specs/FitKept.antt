@@ -1,7 +1,7 @@
 -- The open state of a store that simulates a memory of the method fits: each cause of an unfit state, ruled out.
 use Prim.Native.Nat.{ℕ, zero, suc, _-_, _^_, _≤_}
 use mathlib.Core.Path.{_≡_, refl}
-use mathlib.Core.Bool.{Bool, true, false, _&&_}
+use mathlib.Core.Bool.{true, _&&_}
 use mathlib.Core.List.{List, [], _∷_, map, map-map, List·Memᴰ·head, List·Memᴰ·tail}
 use native.Mathlib.Omega.{arith}
 use native.Mathlib.Decide.{decLe}
@@ -17,9 +17,8 @@ use Rattle.method_spec.specs.Plain.{Contents}
 use Rattle.method_spec.specs.Call.{capacity, Memory}
 use Rattle.method_laws.specs.MapRepresents.{holds-shaped}
 use Rattle.method_laws.specs.Represented.{Held, held-fits}
-use Rattle.round_spec.specs.Round.{limit, keysOf}
+use Rattle.round_spec.specs.Round.{limit}
 use Rattle.leaf_spec.specs.Convert.{fromLink}
-use Rattle.leaf_spec.specs.Leaf.{leafFormat}
 use Rattle.bucket_call_spec.specs.Call.{Store}
 use Rattle.leaf_spec.specs.Leaf.{ProperLeaf}
 use Rattle.simulation_laws.specs.HeldProper.{held-root}

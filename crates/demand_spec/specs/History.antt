@@ -10,7 +10,6 @@ use Rattle.list_spec.specs.Choice.{pick}
 use Rattle.method_spec.specs.Answer.{Structure, map as the-map, stack as the-stack, Op}
 use Rattle.method_spec.specs.Plain.{Pair}
 use Rattle.round_spec.specs.Whole.{contents}
-use Rattle.method_spec.specs.Node.{Node}
 use Rattle.leaf_spec.specs.Convert.{toNode}
 use Rattle.leaf_spec.specs.Leaf.{leafFormat}
 use Rattle.state_spec.specs.declared.Place.{Place}

@@ -17,7 +17,7 @@ ghost use mathlib.Core.Path.{_≡_};
 ghost use Prim.Native.Nat.{_+_, _*_, _^_, _<_, _≤_};
 ghost use lib.ListN.{length, take};
 ghost use lib.Seq.{sets};
-ghost use Rattle.slot_spec.specs.Tree.{path, pathBucket, bucketStart, treeLength};
+ghost use Rattle.slot_spec.specs.Tree.{pathBucket, bucketStart, treeLength};
 ghost use Rattle.slot_spec.specs.Slot.{slotBytes};
 ghost use Rattle.word_round_laws.specs.Words.{places, wordCount, Leaves};
 ghost use Rattle.slot_spec.specs.Row.{slotsOf};

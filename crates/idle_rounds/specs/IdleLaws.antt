@@ -3,11 +3,10 @@ use mathlib.Core.Path.{_≡_, refl, sym, _∙_, ap, subst}
 use mathlib.Core.Bool.{Bool, true, false}
 use mathlib.Core.List.{List, [], _∷_, _++_, map, append-assoc, append-nil}
 use mathlib.Core.Option.{Option, none, some}
-use Prim.Native.Nat.{ℕ, zero, suc, _+_, _-_, _%_, _^_, _≤_, _<_}
+use Prim.Native.Nat.{ℕ, suc, _+_, _-_, _%_, _^_, _≤_, _<_}
 use native.Mathlib.Nat.{add-zero, add-suc, suc-add, sub-zero, mod-lt}
 use lib.Pow.{pow-pos, pow-mono}
 use native.Mathlib.Omega.{arith}
-use lib.Dec.{eqb}
 use lib.ListN.{length, length-map, getD, set}
 use lib.Seq.{sets, length-sets}
 use borrow.Author.Tests.{eq-eqb, ne-eqb, ltb-false}
@@ -23,16 +22,14 @@ use Rattle.round_spec.specs.Round.{Hand, readHalf, limit}
 use Rattle.round_spec.specs.Whole.{IsTree}
 use Rattle.round_laws.specs.NothingLost.{round-is-tree, round-proper}
 use Rattle.leaf_spec.specs.Leaf.{leafFormat}
-use Rattle.bucket_call_spec.specs.Fetch.{Held, Going, heldKeys, tooMany, revealing, written, Round, on, shut, atClose, idleRound}
+use Rattle.bucket_call_spec.specs.Fetch.{Held, Going, heldKeys, tooMany, written, Round, on, shut, atClose, idleRound}
 use Rattle.bucket_call_spec.specs.Call.{drawOf, putRounds}
 use Rattle.leaf_spec.specs.Leaf.{ProperLeaf}
 use Rattle.leaf_laws.specs.Proper.{leaves-lawful}
 use Rattle.none_lost_laws.specs.Sound.{total}
-use Rattle.stash_laws.specs.Waiting.{waitingIn}
 use Rattle.stash_laws.specs.WaitingLaws.{waiting-length}
 use Rattle.one_round.specs.declared.Rounded.{Rounded}
-use Rattle.one_round.specs.OneRound.{going, endedWith, Ready, Rests, Idled}
-use Rattle.idle_rounds.specs.declared.idle.Idle.{Idle}
+use Rattle.one_round.specs.OneRound.{going, endedWith, Ready, Idled}
 use Rattle.idle_rounds.specs.Idle.{Between, keysHeld, IdledAll}
 
 -- A draw is a leaf.

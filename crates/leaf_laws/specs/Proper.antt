@@ -6,7 +6,7 @@ use native.Mathlib.Decide.{decLe}
 use native.Mathlib.Omega.{arith}
 use lib.Pow.{pow-mono}
 use borrow.Author.Tests.{eq-eqb, lt-ltb}
-use Rattle.slot_spec.specs.Slot.{fieldsOf, linkGood, wellFormed, readSlot}
+use Rattle.slot_spec.specs.Slot.{fieldsOf, linkGood, readSlot}
 use Rattle.slot_spec.specs.Layout.{Fit}
 use Rattle.slot_spec.specs.Slot.{Ranged}
 use Rattle.slot_laws.specs.ReadLaws.{absent-without-key, link-present, left-link-good}

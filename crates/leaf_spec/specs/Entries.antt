@@ -1,5 +1,5 @@
 -- The entry of a node, and what a ticket asks within the widths of its fields.
-use Prim.Native.Nat.{ℕ, _^_, _<_}
+use Prim.Native.Nat.{_^_, _<_}
 use Rattle.method_spec.specs.Node.{Node}
 use Rattle.method_spec.specs.Answer.{Structure, Op, get, put, remove, push, pop}
 use Rattle.method_spec.specs.Plain.{Pair}

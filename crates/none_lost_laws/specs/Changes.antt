@@ -1,6 +1,6 @@
 -- What a call changes: the entries that it takes out and those that it adds, by its answer; and what a step yields on any content.
 use mathlib.Core.List.{List, [], _∷_}
-use Prim.Native.Nat.{ℕ, suc, _+_, _*_, _^_, _<_}
+use Prim.Native.Nat.{ℕ, suc, _+_, _*_}
 use Rattle.method_spec.specs.Node.{Link, Node}
 use Rattle.method_spec.specs.Answer.{Structure, map, stack, Op, get, put, remove, push, pop, Answer, found, absent, replaced, new, removed, pushed, popped, empty, full}
 use Rattle.method_spec.specs.Map.{Outcome}

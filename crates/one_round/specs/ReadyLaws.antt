@@ -1,12 +1,9 @@
 -- What the two halves of a round need follows from what the round needs: the words of nodes have the nodes' keys and tags.
 use mathlib.Core.Path.{_≡_, refl, sym, _∙_, ap, ap₂, subst}
-use mathlib.Core.Bool.{Bool, true, false, _&&_}
 use mathlib.Core.List.{List, [], _∷_, _++_, map, List·Memᴰ·head, List·Memᴰ·tail, Memᴰ·of-map}
 use Prim.Native.Nat.{ℕ, _^_, _<_}
 use native.Mathlib.Omega.{arith}
-use lib.Dec.{ltb}
 use lib.ListN.{take}
-use Rattle.list_spec.specs.Choice.{pick}
 use Rattle.list_spec.specs.Distinct.{All}
 use Rattle.slot_spec.specs.declared.Slot.{Slot}
 use Rattle.method_spec.specs.Node.{Node}

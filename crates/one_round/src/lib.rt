@@ -11,7 +11,7 @@ use stash_words::WORDS;
 use stash_words::get;
 use structures::fetch_test::passes;
 ghost use mathlib.Core.Path.{_≡_};
-ghost use Prim.Native.Nat.{_+_, _^_, _<_};
+ghost use Prim.Native.Nat.{_+_, _<_};
 ghost use Rattle.list_spec.specs.Ascending.{ascending};
 ghost use Rattle.stash_laws.specs.Waiting.{Holds};
 ghost use Rattle.one_round.specs.OneRound.{keysWaiting, Ready, Idled, Wanted};

@@ -15,7 +15,7 @@ ghost use Prim.Native.Nat.{_<_, _%_, _^_};
 ghost use lib.ListN.{length, replicate};
 ghost use Rattle.slot_spec.specs.Tree.{bucketLength};
 ghost use Rattle.state_spec.specs.Fit.{noPlace};
-ghost use Rattle.state_spec.specs.Opening.{empty, opened, Opened};
+ghost use Rattle.state_spec.specs.Opening.{empty, opened};
 
 // A place that holds no node.
 pub fn no_place() -> Place

@@ -1,22 +1,18 @@
 -- The put rounds: all of them, or the damage that the first finds.
 use mathlib.Core.Path.{_≡_, refl, sym, _∙_, ap}
-use mathlib.Core.Bool.{Bool, true, false}
+use mathlib.Core.Bool.{true, false}
 use mathlib.Core.List.{List, [], _∷_, _++_, append-nil}
-use Prim.Native.Nat.{ℕ, zero, suc, _+_, _-_, _≤_, _<_}
+use Prim.Native.Nat.{ℕ, suc, _+_, _-_, _≤_}
 use native.Mathlib.Omega.{arith}
-use lib.ListN.{length, set}
-use lib.Seq.{sets}
+use lib.ListN.{set}
 use Rattle.method_spec.specs.Prog.{done}
-use Rattle.method_spec.specs.Map.{Outcome}
 use Rattle.method_spec.specs.Call.{drawsFrom}
-use Rattle.round_spec.specs.Round.{noneTwice, keysOf}
 use Rattle.round_laws.specs.ReadHalf.{distinct-none-twice}
 use Rattle.list_spec.specs.Ascending.{ascending}
 use Rattle.round_laws.specs.Sorted.{ascending-distinct}
 use Rattle.leaf_spec.specs.Leaf.{leafFormat}
-use Rattle.bucket_call_spec.specs.Fetch.{Going, shut}
 use Rattle.bucket_call_spec.specs.Call.{putRounds}
-use Rattle.one_round.specs.OneRound.{going, endedWith, keysWaiting}
+use Rattle.one_round.specs.OneRound.{going, keysWaiting}
 use Rattle.one_round.specs.TwiceLaws.{twice-shuts}
 use Rattle.stash_laws.specs.Waiting.{waitingIn}
 use Rattle.idle_rounds.specs.declared.idle.Idle.{Idle}

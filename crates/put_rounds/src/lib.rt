@@ -4,7 +4,6 @@ use idle_rounds::idle::draw_at;
 use idle_rounds::idle::idle_rounds;
 use one_round::ascends;
 use stash_words::WORDS;
-ghost use mathlib.Core.Path.{_≡_};
 ghost use Prim.Native.Nat.{_+_, _*_, _≤_};
 ghost use lib.ListN.{length};
 ghost use Rattle.bucket_call_spec.specs.Call.{drawOf};

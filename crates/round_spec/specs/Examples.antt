@@ -2,16 +2,15 @@
 -- with tag 2; the put round is of leaf 3. The node is then at byte 256, in bucket 3, and none waits.
 use mathlib.Core.Path.{_≡_, refl}
 use Prim.Native.Nat.{ℕ}
-use mathlib.Core.Bool.{not}
 use mathlib.Core.List.{List, [], _∷_, _++_}
-use mathlib.Core.Option.{none, some}
+use mathlib.Core.Option.{some}
 use lib.ListN.{replicate}
 use Rattle.slot_spec.specs.LittleEndian.{value, bytes}
 use Rattle.slot_spec.specs.Layout.{fields, pack}
 use Rattle.slot_spec.specs.Tree.{halvings, among}
 use Rattle.slot_spec.specs.Slot.{fieldsIn, fieldsOf, nodeOf, encode, allZero, bad, readSlot, filled}
 use Rattle.slot_spec.specs.declared.Node.{Node}
-use Rattle.round_spec.specs.Round.{Written, Hand, withBucket, noneTwice, allGood, readBucket, readBuckets, insert, join, takeFirst, tagged, granted, joined, grantedFrom, readHalf, choose, evict, writeHalf}
+use Rattle.round_spec.specs.Round.{Written, withBucket, noneTwice, allGood, readBucket, readBuckets, insert, join, takeFirst, tagged, granted, joined, grantedFrom, readHalf, choose, evict, writeHalf}
 use Rattle.round_spec.specs.Nodes.{nodeFormat, readingOf}
 
 abbrev pushed : Node

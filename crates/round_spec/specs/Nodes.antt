@@ -1,6 +1,4 @@
 -- The format of the store's nodes, and that of the words which hold them during a call.
-use Prim.Native.Nat.{ℕ}
-use mathlib.Core.List.{List}
 use Rattle.slot_spec.specs.Slot.{encode, readSlot, slotBytes, slotOf, fieldsIn}
 use Rattle.slot_spec.specs.declared.Node.{Node}
 use Rattle.slot_spec.specs.declared.Slot.{Slot}

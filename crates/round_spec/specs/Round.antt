@@ -1,11 +1,11 @@
 -- One round over a tree and the waiting elements (document 01's "waiting nodes", the stash of a Path ORAM), in the paper's
 -- order: read the path, join in key order, take the wanted one, fill bucket by bucket from the leaf up.
 use Prim.Native.Nat.{ℕ, zero, suc, _+_, _*_}
-use mathlib.Core.Bool.{Bool, true, false, not, _&&_, _||_}
+use mathlib.Core.Bool.{Bool, true, not, _&&_}
 use mathlib.Core.List.{List, [], _∷_, _++_, map}
 use mathlib.Core.Option.{Option, none, some}
-use lib.Dec.{eqb, ltb, leb}
-use lib.ListN.{length, take, drop}
+use lib.Dec.{eqb, ltb}
+use lib.ListN.{take, drop}
 use Rattle.list_spec.specs.Choice.{pick}
 use Rattle.slot_spec.specs.Tree.{path, passes, among, slotLength, bucketStart, bucketLength}
 use Rattle.slot_spec.specs.Slot.{bucketBytes}

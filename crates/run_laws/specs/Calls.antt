@@ -6,7 +6,7 @@ use Prim.Native.Nat.{ℕ, zero, suc, _+_, _-_, _*_, _≤_, _<_}
 use native.Mathlib.Nat.{suc-add, le-refl}
 use native.Mathlib.Omega.{arith}
 use lib.ListN.{length, length-append}
-use Rattle.list_spec.specs.Perm.{Perm, cons, trans}
+use Rattle.list_spec.specs.Perm.{Perm, trans}
 use Rattle.list_laws.specs.PermLaws.{perm-refl, perm-sym, perm-of-eq, perm-append, perm-append-left, perm-append-right}
 use Rattle.list_laws.specs.Shuffle.{part, _&_, shuffle}
 use Rattle.list_spec.specs.Distinct.{Distinct}

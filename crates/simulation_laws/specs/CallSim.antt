@@ -1,16 +1,12 @@
 -- One call over a kept bucket store does what the method's call does at leaves, or meets overflow. It never finds damage.
 use mathlib.Core.Path.{_≡_, refl, ap, subst}
 use mathlib.Core.Logic.{_⊎_}
-use mathlib.Core.List.{List, [], _++_, map}
+use mathlib.Core.List.{List, [], _++_}
 use mathlib.Core.Option.{some}
 use Prim.Native.Nat.{ℕ, _^_, _≤_, _<_}
 use native.Mathlib.Omega.{arith}
 use Rattle.list_laws.specs.PermLaws.{perm-refl, perm-member}
 use Rattle.list_spec.specs.Distinct.{Distinct, All}
-use Rattle.balance_spec.specs.Least.{least}
-use Rattle.balance_spec.specs.Shape.{shaped}
-use Rattle.balance_spec.specs.Greatest.{tallest, greatest}
-use Rattle.balance_laws.specs.GreatestLaws.{greatest-mono}
 use Rattle.method_spec.specs.Node.{Node}
 use Rattle.method_spec.specs.Prog.{Prog, done, want}
 use Rattle.method_spec.specs.Answer.{Structure, Op, Answer}

@@ -17,7 +17,6 @@ use Rattle.list_laws.specs.PermLaws.{perm-sym, perm-of-eq, perm-append, perm-fr
 use Rattle.list_spec.specs.Distinct.{All}
 use Rattle.list_laws.specs.DistinctLaws.{all-nil, all-cons}
 use Rattle.balance_spec.specs.Tree.{Tree, leaf, node}
-use Rattle.method_spec.specs.Node.{Node}
 use Rattle.method_spec.specs.Answer.{Structure, map, stack, Op, get, put, remove, push, pop}
 use Rattle.method_spec.specs.Plain.{Pair, Contents, store, erase, popped-from, plain}
 use Rattle.method_spec.specs.Call.{capacity, Memory}

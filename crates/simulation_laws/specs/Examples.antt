@@ -1,7 +1,6 @@
 -- Document 01's worked push and pop, as a list of calls over buckets.
 use mathlib.Core.Path.{_≡_, refl}
-use Prim.Native.Nat.{ℕ}
-use mathlib.Core.List.{List, [], _∷_}
+use mathlib.Core.List.{[], _∷_}
 use mathlib.Core.Option.{some}
 use Rattle.slot_spec.specs.LittleEndian.{value, bytes}
 use Rattle.slot_spec.specs.Layout.{fields, pack}

@@ -8,13 +8,12 @@ use lib.ListN.{length, replicate}
 use Rattle.list_spec.specs.Perm.{Perm}
 use Rattle.slot_spec.specs.Tree.{treeLength}
 use Rattle.method_spec.specs.Node.{Node, absent}
-use Rattle.method_spec.specs.Prog.{done}
 use Rattle.method_spec.specs.Plain.{Pair}
 use Rattle.method_spec.specs.Map.{Outcome}
 use Rattle.method_spec.specs.Call.{Memory, Called}
 use Rattle.round_spec.specs.Round.{limit}
 use Rattle.leaf_spec.specs.Leaf.{leafFormat}
-use Rattle.bucket_call_spec.specs.Fetch.{Held, Going, heldKeys, Left, Round, on, shut}
+use Rattle.bucket_call_spec.specs.Fetch.{Held, Going, heldKeys, Left, Round}
 use Rattle.bucket_call_spec.specs.Call.{Store}
 use Rattle.round_spec.specs.Whole.{contents, Kept}
 use Rattle.round_spec.specs.Whole.{Ascending}

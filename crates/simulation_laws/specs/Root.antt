@@ -1,12 +1,12 @@
 -- The root link of a memory that holds a structure, as a fit state asks: all zero with no entries, and for the stack of height 1 with the
 -- entries for its key. (The tag is HeldProper's `held-root`, and the map's height MapRepresents' `holds-shaped`.)
-use mathlib.Core.Path.{_≡_, refl, sym, _∙_, ap}
+use mathlib.Core.Path.{_≡_, refl, sym, _∙_}
 use mathlib.Core.List.{List, [], _∷_}
-use Prim.Native.Nat.{ℕ, suc}
+use Prim.Native.Nat.{ℕ}
 use native.Mathlib.Omega.{arith}
 use lib.ListN.{length}
 use Rattle.balance_spec.specs.Tree.{Tree, leaf, node, size}
-use Rattle.method_spec.specs.Node.{Link, absent}
+use Rattle.method_spec.specs.Node.{absent}
 use Rattle.method_spec.specs.Answer.{Structure, map, stack}
 use Rattle.method_spec.specs.Plain.{Contents}
 use Rattle.method_spec.specs.Call.{Memory}

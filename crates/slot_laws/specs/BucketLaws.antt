@@ -3,11 +3,10 @@ use mathlib.Core.Path.{_≡_, refl, sym, _∙_, ap}
 use Prim.Native.Nat.{ℕ, zero, suc, _+_, _*_, _≤_, _<_}
 use native.Mathlib.Omega.{arith}
 use mathlib.Core.List.{List, [], _∷_, _++_, append-assoc, append-nil, map}
-use lib.ListN.{length, take, drop, getD, replicate, length-append, length-take, length-drop, length-map, List·getD-eq-default, List·getD-map, List·getD-append}
-use lib.Seq.{sets, sets-eq, length-sets, take-all, take-append-seam, getD-take, take-at}
+use lib.ListN.{length, take, drop, getD, replicate, length-append, length-take, length-map, List·getD-eq-default, List·getD-map}
+use lib.Seq.{sets, sets-eq, take-all, getD-take, take-at}
 use Rattle.slot_spec.specs.LittleEndian.{bytes}
 use Rattle.slot_spec.specs.Slot.{slotBytes, filled}
-use Rattle.slot_laws.specs.SlotLaws.{slot-length}
 use Rattle.slot_spec.specs.declared.Slot.{Slot}
 
 -- One more slot.

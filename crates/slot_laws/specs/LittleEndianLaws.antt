@@ -1,7 +1,7 @@
 -- Little-endian numbers, over the width: a number in bytes is read back, and bytes are those of the number that they say.
 use mathlib.Core.Path.{_≡_, refl, sym, _∙_, ap}
-use Prim.Native.Nat.{ℕ, zero, suc, _+_, _*_, _/_, _%_, _^_, _<_, _≤_}
-use native.Mathlib.Nat.{mod-one, mod-lt, mod-eq-of-lt, div-one, div-div-eq-div-mul, add-mul-div-left, add-mul-mod-self-left, div-eq-of-lt, mul-comm, pow-suc, zero-add, suc-add}
+use Prim.Native.Nat.{ℕ, zero, suc, _+_, _*_, _/_, _%_, _^_, _<_}
+use native.Mathlib.Nat.{mod-one, mod-eq-of-lt, div-one, div-div-eq-div-mul, add-mul-div-left, add-mul-mod-self-left, div-eq-of-lt, mul-comm, pow-suc, zero-add, suc-add}
 use native.Mathlib.Omega.{arith}
 use mathlib.Core.List.{List, [], _∷_, _++_}
 use lib.Arith.{mod-mul}

@@ -1,6 +1,4 @@
 -- What owning a struct tells of its fields, as the laws of the format ask it.
-use mathlib.Core.Path.{_≡_}
-use Prim.Native.Nat.{ℕ, _^_, _<_}
 use native.Mathlib.Omega.{arith}
 use mir.Syntax.{w8, w16, w32, w64}
 use mir.Val.{Fits}

@@ -2,9 +2,9 @@
 -- once written, reads back as that node; bytes that read as a node are that node's; only zero bytes read as empty.
 use mathlib.Core.Path.{_≡_, refl, sym, _∙_, ap}
 use mathlib.Core.Bool.{Bool, true, false, not, _&&_, _||_}
-use Prim.Native.Nat.{ℕ, zero, suc, _/_, _%_, _^_, _<_, _≤_}
+use Prim.Native.Nat.{ℕ, _/_, _%_, _^_, _<_, _≤_}
 use native.Mathlib.Omega.{arith}
-use mathlib.Core.List.{List, [], _∷_}
+use mathlib.Core.List.{List}
 use mathlib.Core.Logic.{_↔_, _⊎_, inl, inr, ⊎-elim}
 use lib.Dec.{eqb, leb, ltb}
 use lib.ListN.{length, replicate}
@@ -16,9 +16,9 @@ use Rattle.slot_spec.specs.LittleEndian.{Bytes}
 use Rattle.slot_spec.specs.Layout.{fields, pack, total}
 use Rattle.slot_laws.specs.LayoutLaws.{pack-fields}
 use Rattle.slot_spec.specs.Tree.{passes}
-use Rattle.slot_spec.specs.Slot.{Fields, widths, numbers, named, fieldsIn, fieldsOf, nodeOf, encode, allZero, zeroNotZero, absentHasMore, tagTooLarge, linkGood, bad, wellFormed, readSlot, slotBytes}
+use Rattle.slot_spec.specs.Slot.{Fields, widths, numbers, fieldsIn, fieldsOf, nodeOf, encode, allZero, zeroNotZero, absentHasMore, tagTooLarge, linkGood, bad, wellFormed, readSlot, slotBytes}
 use Rattle.slot_spec.specs.Slot.{Ranged}
-use Rattle.slot_laws.specs.SlotLaws.{Words, all-zero-replicate, fields-encoded, node-fields, fieldsOfWords, fields-in-words, slot-length}
+use Rattle.slot_laws.specs.SlotLaws.{Words, all-zero-replicate, fields-encoded, node-fields, fieldsOfWords, fields-in-words}
 use Rattle.slot_spec.specs.declared.Link.{Link}
 use Rattle.slot_spec.specs.declared.Node.{Node}
 use Rattle.slot_spec.specs.declared.Slot.{Slot}

@@ -1,15 +1,14 @@
 -- Document 01's worked cases of the tree and the slot.
 use mathlib.Core.Path.{_≡_, refl}
-use Prim.Native.Nat.{ℕ, _*_}
-use mathlib.Core.Bool.{true, false}
-use mathlib.Core.List.{List, [], _∷_, _++_}
+use Prim.Native.Nat.{ℕ}
+use mathlib.Core.List.{[], _∷_, _++_}
 use lib.ListN.{replicate}
 use Rattle.slot_spec.specs.LittleEndian.{value, bytes}
 use Rattle.slot_spec.specs.Layout.{fields, pack}
-use Rattle.slot_spec.specs.Tree.{halvings, path, among, passes, bucketStart, treeLength}
+use Rattle.slot_spec.specs.Tree.{halvings, path, among, bucketStart, treeLength}
 use Rattle.slot_spec.specs.Slot.{fieldsIn, fieldsOf, nodeOf, encode, allZero, bad, readSlot}
 use Rattle.slot_spec.specs.declared.Node.{Node}
-use Rattle.slot_spec.specs.declared.Reading.the-variants.{Full, Empty, Bad}
+use Rattle.slot_spec.specs.declared.Reading.the-variants.{Full, Bad}
 
 -- Size 2, leaf 2: buckets 6, 3, 1.
 pub path-of-leaf : path 2 2 ≡ 6 ∷ 3 ∷ 1 ∷ []

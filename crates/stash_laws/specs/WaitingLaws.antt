@@ -1,21 +1,20 @@
 -- Words that are those of some nodes hold those nodes; a round over such words is the round over the nodes.
 use mathlib.Core.Path.{_≡_, refl, sym, _∙_, ap, ap₂, subst}
-use mathlib.Core.List.{List, [], _∷_, map, List·Memᴰ, List·Memᴰ·head, List·Memᴰ·tail}
+use mathlib.Core.List.{List, [], _∷_, map, List·Memᴰ·head, List·Memᴰ·tail}
 use mathlib.Core.Option.{Option, Option·map}
 use Prim.Native.Nat.{ℕ, _^_, _≤_, _<_}
 use native.Mathlib.Omega.{arith}
 use lib.ListN.{length, take, length-map, length-take}
 use Rattle.list_spec.specs.Distinct.{All}
-use Rattle.slot_spec.specs.Slot.{Fields, fieldsIn, fieldsOf, nodeOf, readSlot, slotBytes, slotOf, encode}
+use Rattle.slot_spec.specs.Slot.{Fields, fieldsIn, fieldsOf, readSlot, slotBytes, slotOf}
 use Rattle.slot_spec.specs.Slot.{Ranged}
 use Rattle.slot_laws.specs.SlotLaws.{fields-encoded, slot-encoded}
 use Rattle.slot_laws.specs.RowLaws.{node-from-slot}
-use Rattle.slot_spec.specs.declared.Slot.{Slot}
 use Rattle.slot_spec.specs.declared.Node as node
 use Rattle.slot_spec.specs.declared.Reading.{Reading}
 use Rattle.slot_spec.specs.declared.Reading.the-variants.{Full, Empty, Bad}
 use Rattle.method_spec.specs.Node.{Node}
-use Rattle.round_spec.specs.Format.{Read, full, empty, bad}
+use Rattle.round_spec.specs.Format.{full}
 use Rattle.round_spec.specs.Round.{Wish, insert, readHalf, writeHalf}
 use Rattle.round_spec.specs.Nodes.{readingOf, wordsOf, wordsFormat}
 use Rattle.round_spec.specs.Whole.{IsTree}

@@ -12,7 +12,7 @@ use borrow.Author.Tests.{eq-eqb, ne-eqb}
 use Rattle.slot_spec.specs.Tree.{bucketLength, treeLength}
 use Rattle.slot_spec.specs.Slot.{filled, bucketBytes}
 use Rattle.state_spec.specs.Fit.{inRange, largestStructure, largestSize}
-use Rattle.state_spec.specs.Opening.{Opened, opened, closedWith, fresh}
+use Rattle.state_spec.specs.Opening.{opened, closedWith, fresh}
 
 module _ (structure size : ℕ) (tree : List ℕ) where
   pub no-structure : inRange structure largestStructure ≡ false → opened structure size tree ≡ record { state = closedWith 11; tree = tree }

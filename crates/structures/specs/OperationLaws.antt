@@ -16,7 +16,7 @@ use Rattle.operation_spec.specs.declared.Op.the-variants.{Get, Put, Remove, Pus
 use Rattle.operation_spec.specs.Method.{toOp, wantedIn, outcomeIn}
 use Rattle.operation_spec.specs.Resume.{resume, wantedOf, outcomeOf}
 use Rattle.operations.specs.ResumeLaws.{wanted-after, outcome-after}
-use Rattle.node_rows.specs.Held.{Held, heldIn, HeldFrom, nodesOf}
+use Rattle.node_rows.specs.Held.{Held, heldIn, nodesOf}
 use Rattle.node_rows.specs.HeldLaws.{row-places}
 use Rattle.map_changes.specs.declared.Bottom.{Bottom}
 use Rattle.map_descent.specs.Walk.{Walks}

@@ -7,7 +7,7 @@ use mathlib.Core.Path.{_≡_, refl, sym, _∙_, ap, ap₂}
 use mathlib.Core.Bool.{Bool, true, false}
 use mathlib.Core.List.{List, [], _∷_, _++_, map, map-append}
 use borrow.Author.Tests.{eq-eqb, ne-eqb}
-use lib.ListN.{length, getD, take, drop, set, drop-of-length-le, length-map, length-take, List·getD-map}
+use lib.ListN.{length, getD, take, drop, set, drop-of-length-le, List·getD-map}
 use lib.Seq.{take-suc, drop-set-lt, getD-drop, drop-drop, getD-take}
 use Rattle.slot_spec.specs.Slot.{noNode}
 use Rattle.slot_spec.specs.Row.{nodesFrom}
@@ -16,7 +16,7 @@ use Rattle.method_spec.specs.Node.{Link, Node, child, withChild}
 use Rattle.method_spec.specs.Prog.{From, root, side}
 use Rattle.leaf_spec.specs.Convert.{toNode}
 use Rattle.bucket_call_spec.specs.Fetch as fetch
-use Rattle.bucket_call_spec.specs.Fetch.{movedLink, movedNode, movedNodes}
+use Rattle.bucket_call_spec.specs.Fetch.{movedLink, movedNode}
 use Rattle.node_rows.specs.Row.{places, words, fetches, fromIn, fromsIn}
 use Rattle.node_rows.specs.Held.{heldIn, nodesOf, heldAt}
 use Rattle.node_rows.specs.HeldLaws.{first-next, first-length, held-next, held-length, held-room, row-places, row-more}

@@ -7,11 +7,11 @@ use mathlib.Core.Logic.{_⊎_, ⊎-elim, inl, inr}
 use borrow.Author.Tests.{eq-eqb, ne-eqb, eqb-false}
 use Rattle.list_spec.specs.Choice.{pick}
 use Rattle.method_spec.specs.Answer.{map as the-map, stack as the-stack, get, put, remove, push, pop}
-use Rattle.state_spec.specs.Ticket.{kindIn, keyIn, valueIn, opIn, structureOf}
+use Rattle.state_spec.specs.Ticket.{kindIn, keyIn, valueIn, opIn}
 use Rattle.operation_spec.specs.declared.Op.the-variants.{Get, Put, Remove, Push, Pop}
 use Rattle.tickets.specs.declared.Asked.the-variants.{Call, Unknown}
 use Rattle.tickets.specs.Asked.{asked, fromOp, fromAsked, mapOp, stackOp}
-use Prim.Native.Nat.{ℕ, zero, suc, _+_, _-_, _*_, _≤_, _<_, _^_}
+use Prim.Native.Nat.{ℕ, suc, _+_, _-_, _*_, _≤_, _<_, _^_}
 use native.Mathlib.Nat.{pow-suc, pow-le-pow-right}
 use native.Mathlib.Omega.{arith}
 use native.Mathlib.Decide.{ℕ-discrete}

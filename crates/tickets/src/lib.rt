@@ -2,7 +2,7 @@
 use operation_spec::Op;
 ghost use mathlib.Core.Path.{_≡_};
 ghost use Prim.Native.Nat.{_+_, _≤_, _^_, _<_};
-ghost use lib.ListN.{length, take, drop, getD};
+ghost use lib.ListN.{length, take, drop};
 ghost use Rattle.slot_spec.specs.LittleEndian.{value};
 ghost use Rattle.tickets.specs.Asked.{asked, mapOp, stackOp};
 

@@ -1,7 +1,6 @@
 -- Fetch rounds in two parts: the first of them, then the rest. Once a program is done the rest are rounds that want none, as the
 -- put rounds are.
-use mathlib.Core.Path.{_≡_, refl, sym, _∙_, ap}
-use mathlib.Core.List.{List, [], _∷_, _++_}
+use mathlib.Core.Path.{_≡_, refl}
 use Prim.Native.Nat.{ℕ, zero, suc, _+_}
 use native.Mathlib.Nat.{add-zero, add-suc, suc-add, zero-add}
 use Rattle.method_spec.specs.Prog.{Prog}

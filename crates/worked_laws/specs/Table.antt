@@ -1,11 +1,9 @@
 -- Document 01's worked calls marked P, as a single table with one claim.
 use mathlib.Core.Path.{_≡_, refl}
-use Prim.Native.Nat.{ℕ, zero, suc, _+_, _*_, _%_}
-use mathlib.Core.Bool.{Bool, true, false, not, _&&_, _||_}
-use mathlib.Core.List.{List, [], _∷_, _++_, map}
-use mathlib.Core.Option.{Option, none, some}
-use lib.Dec.{eqb}
-use lib.ListN.{length, take, drop, replicate, getD}
+use Prim.Native.Nat.{ℕ, _+_}
+use mathlib.Core.List.{List, [], _∷_, _++_}
+use mathlib.Core.Option.{none}
+use lib.ListN.{take, drop, replicate, getD}
 use Rattle.balance_spec.specs.Least.{least}
 use Rattle.balance_spec.specs.Shape.{shaped}
 use Rattle.balance_spec.specs.Greatest.{greatest, tallest}
@@ -13,7 +11,7 @@ use Rattle.slot_spec.specs.LittleEndian.{value, bytes}
 use Rattle.slot_spec.specs.Layout.{fields, pack}
 use Rattle.slot_spec.specs.Tree.{halvings, among, path, treeLength}
 use Rattle.slot_spec.specs.Slot.{noLink, fieldsIn, fieldsOf, nodeOf, encode, allZero, bad, readSlot, filled, wellFormed}
-use Rattle.round_spec.specs.Round.{withBucket, noneTwice, allGood, readBucket, readBuckets, insert, join, takeFirst, tagged, granted, joined, grantedFrom, readHalf, choose, evict, writeHalf}
+use Rattle.round_spec.specs.Round.{withBucket, noneTwice, allGood, readBucket, readBuckets, insert, join, takeFirst, tagged, granted, joined, grantedFrom, readHalf, choose, evict}
 use Rattle.method_spec.specs.Prog.{bind}
 use Rattle.method_spec.specs.Answer.{stack, Op, push, pop}
 use Rattle.method_spec.specs.Map.{walk, single, double, turn, raise, climb, unwind, unwound, getStep, getProg, putStep, putProg, lowest, takeOut, removeStep, removeProg, between, mapTest}
@@ -28,7 +26,6 @@ use Rattle.bucket_call_spec.specs.Call.{putRounds, afterPuts, afterFetches, buc
 use Rattle.operation_spec.specs.declared.Answer.the-variants.{Absent, Pushed, Popped}
 use Rattle.slot_spec.specs.declared.Reading.the-variants.{Full}
 use Rattle.state_spec.specs.declared.State.{State}
-use Rattle.call_spec.specs.declared.Reply.{Reply}
 use Rattle.call_spec.specs.declared.Reply.the-variants.{Answered, Refused}
 use Rattle.list_spec.specs.Ascending.{ascendingFrom, ascending}
 use Rattle.state_spec.specs.Fit.{allOf, rootGood, fits, placesFrom}

@@ -1,7 +1,6 @@
 -- `slots::bucket::read_slot` meets its contract.
 use mathlib.Core.Path.{_∙_, ap}
 use Rattle.slot_spec.specs.Slot.{readSlot}
-use native.Mathlib.Omega.{arith}
 use borrow.Author.Needs.{needs}
 use Rattle.bucket_writer.proofs.read_slot.Statement.{statement}
 use Rattle.bucket_writer.proofs.read_slot.Tie as tie

@@ -1,6 +1,5 @@
 -- `slots::bucket::slot_or_zero` meets its contract.
 use Rattle.slot_laws.specs.BucketLaws.{slot-there, slot-missing}
-use native.Mathlib.Omega.{arith}
 use borrow.Author.Needs.{needs}
 use Rattle.bucket_writer.proofs.slot_or_zero.Statement.{statement}
 use Rattle.bucket_writer.proofs.slot_or_zero.Tie as tie

@@ -1,6 +1,6 @@
 -- `slots::bucket::write_bucket` meets its contract. The invariant: the first j slots are written.
 use lib.Seq.{length-sets}
-use mathlib.Core.Path.{_≡_, refl, sym, _∙_, ap}
+use mathlib.Core.Path.{_≡_, sym, _∙_, ap}
 use mathlib.Core.List.{map}
 use Prim.Native.Nat.{_+_, _*_, _-_, _≤_}
 use lib.ListN.{length, take}

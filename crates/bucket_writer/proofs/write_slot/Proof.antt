@@ -1,7 +1,6 @@
 -- `slots::bucket::write_slot` meets its contract.
 use mathlib.Core.Path.{_∙_, ap}
 use lib.Seq.{sets}
-use native.Mathlib.Omega.{arith}
 use borrow.Author.Needs.{needs}
 use Rattle.bucket_writer.proofs.write_slot.Statement.{statement}
 use Rattle.bucket_writer.proofs.write_slot.Tie as tie

@@ -15,7 +15,7 @@ use Rattle.call_spec.specs.Store.{called}
 use Rattle.call.specs.Run.{endedAs}
 use Rattle.state_laws.specs.FitLaws.{head-true}
 use Rattle.stash.specs.LoadLaws.{LookedAt, looked-none, used-unfit, unused-unfit, used-more, unused-more, looked-all}
-use Rattle.stash.specs.SaveLaws.{fit-places, savedTo, saved-node, saved-none, saved-all}
+use Rattle.stash.specs.SaveLaws.{savedTo, saved-node, saved-none, saved-all}
 use Rattle.call_core.specs.Run.{headOf, StandsFor}
 use Rattle.call_core.specs.CallLaws.{refused-1, refused-2}
 use Rattle.call.specs.CallLaws.{unfit-head, fit-by-places, stands, refuses, kept, changed}

@@ -1,5 +1,4 @@
 use Rattle.call_ending.specs.EndingLaws.{shut-ends}
-use native.Mathlib.Omega.{arith}
 use borrow.Author.Needs.{needs}
 use Rattle.call_ending.proofs.shut.Statement.{statement}
 use Rattle.call_ending.proofs.shut.Tie as tie

@@ -1,9 +1,6 @@
 -- `state::fit::in_range` meets its contract.
-use mathlib.Core.Path.{_≡_, refl, sym, _∙_, ap}
-use borrow.Author.Tests.{eq-eqb, ne-eqb, lt-leb, le-leb, lt-ltb, le-ltb, not-true, not-false}
+use mathlib.Core.Path.{sym}
 use Rattle.state_laws.specs.FitLaws.{in-range-zero, in-range-more}
-use borrow.Author.Needs.{needs}
-use native.Mathlib.Omega.{arith}
 use Rattle.fitness.proofs.in_range.Statement.{statement}
 use Rattle.fitness.proofs.in_range.Tie as tie
 

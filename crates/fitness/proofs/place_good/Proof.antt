@@ -1,7 +1,5 @@
 -- `state::fit::place_good` meets its contract.
-use mathlib.Core.Path.{_≡_, refl, sym, _∙_, ap}
-use borrow.Author.Tests.{eq-eqb, ne-eqb, lt-leb, le-leb, lt-ltb, le-ltb, not-true, not-false}
-use native.Mathlib.Omega.{arith}
+use borrow.Author.Tests.{not-true, not-false}
 use borrow.Author.Needs.{needs}
 use Rattle.fitness.proofs.place_good.Statement.{statement}
 use Rattle.fitness.proofs.place_good.Tie as tie

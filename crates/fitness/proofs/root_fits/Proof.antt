@@ -1,9 +1,6 @@
 -- `state::fit::root_fits` meets its contract.
-use mathlib.Core.Path.{_≡_, refl, sym, _∙_, ap}
-use mathlib.Core.Bool.{true, false}
-use lib.Dec.{ltb, leb}
 use Prim.Native.Nat.{_-_, _≤_, _<_, _^_}
-use borrow.Author.Tests.{lt-leb, le-leb, lt-ltb, le-ltb, not-true, not-false}
+use borrow.Author.Tests.{lt-ltb, le-ltb}
 use native.Mathlib.Omega.{arith}
 use borrow.Author.Needs.{needs}
 use Rattle.fitness.proofs.root_fits.Statement.{statement}

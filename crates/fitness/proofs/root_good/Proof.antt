@@ -1,8 +1,6 @@
 -- `state::fit::root_good` meets its contract, structure by structure.
-use mathlib.Core.Path.{_≡_, refl, sym, _∙_, ap}
-use borrow.Author.Tests.{eq-eqb, ne-eqb, lt-leb, le-leb, lt-ltb, le-ltb, not-true, not-false}
+use borrow.Author.Tests.{eq-eqb, ne-eqb}
 use Rattle.state_spec.specs.Fit.{rootGood}
-use native.Mathlib.Omega.{arith}
 use borrow.Author.Needs.{needs}
 use Rattle.fitness.proofs.root_good.Statement.{statement}
 use Rattle.fitness.proofs.root_good.Tie as tie

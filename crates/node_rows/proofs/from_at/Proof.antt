@@ -1,7 +1,6 @@
 use mathlib.Core.Path.{sym, refl}
 use lib.ListN.{getD}
 use Rattle.node_rows.specs.RowLaws.{from-root, from-side}
-use native.Mathlib.Omega.{arith}
 use borrow.Author.Needs.{needs}
 use Rattle.node_rows.proofs.from_at.Statement.{statement}
 use Rattle.node_rows.proofs.from_at.Tie as tie

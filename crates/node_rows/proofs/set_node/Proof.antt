@@ -1,6 +1,5 @@
 use mathlib.Core.Path.{_∙_, ap}
 use Prim.Native.Nat.{_*_}
-use mathlib.Core.List.{List}
 use native.Mathlib.Omega.{arith}
 use Rattle.slot_spec.specs.declared.Slot.{Slot}
 use Rattle.slot_spec.specs.Row.{nodesFrom}

@@ -1,5 +1,5 @@
 -- `state::opening::clear` meets its contract. The invariant: the first a bytes are zero, the others as they were.
-use mathlib.Core.Path.{_≡_, refl, sym, _∙_, ap}
+use mathlib.Core.Path.{_≡_, refl, _∙_}
 use mathlib.Core.List.{_++_, append-nil}
 use Prim.Native.Nat.{_+_, _-_, _≤_, _%_}
 use lib.ListN.{length, drop, replicate}

@@ -1,5 +1,5 @@
 -- `state::opening::open` meets its contract, check by check.
-use mathlib.Core.Path.{_≡_, sym, _∙_, ap}
+use mathlib.Core.Path.{sym, _∙_, ap}
 use lib.ListN.{length}
 use borrow.Author.Tests.{not-true, not-false}
 use Rattle.state_spec.specs.Opening.{Opened}

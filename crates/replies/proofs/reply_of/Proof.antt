@@ -2,7 +2,6 @@ use mathlib.Core.Path.{sym, ap}
 use Rattle.operation_spec.specs.declared.Answer.{Answer}
 use Rattle.operation_spec.specs.Method.{toAnswer}
 use Rattle.call_spec.specs.Store.{replyOf}
-use native.Mathlib.Omega.{arith}
 use borrow.Author.Needs.{needs}
 use Rattle.replies.proofs.reply_of.Statement.{statement}
 use Rattle.replies.proofs.reply_of.Tie as tie

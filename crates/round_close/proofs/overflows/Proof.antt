@@ -1,5 +1,4 @@
 -- `buckets::write::overflows` meets its contract: the limit is 64.
-use native.Mathlib.Omega.{arith}
 use borrow.Author.Needs.{needs}
 use Rattle.round_close.proofs.overflows.Statement.{statement}
 use Rattle.round_close.proofs.overflows.Tie as tie

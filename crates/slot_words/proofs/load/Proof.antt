@@ -1,7 +1,6 @@
 -- `slots::words::load` meets its contract: four words are the slot's 32 bytes.
 use Rattle.slot_laws.specs.LittleEndianLaws.{bytes-from}
 use Rattle.slot_laws.specs.WordLaws.{slot-read}
-use native.Mathlib.Omega.{arith}
 use borrow.Author.Needs.{needs}
 use Rattle.slot_words.proofs.load.Statement.{statement}
 use Rattle.slot_words.proofs.load.Tie as tie

@@ -1,6 +1,5 @@
 -- `slots::words::store` meets its contract: four runs of stores are one.
 use Rattle.slot_laws.specs.WordLaws.{slot-stored}
-use native.Mathlib.Omega.{arith}
 use borrow.Author.Needs.{needs}
 use Rattle.slot_words.proofs.store.Statement.{statement}
 use Rattle.slot_words.proofs.store.Tie as tie

@@ -1,6 +1,5 @@
 -- `slots::words::word` meets its contract: the flat sum is the number that the eight bytes say.
 use Rattle.slot_laws.specs.WordLaws.{word-read}
-use native.Mathlib.Omega.{arith}
 use borrow.Author.Needs.{needs}
 use Rattle.slot_words.proofs.word.Statement.{statement}
 use Rattle.slot_words.proofs.word.Tie as tie

@@ -3,7 +3,6 @@ use mathlib.Core.Path.{sym, ap}
 use Rattle.slot_laws.specs.Ranges.{slot-ranges}
 use Rattle.slot_spec.specs.Slot.{Fields}
 use Rattle.slot_laws.specs.SlotLaws.{fields-in-words, fieldsOfWords}
-use native.Mathlib.Omega.{arith}
 use borrow.Author.Needs.{needs}
 use Rattle.slots.proofs.key_of.Statement.{statement}
 use Rattle.slots.proofs.key_of.Tie as tie

@@ -1,7 +1,6 @@
 -- `slots::codec::link_good` meets its contract, test by test.
-use mathlib.Core.Path.{sym, _∙_}
+use mathlib.Core.Path.{sym}
 use Rattle.slot_laws.specs.ReadLaws.{absent-with-key, absent-without-key, link-present}
-use native.Mathlib.Omega.{arith}
 use borrow.Author.Needs.{needs}
 use Rattle.slots.proofs.link_good.Statement.{statement}
 use Rattle.slots.proofs.link_good.Tie as tie

@@ -2,10 +2,9 @@
 use mathlib.Core.Path.{sym, _∙_}
 use borrow.Author.Tests.{not-true, not-false}
 use Rattle.slot_laws.specs.SlotLaws.{slot-length}
-use Rattle.slot_laws.specs.ReadLaws.{all-zero-read, read-wrong-flag, read-wrong-zero1, read-wrong-zero2, read-ill-formed, read-off-path, read-good, words-flag}
+use Rattle.slot_laws.specs.ReadLaws.{all-zero-read, read-wrong-flag, read-wrong-zero1, read-wrong-zero2, read-ill-formed, read-off-path, read-good}
 use Rattle.slot_laws.specs.Ranges.{slot-ranges}
 use Rattle.slot_spec.specs.Slot.{slotBytes}
-use native.Mathlib.Omega.{arith}
 use borrow.Author.Needs.{needs}
 use Rattle.slots.proofs.reading.Statement.{statement}
 use Rattle.slots.proofs.reading.Tie as tie

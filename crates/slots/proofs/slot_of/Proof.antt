@@ -3,7 +3,6 @@ use mathlib.Core.Path.{refl}
 use Rattle.slot_spec.specs.Slot.{slotOf}
 use Rattle.slot_laws.specs.SlotLaws.{slot-encoded}
 use Rattle.slot_laws.specs.Ranges.{node-ranges}
-use native.Mathlib.Omega.{arith}
 use borrow.Author.Needs.{needs}
 use Rattle.slots.proofs.slot_of.Statement.{statement}
 use Rattle.slots.proofs.slot_of.Tie as tie

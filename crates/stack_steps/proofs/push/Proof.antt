@@ -1,7 +1,6 @@
-use mathlib.Core.Path.{_∙_, refl}
 use native.Mathlib.Numerals.{add-one}
 use native.Mathlib.Omega.{arith}
-use Rattle.leaf_spec.specs.Convert.{toLink, toNode}
+use Rattle.leaf_spec.specs.Convert.{toLink}
 use Rattle.node_rows.specs.HeldLaws.{row-more}
 use Rattle.stack_steps.specs.StackLaws.{push-full, push-one}
 use native.Mathlib.Omega.{arith}

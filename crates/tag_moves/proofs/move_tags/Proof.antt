@@ -5,7 +5,6 @@ use Rattle.leaf_spec.specs.Convert.{toLink}
 use Rattle.node_rows.specs.Held.{heldIn, heldAt}
 use Rattle.tag_moves.specs.MoveLaws.{MovingTo, tags-start, tags-turn, tags-end, tag-same}
 use borrow.Author.Needs.{needs}
-use native.Mathlib.Omega.{arith}
 use Rattle.tag_moves.proofs.move_tags.Statement.{statement}
 use Rattle.tag_moves.proofs.move_tags.Tie as tie
 use Rattle.tag_moves.proofs.move_tags.Reads as reads

@@ -2,7 +2,6 @@ use mathlib.Core.Path.{ap}
 use Rattle.leaf_spec.specs.Convert.{toNode}
 use Rattle.operation_spec.specs.Method.{toFrom}
 use Rattle.tag_moves.specs.MoveLaws.{moved-by-root, moved-here, moved-not-here}
-use native.Mathlib.Omega.{arith}
 use borrow.Author.Needs.{needs}
 use Rattle.tag_moves.proofs.moved_in.Statement.{statement}
 use Rattle.tag_moves.proofs.moved_in.Tie as tie

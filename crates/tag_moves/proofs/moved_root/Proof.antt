@@ -1,6 +1,5 @@
 use Rattle.leaf_spec.specs.Convert.{toLink}
 use Rattle.tag_moves.specs.MoveLaws.{moved-root-link, moved-side-link}
-use native.Mathlib.Omega.{arith}
 use borrow.Author.Needs.{needs}
 use Rattle.tag_moves.proofs.moved_root.Statement.{statement}
 use Rattle.tag_moves.proofs.moved_root.Tie as tie

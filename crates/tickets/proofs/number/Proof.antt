@@ -1,7 +1,7 @@
 -- `tickets::number` meets its contract. The invariant: v is the number that the bytes from i on say.
 use native.Mathlib.Nat.{add-zero}
 use Rattle.tickets.specs.AskedLaws.{number-none, number-more, more-below, word-fits}
-use mathlib.Core.Path.{_≡_, refl, sym, _∙_, ap}
+use mathlib.Core.Path.{_≡_}
 use Prim.Native.Nat.{_≤_, _<_, _+_, _*_, _-_, _^_}
 use lib.ListN.{take, drop}
 use Rattle.slot_spec.specs.LittleEndian.{value}

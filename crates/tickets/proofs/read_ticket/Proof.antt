@@ -1,5 +1,5 @@
 -- `tickets::read_ticket` meets its contract, kind by kind.
-use mathlib.Core.Path.{_≡_, sym, _∙_, ap}
+use mathlib.Core.Path.{sym, _∙_, ap}
 use mathlib.Core.Logic.{inl, inr}
 use Rattle.tickets.specs.declared.Asked.the-variants.{Call}
 use Rattle.tickets.specs.AskedLaws.{map-kinds, stack-kinds, no-map-kind, no-stack-kind, no-kind, first-byte}

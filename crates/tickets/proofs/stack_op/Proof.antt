@@ -1,8 +1,6 @@
 -- `tickets::stack_op` meets its contract, kind by kind.
 use borrow.Author.Tests.{eq-eqb, ne-eqb}
-use Rattle.tickets.specs.Asked.{mapOp, stackOp}
-use borrow.Author.Needs.{needs}
-use native.Mathlib.Omega.{arith}
+use Rattle.tickets.specs.Asked.{stackOp}
 use Rattle.tickets.proofs.stack_op.Statement.{statement}
 use Rattle.tickets.proofs.stack_op.Tie as tie
 

@@ -2,7 +2,6 @@ use mathlib.Core.Path.{ap}
 use Prim.Native.Nat.{ℕ, _%_}
 use lib.ListN.{getD}
 use Rattle.idle_rounds.specs.IdleLaws.{draw-made}
-use native.Mathlib.Omega.{arith}
 use borrow.Author.Needs.{needs}
 use Rattle.idle_rounds.proofs.idle.draw_at.Statement.{statement}
 use Rattle.idle_rounds.proofs.idle.draw_at.Tie as tie

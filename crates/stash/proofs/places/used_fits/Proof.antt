@@ -1,5 +1,5 @@
 -- `stash::places::used_fits` meets its contract, test by test.
-use mathlib.Core.Path.{_≡_, sym, _∙_}
+use mathlib.Core.Path.{sym, _∙_}
 use borrow.Author.Tests.{not-true, not-false}
 use borrow.Author.Needs.{needs}
 use Rattle.stash.proofs.places.used_fits.Statement.{statement}

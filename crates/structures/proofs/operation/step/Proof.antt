@@ -1,4 +1,3 @@
-use mathlib.Core.Path.{_∙_}
 use native.Mathlib.Omega.{arith}
 use Rattle.leaf_spec.specs.Convert.{toLink}
 use Rattle.node_rows.specs.Held.{heldIn, nodesOf}

@@ -1,7 +1,6 @@
-use mathlib.Core.Path.{_∙_, ap}
 use native.Mathlib.Omega.{arith}
 use Rattle.leaf_spec.specs.Convert.{toLink}
-use Rattle.node_rows.specs.Held.{heldIn, nodesOf}
+use Rattle.node_rows.specs.Held.{heldIn}
 use Rattle.structures.specs.OperationLaws.{walks-of, program-get, program-put, program-remove, program-push, program-pop, push-wants-none, wanted-by, wanted-up}
 use native.Mathlib.Omega.{arith}
 use borrow.Author.Needs.{needs}

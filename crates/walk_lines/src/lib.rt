@@ -1,7 +1,7 @@
 // The lines that the walk program prints, each with its newline. They return the line's length.
+use answer_words::reply_value;
 use answer_words::reply_word;
 use call_spec::Reply;
-use operation_spec::Answer;
 use text_writer::put_leaves;
 use text_writer::put_number;
 use text_writer::put_text;
@@ -10,32 +10,7 @@ ghost use mathlib.Core.List.{_++_};
 ghost use Prim.Native.Nat.{_≤_};
 ghost use lib.ListN.{length, take, drop};
 ghost use Rattle.io.specs.Counts.{Counts};
-ghost use Rattle.walk_spec.specs.Lines.{answerValue, replyValue, lineOf, shortLine, longestLine, mostLeaves};
-
-fn answer_value(answer: Answer) -> u64
-    ensures { λ r. ⌜ r ≡ answerValue answer ⌝ }
-{
-    match answer {
-        Answer::Found(v) => v,
-        Answer::Absent => 0,
-        Answer::Replaced(v) => v,
-        Answer::New => 0,
-        Answer::Removed(v) => v,
-        Answer::Pushed => 0,
-        Answer::Popped(v) => v,
-        Answer::Empty => 0,
-        Answer::Full => 10,
-    }
-}
-
-fn reply_value(reply: Reply) -> u64
-    ensures { λ r. ⌜ r ≡ replyValue reply ⌝ }
-{
-    match reply {
-        Reply::Answered(answer) => answer_value(answer),
-        Reply::Refused(number) => number as u64,
-    }
-}
+ghost use Rattle.walk_spec.specs.Lines.{lineOf, shortLine, longestLine, mostLeaves};
 
 // The first n numbers of a trace buffer.
 fn first(trace: &[u16], n: usize) -> &[u16]

@@ -7,37 +7,30 @@ ghost use Prim.Native.Nat.{_≤_};
 ghost use lib.ListN.{length};
 ghost use Rattle.walk_spec.specs.Lines.{mostLeaves};
 
-pub fn print(text: &[u8]) {
-    io::write_all(STDOUT_FILENO, text);
-}
-
-// A case and its number.
-pub fn number(label: &[u8], n: u64) {
-    print(label);
-    print(b": ");
-    io::print_decimal(STDOUT_FILENO, n);
-    print(b"\n");
-}
-
-// A case, the number of a refusal or a mark, and whether all that was lent is as it was.
-pub fn refusal(label: &[u8], n: u8, unchanged: bool) {
-    print(label);
-    print(b": ");
+pub fn number(n: u16, ending: &[u8]) {
     io::print_decimal(STDOUT_FILENO, n as u64);
-    if unchanged {
-        print(b", unchanged\n");
-    } else {
-        print(b", changed\n");
-    }
+    io::write_all(STDOUT_FILENO, ending);
 }
 
-// A case, and the line that the walk program would print.
-pub fn reply(label: &[u8], answer: Reply, leaves: usize, trace: &[u16])
+// A number, and what the checksums of what was lent, before and after, say of it.
+pub fn verdict(n: u16, before: u64, after: u64) {
+    if before == after {
+        return number(n, b", unchanged\n");
+    }
+    if after == 0 {
+        return number(n, b"\n  its tree is all zero\n");
+    }
+    number(n, b", changed\n");
+}
+
+// The line that the walk program would print, and one where a tree is unchanged.
+pub fn reply(answer: Reply, leaves: usize, trace: &[u16], unchanged: bool)
     requires { ⌜ length (now trace) ≤ mostLeaves ⌝ }
 {
-    print(label);
-    print(b": ");
     let mut out = [0u8; LONGEST_LINE];
     let end = line(answer, leaves, trace, &mut out);
-    print(&out[..end]);
+    io::write_all(STDOUT_FILENO, &out[..end]);
+    if unchanged {
+        io::write_all(STDOUT_FILENO, b"  its tree is unchanged\n");
+    }
 }

@@ -1,94 +1,64 @@
-// States of size 2: an empty store's, and others that no call leaves.
-use opening::open;
+// The state of a case.
+use super::rows::byte;
+use super::rows::key;
+use super::rows::number;
+use super::rows::short;
+use opening::no_place;
 use slot_spec::Link;
 use slot_spec::Node;
 use state_spec::Place;
 use state_spec::State;
-ghost use Prim.Native.Nat.{_<_};
 
-pub const MAP: u8 = 1;
-
-pub const STACK: u8 = 2;
-
-// The bytes of a tree of size 2.
-pub const TREE: usize = 896;
-
-pub fn empty(structure: u8) -> State {
-    let mut tree = [0u8; TREE];
-    open(structure, 2, &mut tree)
-}
-
-pub fn link(height: u8, key: u32, tag: u16) -> Link {
-    Link { height, key, tag }
-}
-
-// A node with no children.
-pub fn node(key: u32, tag: u16) -> Node {
-    let none = link(0, 0, 0);
+// A node without children; its absent left link has a key.
+pub fn node(key: u32, tag: u16, left_key: u32) -> Node {
+    let left = Link {
+        height: 0,
+        key: left_key,
+        tag: 0,
+    };
+    let right = Link {
+        height: 0,
+        key: 0,
+        tag: 0,
+    };
     Node {
         key,
         value: 0,
         tag,
-        left: none,
-        right: none,
+        left,
+        right,
     }
 }
 
-// A place that holds such a node.
-pub fn full(key: u32, tag: u16) -> Place {
-    let node = node(key, tag);
-    Place { full: true, node }
+fn places_of(row: &[usize; 128]) -> [Place; 101] {
+    let first = node(key(row, b'n'), short(row, b'g'), key(row, b'l'));
+    let full = number(row, b'f') == 1;
+    let second_key = key(row, b'q');
+    let second = node(second_key, 0, 0);
+    let at = number(row, b'p') % 101;
+    let mut places = [no_place(); 101];
+    places[1] = Place {
+        full: second_key != 0,
+        node: second,
+    };
+    places[at] = Place { full, node: first };
+    places
 }
 
-// The same node in a place that says that it is empty.
-pub fn not_full(key: u32, tag: u16) -> Place {
-    let node = node(key, tag);
-    Place { full: false, node }
-}
-
-// A waiting node with an absent left link that has a key.
-pub fn bad_link() -> Place {
-    let mut node = node(5, 0);
-    let left = link(0, 1, 0);
-    node.left = left;
-    Place { full: true, node }
-}
-
-pub fn with_mark(mark: u8) -> State {
-    let mut s = empty(MAP);
-    s.mark = mark;
-    s
-}
-
-pub fn with_head(structure: u8, size: u8) -> State {
-    let mut s = empty(MAP);
-    s.structure = structure;
-    s.size = size;
-    s
-}
-
-pub fn with_root(structure: u8, entries: u16, root: Link) -> State {
-    let mut s = empty(structure);
-    s.entries = entries;
-    s.root = root;
-    s
-}
-
-// A map with a place of its own, of which the first `count` are used.
-pub fn with_place(count: u16, at: usize, place: Place) -> State
-    requires { ⌜ at < 101 ⌝ }
-{
-    let mut s = empty(MAP);
-    s.count = count;
-    s.places[at] = place;
-    s
-}
-
-// A map with two nodes that wait.
-pub fn with_two(first: Place, second: Place) -> State {
-    let mut s = empty(MAP);
-    s.count = 2;
-    s.places[0] = first;
-    s.places[1] = second;
-    s
+pub fn state_of(row: &[usize; 128]) -> State {
+    let root = Link {
+        height: byte(row, b'h'),
+        key: key(row, b'k'),
+        tag: short(row, b't'),
+    };
+    let places = places_of(row);
+    State {
+        mark: byte(row, b'm'),
+        structure: byte(row, b's'),
+        size: byte(row, b'z'),
+        entries: short(row, b'e'),
+        root,
+        count: short(row, b'w'),
+        places,
+    }
 }

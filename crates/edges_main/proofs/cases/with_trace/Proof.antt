@@ -1,18 +1,21 @@
--- `edges::buffers::all_zero` is safe and ends.
+-- `edges::cases::with_trace` is safe and ends.
 use Prim.Native.Nat.{_-_, _≤_}
 use lib.ListN.{length}
 use borrow.Author.Needs.{needs}
-use Rattle.edges_main.proofs.buffers.all_zero.Statement.{statement}
-use Rattle.edges_main.proofs.buffers.all_zero.Tie as tie
+use Rattle.edges_main.proofs.cases.with_trace.Statement.{statement}
+use Rattle.edges_main.proofs.cases.with_trace.Tie as tie
 
 abbrev Inv-loop : tie.InvT-loop
-Inv-loop b i₀ i = i ≤ length b
+Inv-loop sum trace i₀ i = i ≤ length trace
 
 abbrev μ-loop : tie.MeasureT-loop
-μ-loop b i₀ i = length b - i
+μ-loop sum trace i₀ i = length trace - i
 
 loop-holds : tie.Need-loop-holds Inv-loop μ-loop
 loop-holds c = search needs
+
+mul-if1 : tie.Need-mul-if1 Inv-loop μ-loop
+mul-if1 c = search needs
 
 shared-slice-read-if1 : tie.Need-shared-slice-read-if1 Inv-loop μ-loop
 shared-slice-read-if1 c = search needs
@@ -32,13 +35,14 @@ loop-again c = search needs
 returns-2 : tie.Need-returns-2 Inv-loop μ-loop
 returns-2 c = search needs
 
-pub all-zero-spec : {M : Type 1} → statement M
-all-zero-spec =
+pub with-trace-spec : {M : Type 1} → statement M
+with-trace-spec =
     tie.close
     (tie.spec
     Inv-loop
     μ-loop
     loop-holds
+    mul-if1
     shared-slice-read-if1
     returns
     add-i

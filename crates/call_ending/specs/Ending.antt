@@ -8,15 +8,12 @@ use Rattle.list_spec.specs.Distinct.{All}
 use Rattle.method_spec.specs.Prog.{after}
 use Rattle.method_spec.specs.Map.{Outcome}
 use Rattle.round_spec.specs.Round.{join}
-use Rattle.round_spec.specs.Whole.{IsTree}
-use Rattle.round_spec.specs.Whole.{Ascending}
-use Rattle.leaf_spec.specs.Convert.{fromLink}
-use Rattle.leaf_spec.specs.Leaf.{leafFormat}
+use Rattle.round_spec.specs.Whole.{IsTree, Ascending}
+use Rattle.leaf_spec.specs.Convert.{fromLink, toLink}
+use Rattle.leaf_spec.specs.Leaf.{leafFormat, ProperLeaf}
 use Rattle.word_round_laws.specs.Words.{wordCount}
 use Rattle.bucket_call_spec.specs.Fetch.{Left, Going, closing}
 use Rattle.bucket_call_spec.specs.Call.{afterPuts, putRounds, stepped}
-use Rattle.leaf_spec.specs.Leaf.{ProperLeaf}
-use Rattle.leaf_spec.specs.Convert.{toLink}
 use Rattle.operation_spec.specs.Method.{outcomeIn}
 use Rattle.node_rows.specs.Row.{words as rowWords, fetches}
 use Rattle.node_rows.specs.Held.{Held, HeldFrom, nodesOf}

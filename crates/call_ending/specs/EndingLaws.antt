@@ -17,14 +17,13 @@ use Rattle.method_spec.specs.Call.{drawsFrom}
 use Rattle.run_laws.specs.Calls.{draws-length}
 use Rattle.round_spec.specs.Round.{join}
 use Rattle.round_laws.specs.Lists.{join-perm}
-use Rattle.leaf_spec.specs.Convert.{fromLink}
+use Rattle.leaf_spec.specs.Convert.{fromLink, toLink}
 use Rattle.leaf_spec.specs.Leaf.{leafFormat}
 use Rattle.bucket_call_spec.specs.Fetch as fetch
 use Rattle.bucket_call_spec.specs.Fetch.{Going, closing}
 use Rattle.bucket_call_spec.specs.Call.{afterPuts, putRounds, stepped}
 use Rattle.slot_spec.specs.declared.Link as link
 use Rattle.state_spec.specs.declared.State.{State}
-use Rattle.leaf_spec.specs.Convert.{toLink}
 use Rattle.operation_spec.specs.declared.Outcome as outcome
 use Rattle.operation_spec.specs.Method.{toOutcome, toAnswer}
 use Rattle.slot_spec.specs.Row.{nodesFrom}

@@ -19,7 +19,7 @@ use Rattle.list_laws.specs.DistinctLaws.{all-left, all-right}
 use Rattle.slot_spec.specs.LittleEndian.{Bytes}
 use Rattle.slot_spec.specs.Tree.{treeLength}
 use Rattle.method_spec.specs.Answer.{Structure, Op}
-use Rattle.method_spec.specs.Plain.{Pair, Contents, nothing, plain, plainContents}
+use Rattle.method_spec.specs.Plain.{Pair, Contents, nothing, plain, plainContents, entriesOf}
 use Rattle.method_spec.specs.Map.{Outcome}
 use Rattle.method_spec.specs.Rounds.{rounds}
 use Rattle.method_spec.specs.Call.{capacity, Memory, Called, call}
@@ -27,7 +27,6 @@ use Rattle.method_laws.specs.Represented.{Held}
 use Rattle.bucket_call_spec.specs.Fetch.{Left, Round}
 use Rattle.bucket_call_spec.specs.Call.{Store, drawOf, fetchedBy}
 use Rattle.leaf_spec.specs.Entries.{OpFits}
-use Rattle.method_spec.specs.Plain.{entriesOf}
 use Rattle.simulation_laws.specs.Entries.{held-entries}
 use Rattle.simulation_laws.specs.ProperCall.{call-held}
 use Rattle.bucket_call_spec.specs.Simulates.{Simulates, Remains, as-before, as-after}

@@ -10,17 +10,15 @@ use lib.ListN.{length, getD}
 use Rattle.list_spec.specs.Perm.{Perm}
 use Rattle.list_spec.specs.Distinct.{Distinct}
 use Rattle.slot_spec.specs.LittleEndian.{Bytes}
-use Rattle.slot_spec.specs.Slot.{Ranged}
+use Rattle.slot_spec.specs.Slot.{Ranged, encode, wellFormed, readSlot}
 use Rattle.slot_spec.specs.Tree.{passes, slotLength}
-use Rattle.slot_spec.specs.Slot.{encode, wellFormed, readSlot}
 use Rattle.slot_spec.specs.declared.Node as slot
 use Rattle.slot_spec.specs.declared.Reading.the-variants.{Full}
 use Rattle.method_spec.specs.Answer.{Structure, Op}
-use Rattle.method_spec.specs.Plain.{Contents, plain, plainContents, plainAnswers, nothing}
+use Rattle.method_spec.specs.Plain.{Contents, plain, plainContents, plainAnswers, nothing, entriesOf}
 use Rattle.method_spec.specs.Node.{Node}
 use Rattle.method_spec.specs.Call.{capacity, Memory, call, Ran}
 use Rattle.bucket_call_spec.specs.Simulates.{Simulates, Remains}
-use Rattle.method_spec.specs.Plain.{entriesOf}
 use Rattle.state_spec.specs.Fit.{fits}
 use Rattle.method_spec.specs.Rounds.{rounds}
 use Rattle.method_spec.specs.Origin as origin

@@ -9,8 +9,7 @@ use native.Mathlib.Omega.{arith}
 use lib.Dec.{eqb}
 use lib.ListN.{length, take, drop, length-take}
 use Rattle.list_spec.specs.Choice.{pick}
-use Rattle.slot_spec.specs.LittleEndian.{value}
-use Rattle.slot_spec.specs.LittleEndian.{Bytes}
+use Rattle.slot_spec.specs.LittleEndian.{value, Bytes}
 use Rattle.slot_laws.specs.LittleEndianLaws.{value-below, bytes-take, bytes-drop}
 use Rattle.method_spec.specs.Answer.{Structure, map, stack, Op, get, put, remove, push, pop}
 use Rattle.leaf_spec.specs.Entries.{OpFits}

@@ -21,10 +21,9 @@ use Rattle.run_laws.specs.Calls.{draws-split, draws-length}
 use Rattle.round_spec.specs.Round.{Hand, readHalf, limit}
 use Rattle.round_spec.specs.Whole.{IsTree}
 use Rattle.round_laws.specs.NothingLost.{round-is-tree, round-proper}
-use Rattle.leaf_spec.specs.Leaf.{leafFormat}
+use Rattle.leaf_spec.specs.Leaf.{leafFormat, ProperLeaf}
 use Rattle.bucket_call_spec.specs.Fetch.{Held, Going, heldKeys, tooMany, written, Round, on, shut, atClose, idleRound}
 use Rattle.bucket_call_spec.specs.Call.{drawOf, putRounds}
-use Rattle.leaf_spec.specs.Leaf.{ProperLeaf}
 use Rattle.leaf_laws.specs.Proper.{leaves-lawful}
 use Rattle.none_lost_laws.specs.Sound.{total}
 use Rattle.stash_laws.specs.WaitingLaws.{waiting-length}

@@ -6,9 +6,8 @@ use native.Mathlib.Decide.{decLe}
 use native.Mathlib.Omega.{arith}
 use lib.Pow.{pow-mono}
 use borrow.Author.Tests.{eq-eqb, lt-ltb}
-use Rattle.slot_spec.specs.Slot.{fieldsOf, linkGood, readSlot}
+use Rattle.slot_spec.specs.Slot.{fieldsOf, linkGood, readSlot, Ranged}
 use Rattle.slot_spec.specs.Layout.{Fit}
-use Rattle.slot_spec.specs.Slot.{Ranged}
 use Rattle.slot_laws.specs.ReadLaws.{absent-without-key, link-present, left-link-good}
 use Rattle.slot_spec.specs.declared.Node as node
 use Rattle.slot_spec.specs.declared.Reading.{Reading}
@@ -17,10 +16,9 @@ use Rattle.method_spec.specs.Node.{Link, Node}
 use Rattle.round_spec.specs.Format.{full, empty}
 use Rattle.round_spec.specs.Nodes.{readingOf}
 use Rattle.leaf_spec.specs.Convert.{toNode, fromNode, fromLink}
-use Rattle.leaf_spec.specs.Leaf.{readLeaf, leafFormat}
+use Rattle.leaf_spec.specs.Leaf.{readLeaf, leafFormat, ProperLeaf}
 use Rattle.round_spec.specs.Whole.{Lawful}
 use Rattle.round_laws.specs.NodeLaws.{nodes-lawful}
-use Rattle.leaf_spec.specs.Leaf.{ProperLeaf}
 
 -- ---- the format is lawful, as that of the store's nodes is
 

@@ -23,12 +23,11 @@ use Rattle.method_spec.specs.Call.{test}
 use Rattle.method_spec.specs.Plain.{Pair}
 use Rattle.method_spec.specs.Safe.{Within, stops, asks as asks-within}
 use Rattle.round_spec.specs.Round.{Hand, keysOf, readHalf, limit}
-use Rattle.leaf_spec.specs.Leaf.{leafFormat}
+use Rattle.leaf_spec.specs.Leaf.{leafFormat, ProperLeaf}
 use Rattle.bucket_call_spec.specs.Fetch.{Held, Going, heldKeys, wishFor, revealing, written, Round, on, shut, atClose, tookRound, wantRound, fetchRound, fetchRounds}
 use Rattle.round_spec.specs.Whole.{listed}
 use Rattle.round_laws.specs.ReadHalf.{read-grants}
 use Rattle.round_laws.specs.NothingLost.{taken-proper}
-use Rattle.leaf_spec.specs.Leaf.{ProperLeaf}
 use Rattle.leaf_laws.specs.Proper.{leaves-lawful}
 use Rattle.none_lost_laws.specs.Fitting.{retag-proper}
 use Rattle.none_lost_laws.specs.Yields.{Yields, asks}

@@ -7,9 +7,8 @@ use native.Mathlib.Omega.{arith}
 use lib.Pow.{pow-pos}
 use borrow.Author.Tests.{eqb-true, ltb-true}
 use Rattle.list_laws.specs.ChoiceLaws.{pick-both, pick-neither}
-use Rattle.slot_spec.specs.Slot.{fieldsOf, linkGood, tagTooLarge}
+use Rattle.slot_spec.specs.Slot.{fieldsOf, linkGood, tagTooLarge, Ranged}
 use Rattle.slot_spec.specs.Layout.{Fit}
-use Rattle.slot_spec.specs.Slot.{Ranged}
 use Rattle.slot_laws.specs.ReadLaws.{well-formed-order, absent-with-key, absent-without-key, link-present}
 use Rattle.method_spec.specs.Node.{Link, Node, absent, child, withChild, withValue, retag, heightOf, linkTo}
 use Rattle.method_spec.specs.Map.{rotate}

@@ -13,13 +13,12 @@ use Rattle.method_spec.specs.Prog.{Prog}
 use Rattle.method_spec.specs.Map.{Outcome}
 use Rattle.method_spec.specs.Plain.{Pair}
 use Rattle.round_spec.specs.Round.{join, limit}
-use Rattle.leaf_spec.specs.Leaf.{leafFormat}
+use Rattle.leaf_spec.specs.Leaf.{leafFormat, ProperLeaf}
 use Rattle.bucket_call_spec.specs.Fetch.{Held, Going, movedNode, movedNodes, closing, Round, on}
 use Rattle.bucket_call_spec.specs.Call.{afterPuts}
 use Rattle.round_spec.specs.Whole.{contents}
 use Rattle.round_laws.specs.Lists.{join-perm}
 use Rattle.round_laws.specs.Room.{join-length}
-use Rattle.leaf_spec.specs.Leaf.{ProperLeaf}
 use Rattle.none_lost_laws.specs.Fitting.{LinkFits, fit-of-link}
 use Rattle.leaf_spec.specs.Entries.{pairOf}
 use Rattle.none_lost_laws.specs.AtHand.{pairs-left}

@@ -27,10 +27,9 @@ use Rattle.run_laws.specs.SafeLaws.{within-more}
 use Rattle.run_laws.specs.RoundsLaws.{some-rounds}
 use Rattle.run_laws.specs.EnoughRounds.{mostWanted, program-within}
 use Rattle.round_spec.specs.Round.{join, limit}
-use Rattle.leaf_spec.specs.Leaf.{leafFormat}
+use Rattle.leaf_spec.specs.Leaf.{leafFormat, ProperLeaf}
 use Rattle.bucket_call_spec.specs.Fetch.{Going, closing, Round, on, shut, fetchRounds}
 use Rattle.bucket_call_spec.specs.Call.{fetchedBy, Store, putRounds, afterPuts, stepped, afterFetches, bucketCall}
-use Rattle.leaf_spec.specs.Leaf.{ProperLeaf}
 use Rattle.none_lost_laws.specs.Fitting.{LinkFits, link-of-fit}
 use Rattle.none_lost_laws.specs.Yields.{yields-done, yields-map, yields-both}
 use Rattle.leaf_spec.specs.Entries.{OpFits}

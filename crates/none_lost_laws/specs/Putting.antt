@@ -15,13 +15,12 @@ use Rattle.method_spec.specs.Answer.{Answer, found, absent, replaced, new, remo
 use Rattle.method_spec.specs.Map.{Outcome}
 use Rattle.method_spec.specs.Plain.{Pair}
 use Rattle.round_spec.specs.Round.{join, limit}
-use Rattle.leaf_spec.specs.Leaf.{leafFormat}
+use Rattle.leaf_spec.specs.Leaf.{leafFormat, ProperLeaf}
 use Rattle.bucket_call_spec.specs.Fetch.{Held, Going, Round, on, shut, idleRound}
 use Rattle.bucket_call_spec.specs.Call.{putRounds, stepped}
 use Rattle.round_spec.specs.Whole.{contents}
 use Rattle.round_laws.specs.Lists.{join-perm}
 use Rattle.round_laws.specs.Room.{join-length}
-use Rattle.leaf_spec.specs.Leaf.{ProperLeaf}
 use Rattle.none_lost_laws.specs.Fitting.{fits-is-proper}
 use Rattle.leaf_spec.specs.Entries.{pairOf}
 use Rattle.none_lost_laws.specs.AtHand.{pairsOf, pairs-three}

@@ -19,13 +19,12 @@ use Rattle.method_spec.specs.Node.{Link, Node}
 use Rattle.method_spec.specs.Prog.{Prog}
 use Rattle.method_spec.specs.Plain.{Pair}
 use Rattle.round_spec.specs.Round.{Wish, Hand, keysOf, readHalf, limit}
-use Rattle.leaf_spec.specs.Leaf.{leafFormat}
+use Rattle.leaf_spec.specs.Leaf.{leafFormat, ProperLeaf}
 use Rattle.bucket_call_spec.specs.Fetch.{Held, Going, revealing, written, tooMany, heldKeys, Round, on, shut, atClose, idleRound}
 use Rattle.round_spec.specs.Whole.{listed, IsTree, contents}
 use Rattle.round_laws.specs.ReadHalf.{found, read-half-says, read-grants, hand-perm}
 use Rattle.round_laws.specs.NothingLost.{round-is-tree, round-proper, nothing-lost}
 use Rattle.round_laws.specs.Room.{found-length, hand-length, write-length}
-use Rattle.leaf_spec.specs.Leaf.{ProperLeaf}
 use Rattle.leaf_laws.specs.Proper.{leaves-lawful}
 use Rattle.leaf_spec.specs.Entries.{pairOf}
 use Rattle.none_lost_laws.specs.AtHand.{pairsOf, pairs-left}

@@ -12,8 +12,7 @@ use Rattle.method_spec.specs.Prog.{Prog}
 use Rattle.method_spec.specs.Map.{Outcome}
 use Rattle.method_spec.specs.Call.{test}
 use Rattle.round_spec.specs.Round.{keysOf, noneTwice}
-use Rattle.round_spec.specs.Whole.{IsTree}
-use Rattle.round_spec.specs.Whole.{Ascending}
+use Rattle.round_spec.specs.Whole.{IsTree, Ascending}
 use Rattle.leaf_spec.specs.Leaf.{leafFormat}
 use Rattle.leaf_spec.specs.Convert.{toNode}
 use Rattle.word_round_laws.specs.Words.{wordCount}

@@ -11,12 +11,10 @@ use lib.ListN.{length, take, drop, length-take, length-drop}
 use Rattle.list_spec.specs.Choice.{pick}
 use Rattle.slot_spec.specs.LittleEndian.{Bytes}
 use Rattle.slot_laws.specs.LittleEndianLaws.{value-below, bytes-take, bytes-drop}
-use Rattle.slot_spec.specs.Layout.{fields, total}
-use Rattle.slot_spec.specs.Layout.{Fit}
+use Rattle.slot_spec.specs.Layout.{fields, total, Fit}
 use Rattle.slot_laws.specs.LayoutLaws.{length-pack, pack-bytes}
 use Rattle.slot_spec.specs.Tree.{slotLength}
-use Rattle.slot_spec.specs.Slot.{widths, numbers, fieldsIn, fieldsOf, nodeOf, encode, bad, wellFormed, readSlot}
-use Rattle.slot_spec.specs.Slot.{Ranged}
+use Rattle.slot_spec.specs.Slot.{widths, numbers, fieldsIn, fieldsOf, nodeOf, encode, bad, wellFormed, readSlot, Ranged}
 use Rattle.slot_laws.specs.ReadLaws.{ReadAs, written-reads-back, read-is-written, read-zero, own-tag-too-large}
 use Rattle.slot_spec.specs.declared.Node.{Node}
 use Rattle.slot_spec.specs.declared.Reading.{Reading}

@@ -5,8 +5,7 @@ use mathlib.Core.List.{List, map}
 use mathlib.Core.Option.{Option, Option·map}
 use Prim.Native.Nat.{ℕ, _^_, _<_}
 use Rattle.list_spec.specs.Distinct.{All}
-use Rattle.slot_spec.specs.Slot.{Fields, fieldsIn, fieldsOf, readSlot, slotBytes, slotOf}
-use Rattle.slot_spec.specs.Slot.{Ranged}
+use Rattle.slot_spec.specs.Slot.{Fields, fieldsIn, fieldsOf, readSlot, slotBytes, slotOf, Ranged}
 use Rattle.slot_laws.specs.SlotLaws.{fields-encoded, slot-encoded}
 use Rattle.slot_spec.specs.declared.Node.{Node}
 use Rattle.round_spec.specs.Format.{Read, full, empty, bad}

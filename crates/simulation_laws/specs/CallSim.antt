@@ -21,13 +21,12 @@ use Rattle.run_laws.specs.Fetches.{keys}
 use Rattle.run_laws.specs.Calls.{memoryOf}
 use Rattle.run_laws.specs.Answers.{represents-call}
 use Rattle.method_laws.specs.Represented.{Held, represents}
-use Rattle.leaf_spec.specs.Leaf.{leafFormat}
+use Rattle.leaf_spec.specs.Leaf.{leafFormat, ProperLeaf}
 use Rattle.bucket_call_spec.specs.Fetch.{Going, Round}
 use Rattle.bucket_call_spec.specs.Call.{Store, fetchedBy, bucketCall}
 use Rattle.round_laws.specs.NoDamage.{there-proper}
 use Rattle.round_laws.specs.Kept.{fresh-empty, fresh-kept}
 use Rattle.list_spec.specs.Ascending.{ascending}
-use Rattle.leaf_spec.specs.Leaf.{ProperLeaf}
 use Rattle.leaf_laws.specs.Proper.{leaves-lawful, Fits, proper-fits}
 use Rattle.leaf_spec.specs.Entries.{OpFits}
 use Rattle.simulation_laws.specs.ProperCall.{call-held, call-proper}

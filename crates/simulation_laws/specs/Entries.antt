@@ -18,12 +18,11 @@ use Rattle.list_spec.specs.Distinct.{All}
 use Rattle.list_laws.specs.DistinctLaws.{all-nil, all-cons}
 use Rattle.balance_spec.specs.Tree.{Tree, leaf, node}
 use Rattle.method_spec.specs.Answer.{Structure, map, stack, Op, get, put, remove, push, pop}
-use Rattle.method_spec.specs.Plain.{Pair, Contents, store, erase, popped-from, plain}
+use Rattle.method_spec.specs.Plain.{Pair, Contents, store, erase, popped-from, plain, numbered, entriesOf}
 use Rattle.method_spec.specs.Call.{capacity, Memory}
 use Rattle.run_laws.specs.StackRepresents.{Cell, chain}
 use Rattle.avl_laws.specs.Search.{Entry, pairs, nodesOf}
 use Rattle.method_laws.specs.Represented.{Held}
-use Rattle.method_spec.specs.Plain.{numbered, entriesOf}
 
 -- ---- within their widths
 

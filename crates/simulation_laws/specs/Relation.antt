@@ -12,12 +12,10 @@ use Rattle.method_spec.specs.Plain.{Pair}
 use Rattle.method_spec.specs.Map.{Outcome}
 use Rattle.method_spec.specs.Call.{Memory, Called}
 use Rattle.round_spec.specs.Round.{limit}
-use Rattle.leaf_spec.specs.Leaf.{leafFormat}
+use Rattle.leaf_spec.specs.Leaf.{leafFormat, ProperLeaf}
 use Rattle.bucket_call_spec.specs.Fetch.{Held, Going, heldKeys, Left, Round}
 use Rattle.bucket_call_spec.specs.Call.{Store}
-use Rattle.round_spec.specs.Whole.{contents, Kept}
-use Rattle.round_spec.specs.Whole.{Ascending}
-use Rattle.leaf_spec.specs.Leaf.{ProperLeaf}
+use Rattle.round_spec.specs.Whole.{contents, Kept, Ascending}
 use Rattle.leaf_spec.specs.Entries.{pairOf}
 use Rattle.bucket_call_spec.specs.Simulates.{Simulates, Remains}
 

@@ -22,7 +22,7 @@ use Rattle.run_laws.specs.Fetches.{keys}
 use Rattle.run_laws.specs.Calls.{memoryOf}
 use Rattle.method_laws.specs.Represented.{Held}
 use Rattle.round_spec.specs.Round.{keysOf, join, limit}
-use Rattle.leaf_spec.specs.Leaf.{leafFormat}
+use Rattle.leaf_spec.specs.Leaf.{leafFormat, ProperLeaf}
 use Rattle.bucket_call_spec.specs.Fetch.{Going, movedNode, movedNodes, closing, heldKeys, Round, on}
 use Rattle.bucket_call_spec.specs.Fetch as fetch
 use Rattle.bucket_call_spec.specs.Call.{Store, putRounds, afterPuts, afterFetches}
@@ -33,7 +33,6 @@ use Rattle.round_laws.specs.Room.{join-length}
 use Rattle.round_laws.specs.ReadHalf.{distinct-but-last}
 use Rattle.round_laws.specs.Kept.{kept-holding, kept-joined}
 use Rattle.round_laws.specs.Sorted.{ascending-join}
-use Rattle.leaf_spec.specs.Leaf.{ProperLeaf}
 use Rattle.leaf_spec.specs.Entries.{pairOf}
 use Rattle.bucket_call_spec.specs.Simulates.{Simulates, as-before, as-after}
 use Rattle.simulation_laws.specs.Relation.{leftBy, storeEntries, memoryEntries, Matches, Overflowed, Stands, Few, Many}

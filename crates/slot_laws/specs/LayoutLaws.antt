@@ -5,11 +5,9 @@ use native.Mathlib.Omega.{arith}
 use mathlib.Core.List.{List, [], _∷_, _++_, append-assoc}
 use lib.ListN.{length, take, drop, length-append, length-drop, take-append-drop, length-take}
 use lib.Seq.{take-at, drop-at}
-use Rattle.slot_spec.specs.LittleEndian.{value, bytes}
-use Rattle.slot_spec.specs.LittleEndian.{Bytes}
+use Rattle.slot_spec.specs.LittleEndian.{value, bytes, Bytes}
 use Rattle.slot_laws.specs.LittleEndianLaws.{length-bytes, bytes-split, bytes-value, value-bytes, value-read, bytes-take, bytes-drop, bytes-are, bytes-append}
-use Rattle.slot_spec.specs.Layout.{fields, pack, total}
-use Rattle.slot_spec.specs.Layout.{Fit}
+use Rattle.slot_spec.specs.Layout.{fields, pack, total, Fit}
 
 pub length-pack : (ws vs : List ℕ) → length (pack ws vs) ≡ total ws
 unfolding pack total

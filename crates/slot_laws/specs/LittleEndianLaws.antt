@@ -6,8 +6,7 @@ use native.Mathlib.Omega.{arith}
 use mathlib.Core.List.{List, [], _∷_, _++_}
 use lib.Arith.{mod-mul}
 use lib.ListN.{length, getD, take, drop}
-use Rattle.slot_spec.specs.LittleEndian.{value, bytes}
-use Rattle.slot_spec.specs.LittleEndian.{Bytes}
+use Rattle.slot_spec.specs.LittleEndian.{value, bytes, Bytes}
 
 pub power-positive : (w : ℕ) → 0 < 256 ^ w
 power-positive zero = omega arith

@@ -3,8 +3,7 @@ use native.Mathlib.Omega.{arith}
 use mir.Syntax.{w8, w16, w32, w64}
 use mir.Val.{Fits}
 use Rattle.slot_spec.specs.Layout.{Fit}
-use Rattle.slot_spec.specs.Slot.{fieldsOf}
-use Rattle.slot_spec.specs.Slot.{Ranged}
+use Rattle.slot_spec.specs.Slot.{fieldsOf, Ranged}
 use Rattle.slot_laws.specs.SlotLaws.{Words}
 use Rattle.slot_spec.specs.declared.Link.{Link}
 use Rattle.slot_spec.specs.declared.Node.{Node}

@@ -11,13 +11,11 @@ use lib.ListN.{length, replicate}
 use lib.Pow.{pow-pos}
 use borrow.Author.Tests.{eq-eqb, ne-eqb, eqb-true, eqb-false, lt-leb, le-leb, le-ltb, lt-ltb, leb-true, leb-false}
 use Rattle.list_spec.specs.Choice.{pick}
-use Rattle.slot_spec.specs.LittleEndian.{value}
-use Rattle.slot_spec.specs.LittleEndian.{Bytes}
+use Rattle.slot_spec.specs.LittleEndian.{value, Bytes}
 use Rattle.slot_spec.specs.Layout.{fields, pack, total}
 use Rattle.slot_laws.specs.LayoutLaws.{pack-fields}
 use Rattle.slot_spec.specs.Tree.{passes}
-use Rattle.slot_spec.specs.Slot.{Fields, widths, numbers, fieldsIn, fieldsOf, nodeOf, encode, allZero, zeroNotZero, absentHasMore, tagTooLarge, linkGood, bad, wellFormed, readSlot, slotBytes}
-use Rattle.slot_spec.specs.Slot.{Ranged}
+use Rattle.slot_spec.specs.Slot.{Fields, widths, numbers, fieldsIn, fieldsOf, nodeOf, encode, allZero, zeroNotZero, absentHasMore, tagTooLarge, linkGood, bad, wellFormed, readSlot, slotBytes, Ranged}
 use Rattle.slot_laws.specs.SlotLaws.{Words, all-zero-replicate, fields-encoded, node-fields, fieldsOfWords, fields-in-words}
 use Rattle.slot_spec.specs.declared.Link.{Link}
 use Rattle.slot_spec.specs.declared.Node.{Node}

@@ -8,8 +8,7 @@ use Rattle.slot_spec.specs.declared.Node.{Node}
 use Rattle.slot_spec.specs.declared.Slot.{Slot}
 use Rattle.slot_spec.specs.Layout.{fields}
 use Rattle.slot_spec.specs.LittleEndian.{value, bytes}
-use Rattle.slot_spec.specs.Slot.{noNode, fieldsIn, nodeOf, slotBytes, slotOf}
-use Rattle.slot_spec.specs.Slot.{Ranged}
+use Rattle.slot_spec.specs.Slot.{noNode, fieldsIn, nodeOf, slotBytes, slotOf, Ranged}
 use Rattle.slot_laws.specs.SlotLaws.{node-fields, fields-encoded, slot-encoded}
 use Rattle.slot_spec.specs.Row.{slotsOf, zeroSlot, nodeFrom, nodesFrom}
 

@@ -10,16 +10,13 @@ use lib.Bits.{bitOr, bitAnd, or-zero-l, or-add-and, and-le-r}
 use lib.Dec.{eqb}
 use lib.ListN.{length, replicate, length-append}
 use borrow.Author.Tests.{eq-eqb, ne-eqb, eqb-true, eqb-false}
-use Rattle.slot_spec.specs.LittleEndian.{value, bytes}
-use Rattle.slot_spec.specs.LittleEndian.{Bytes}
+use Rattle.slot_spec.specs.LittleEndian.{value, bytes, Bytes}
 use Rattle.slot_laws.specs.LittleEndianLaws.{length-bytes, bytes-are, bytes-append}
-use Rattle.slot_spec.specs.Layout.{fields, pack, total}
-use Rattle.slot_spec.specs.Layout.{Fit}
+use Rattle.slot_spec.specs.Layout.{fields, pack, total, Fit}
 use Rattle.slot_laws.specs.LayoutLaws.{fields-none, fields-part, fields-whole, fields-pack, pack-fields}
-use Rattle.slot_spec.specs.Slot.{Fields, widths, numbers, named, fieldsIn, fieldsOf, nodeOf, encode, allZero, slotBytes, slotOf}
+use Rattle.slot_spec.specs.Slot.{Fields, widths, numbers, named, fieldsIn, fieldsOf, nodeOf, encode, allZero, slotBytes, slotOf, Ranged}
 use Rattle.slot_spec.specs.declared.Node.{Node}
 use Rattle.slot_spec.specs.declared.Slot.{Slot}
-use Rattle.slot_spec.specs.Slot.{Ranged}
 
 -- ---- the fields of four words
 -- A word of the machine.

@@ -6,8 +6,7 @@ use native.Mathlib.Omega.{arith}
 use mathlib.Core.List.{List, [], _∷_, _++_}
 use lib.ListN.{length, getD, take, drop, set, length-take, length-drop}
 use lib.Seq.{drop-cons, sets, take-add, drop-drop}
-use Rattle.slot_spec.specs.LittleEndian.{value, bytes}
-use Rattle.slot_spec.specs.LittleEndian.{Bytes}
+use Rattle.slot_spec.specs.LittleEndian.{value, bytes, Bytes}
 use Rattle.slot_laws.specs.LittleEndianLaws.{length-bytes, bytes-value, bytes-take, bytes-drop}
 use Rattle.slot_spec.specs.Slot.{slotBytes}
 use Rattle.slot_spec.specs.declared.Slot.{Slot}

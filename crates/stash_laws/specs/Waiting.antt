@@ -4,8 +4,7 @@ use mathlib.Core.List.{List, map}
 use Prim.Native.Nat.{ℕ, _≤_}
 use lib.ListN.{length, take}
 use Rattle.list_spec.specs.Distinct.{All}
-use Rattle.slot_spec.specs.Slot.{slotOf}
-use Rattle.slot_spec.specs.Slot.{Ranged}
+use Rattle.slot_spec.specs.Slot.{slotOf, Ranged}
 use Rattle.slot_spec.specs.declared.Slot.{Slot}
 use Rattle.method_spec.specs.Node.{Node}
 use Rattle.leaf_spec.specs.Convert.{toNode, fromNode}

@@ -6,8 +6,7 @@ use Prim.Native.Nat.{ℕ, _^_, _≤_, _<_}
 use native.Mathlib.Omega.{arith}
 use lib.ListN.{length, take, length-map, length-take}
 use Rattle.list_spec.specs.Distinct.{All}
-use Rattle.slot_spec.specs.Slot.{Fields, fieldsIn, fieldsOf, readSlot, slotBytes, slotOf}
-use Rattle.slot_spec.specs.Slot.{Ranged}
+use Rattle.slot_spec.specs.Slot.{Fields, fieldsIn, fieldsOf, readSlot, slotBytes, slotOf, Ranged}
 use Rattle.slot_laws.specs.SlotLaws.{fields-encoded, slot-encoded}
 use Rattle.slot_laws.specs.RowLaws.{node-from-slot}
 use Rattle.slot_spec.specs.declared.Node as node

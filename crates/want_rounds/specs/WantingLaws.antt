@@ -24,12 +24,11 @@ use Rattle.method_spec.specs.Rounds.{rounds, spareDraw}
 use Rattle.method_spec.specs.Call.{capacity, program, test}
 use Rattle.run_laws.specs.Calls.{program-same}
 use Rattle.round_spec.specs.Round.{Hand, readHalf, limit}
-use Rattle.leaf_spec.specs.Leaf.{leafFormat}
+use Rattle.leaf_spec.specs.Leaf.{leafFormat, ProperLeaf}
 use Rattle.bucket_call_spec.specs.Call.{putRounds}
 use Rattle.round_spec.specs.Whole.{IsTree}
 use Rattle.bucket_call_spec.specs.Fetch as fetch
 use Rattle.bucket_call_spec.specs.Fetch.{Going, heldKeys, tooMany, revealing, written, Round, on, shut, atClose, idleRound, wantRound, fetchRound, fetchRounds}
-use Rattle.leaf_spec.specs.Leaf.{ProperLeaf}
 use Rattle.none_lost_laws.specs.Yields.{Yields, asks}
 use Rattle.none_lost_laws.specs.Given.{Given, AskedFrom}
 use Rattle.none_lost_laws.specs.Sound.{total, goes}

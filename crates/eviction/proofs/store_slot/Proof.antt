@@ -5,8 +5,7 @@ use lib.ListN.{length}
 use Rattle.slot_spec.specs.Tree.{pathBucket, bucketStart, bucketLength}
 use Rattle.slot_spec.specs.Slot.{slotBytes}
 use Rattle.slot_laws.specs.SlotLaws.{slot-length}
-use Rattle.word_round_laws.specs.StoreLaws.{part-stored}
-use Rattle.word_round_laws.specs.StoreLaws.{bucket-lent}
+use Rattle.word_round_laws.specs.StoreLaws.{part-stored, bucket-lent}
 use borrow.Author.Needs.{needs}
 use native.Mathlib.Omega.{arith}
 use Rattle.eviction.proofs.store_slot.Statement.{statement}

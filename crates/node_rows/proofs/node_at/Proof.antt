@@ -1,7 +1,6 @@
 use mathlib.Core.Path.{_∙_}
 use native.Mathlib.Omega.{arith}
 use Rattle.slot_laws.specs.RowLaws.{row-got}
-use native.Mathlib.Omega.{arith}
 use borrow.Author.Needs.{needs}
 use Rattle.node_rows.proofs.node_at.Statement.{statement}
 use Rattle.node_rows.proofs.node_at.Tie as tie

@@ -5,7 +5,6 @@ use Rattle.slot_spec.specs.declared.Slot.{Slot}
 use Rattle.slot_spec.specs.Row.{nodesFrom}
 use Rattle.slot_laws.specs.RowLaws.{stored, row-put, stored-length}
 use Rattle.slot_laws.specs.Ranges.{NodeRanges, node-ranges}
-use native.Mathlib.Omega.{arith}
 use borrow.Author.Needs.{needs}
 use Rattle.node_rows.proofs.set_node.Statement.{statement}
 use Rattle.node_rows.proofs.set_node.Tie as tie

@@ -1,7 +1,6 @@
 use mathlib.Core.Path.{refl}
 use native.Mathlib.Omega.{arith}
 use Rattle.node_rows.specs.RowLaws.{from-root, from-left, from-right}
-use native.Mathlib.Omega.{arith}
 use borrow.Author.Needs.{needs}
 use Rattle.node_rows.proofs.word_of.Statement.{statement}
 use Rattle.node_rows.proofs.word_of.Tie as tie

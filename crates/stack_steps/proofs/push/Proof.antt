@@ -3,7 +3,6 @@ use native.Mathlib.Omega.{arith}
 use Rattle.leaf_spec.specs.Convert.{toLink}
 use Rattle.node_rows.specs.HeldLaws.{row-more}
 use Rattle.stack_steps.specs.StackLaws.{push-full, push-one}
-use native.Mathlib.Omega.{arith}
 use borrow.Author.Needs.{needs}
 use Rattle.stack_steps.proofs.push.Statement.{statement}
 use Rattle.stack_steps.proofs.push.Tie as tie

@@ -2,7 +2,6 @@ use native.Mathlib.Omega.{arith}
 use Rattle.leaf_spec.specs.Convert.{toLink}
 use Rattle.node_rows.specs.Held.{heldIn}
 use Rattle.structures.specs.OperationLaws.{walks-of, program-get, program-put, program-remove, program-push, program-pop, push-wants-none, wanted-by, wanted-up}
-use native.Mathlib.Omega.{arith}
 use borrow.Author.Needs.{needs}
 use Rattle.structures.proofs.operation.wanted.Statement.{statement}
 use Rattle.structures.proofs.operation.wanted.Tie as tie

@@ -1,4 +1,4 @@
--- `walk_lines::line::answer_word` meets its contract, answer by answer.
+-- `answer_words::answer_word` meets its contract, answer by answer.
 use borrow.Author.Needs.{needs}
 use Rattle.answer_words.proofs.answer_word.Statement.{statement}
 use Rattle.answer_words.proofs.answer_word.Tie as tie

@@ -1,4 +1,4 @@
--- `walk_lines::line::reply_word` meets its contract.
+-- `answer_words::reply_word` meets its contract.
 use borrow.Author.Needs.{needs}
 use Rattle.answer_words.proofs.reply_word.Statement.{statement}
 use Rattle.answer_words.proofs.reply_word.Tie as tie

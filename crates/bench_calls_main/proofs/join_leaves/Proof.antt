@@ -1,4 +1,4 @@
--- `bench_calls::join_leaves` is safe and ends.
+-- `bench_calls_main::join_leaves` is safe and ends.
 use Prim.Native.Nat.{_-_, _≤_}
 use borrow.Author.Needs.{needs}
 use Rattle.bench_calls_main.proofs.join_leaves.Statement.{statement}

@@ -1,4 +1,4 @@
--- `bench_calls::main` is safe and ends. A state that is not marked has a size of 1 to 8.
+-- `bench_calls_main::main` is safe and ends. A state that is not marked has a size of 1 to 8.
 use mathlib.Core.Path.{sym, _∙_, ap}
 use Rattle.state_spec.specs.declared.State.{State}
 use Rattle.walk_laws.specs.InputLaws.{open-size}

@@ -1,4 +1,4 @@
--- `bench_calls::make_calls` is safe and ends, and what it made calls of lies within the block. The loop's invariant: every lent buffer is as long
+-- `bench_calls_main::make_calls` is safe and ends, and what it made calls of lies within the block. The loop's invariant: every lent buffer is as long
 -- as it was, and the next call starts within what the block holds.
 use Prim.Native.Nat.{_+_, _-_, _*_, _≤_}
 use mathlib.Core.Path.{_≡_}

@@ -1,4 +1,4 @@
--- `bench_calls::move_down` meets its contract. The loop's invariant: the block is as long as it was, and so many bytes have moved.
+-- `bench_calls_main::move_down` meets its contract. The loop's invariant: the block is as long as it was, and so many bytes have moved.
 use Prim.Native.Nat.{_+_, _-_, _≤_}
 use mathlib.Core.Path.{_≡_}
 use lib.ListN.{length}

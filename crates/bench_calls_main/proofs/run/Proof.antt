@@ -1,4 +1,4 @@
--- `bench_calls::run` is safe and ends: the measure is the number of turns that are left. The invariant: every lent buffer is as long as it was,
+-- `bench_calls_main::run` is safe and ends: the measure is the number of turns that are left. The invariant: every lent buffer is as long as it was,
 -- and the bytes that were held back fit the block.
 use Prim.Native.Nat.{_≤_}
 use mathlib.Core.Path.{_≡_}

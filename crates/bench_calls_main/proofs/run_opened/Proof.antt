@@ -1,4 +1,4 @@
--- `bench_calls::run_opened` is safe and ends: a tape of as many numbers as a call has draws, and a trace buffer of 2F.
+-- `bench_calls_main::run_opened` is safe and ends: a tape of as many numbers as a call has draws, and a trace buffer of 2F.
 use mathlib.Core.Path.{sym}
 use Prim.Native.Nat.{_*_}
 use Rattle.state_spec.specs.Fetching.{mostDraws}

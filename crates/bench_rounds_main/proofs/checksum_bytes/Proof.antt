@@ -1,4 +1,4 @@
--- `bench_rounds::checksum_bytes` is safe and ends.
+-- `bench_rounds_main::checksum_bytes` is safe and ends.
 use Prim.Native.Nat.{_≤_, _-_}
 use lib.ListN.{length}
 use borrow.Author.Needs.{needs}

@@ -1,4 +1,4 @@
--- `bench_rounds::checksum_waiting` is safe and ends.
+-- `bench_rounds_main::checksum_waiting` is safe and ends.
 use Prim.Native.Nat.{_≤_, _-_}
 use Rattle.word_round_laws.specs.Words.{wordCount}
 use borrow.Author.Needs.{needs}

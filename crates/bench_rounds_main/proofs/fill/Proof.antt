@@ -1,4 +1,4 @@
--- `bench_rounds::fill` meets its contract. The loop's invariant: the store is at rest.
+-- `bench_rounds_main::fill` meets its contract. The loop's invariant: the store is at rest.
 use Rattle.bench_rounds_main.specs.RunLaws.{failed-ran}
 use Rattle.bench_rounds_main.specs.Run.{size, nodes}
 use Rattle.test_rounds.specs.Single.{Resting}

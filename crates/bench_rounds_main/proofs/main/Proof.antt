@@ -1,4 +1,4 @@
--- `bench_rounds::main` is safe and ends: the store is at rest after each run that did not fail.
+-- `bench_rounds_main::main` is safe and ends: the store is at rest after each run that did not fail.
 use Rattle.test_rounds.specs.SingleLaws.{none-waits}
 use Rattle.bench_rounds_main.specs.Run.{size}
 use borrow.Author.Tests.{not-false}

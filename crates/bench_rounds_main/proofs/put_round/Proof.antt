@@ -1,4 +1,4 @@
--- `bench_rounds::put_round` meets its contract.
+-- `bench_rounds_main::put_round` meets its contract.
 use mathlib.Core.Path.{refl}
 use borrow.Author.Tests.{not-false}
 use Rattle.test_rounds.specs.SingleLaws.{resting-waits}

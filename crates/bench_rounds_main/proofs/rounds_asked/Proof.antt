@@ -1,4 +1,4 @@
--- `bench_rounds::rounds_asked` is safe and ends: the number stays below what a word holds.
+-- `bench_rounds_main::rounds_asked` is safe and ends: the number stays below what a word holds.
 use Prim.Native.Nat.{_≤_, _<_, _-_}
 use mathlib.Core.Path.{_≡_}
 use mathlib.Core.Logic.{⊎-elim}

@@ -1,4 +1,4 @@
--- `bench_rounds::run` meets its contract. The loop's invariant: the store is at rest.
+-- `bench_rounds_main::run` meets its contract. The loop's invariant: the store is at rest.
 use mathlib.Core.Path.{_≡_, _∙_}
 use Prim.Native.Nat.{_≤_, _-_}
 use lib.ListN.{length, length-set}

@@ -1,4 +1,4 @@
--- `slots::bucket::read_slot` meets its contract.
+-- `bucket_writer::read_slot` meets its contract.
 use mathlib.Core.Path.{_∙_, ap}
 use Rattle.slot_spec.specs.Slot.{readSlot}
 use borrow.Author.Needs.{needs}

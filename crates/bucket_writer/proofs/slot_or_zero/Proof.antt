@@ -1,4 +1,4 @@
--- `slots::bucket::slot_or_zero` meets its contract.
+-- `bucket_writer::slot_or_zero` meets its contract.
 use Rattle.slot_laws.specs.BucketLaws.{slot-there, slot-missing}
 use borrow.Author.Needs.{needs}
 use Rattle.bucket_writer.proofs.slot_or_zero.Statement.{statement}

@@ -1,4 +1,4 @@
--- `slots::bucket::write_bucket` meets its contract. The invariant: the first j slots are written.
+-- `bucket_writer::write_bucket` meets its contract. The invariant: the first j slots are written.
 use lib.Seq.{length-sets}
 use mathlib.Core.Path.{_≡_, sym, _∙_, ap}
 use mathlib.Core.List.{map}

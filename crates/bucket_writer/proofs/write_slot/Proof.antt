@@ -1,4 +1,4 @@
--- `slots::bucket::write_slot` meets its contract.
+-- `bucket_writer::write_slot` meets its contract.
 use mathlib.Core.Path.{_∙_, ap}
 use lib.Seq.{sets}
 use borrow.Author.Needs.{needs}

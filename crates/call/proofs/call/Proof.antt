@@ -88,81 +88,64 @@ stand c =
 in-places : (c : tie.In-loop3 Inv-loop μ-loop Inv-loop2 μ-loop2 Inv-loop3 μ-loop3) → c .before .loop3 .j < 101
 in-places c = omega (arith, c .loop3-test .taken, c .before .before .greater .ensures, bounds (c .before .before .before .before .before .before .before .before .before .before .before .before .before .before .before .before .before .before .before) .1, c .before .before .before .before .before .before .before .before .before .before .before .call-words .ensures .holds .few)
 
--- src/lib.rt:28:9
 returns : tie.Need-returns Inv-loop μ-loop Inv-loop2 μ-loop2 Inv-loop3 μ-loop3
 returns c =
     let a = c .before .before .before .before .before .args in
     refuses (a .t1) (a .tree .now) (a .ticket .now) (a .tape .now) (a .trace .now) refl (refused-1 (a .t1) (a .tree .now) (a .ticket .now) (a .tape .now) (a .trace .now) (λ e. omega (arith, e, c .if1 .taken)))
 
--- src/lib.rt:35:9
 head-fits-requires :
     tie.Need-head-fits-requires Inv-loop μ-loop Inv-loop2 μ-loop2 Inv-loop3 μ-loop3
 head-fits-requires c κs = search needs
 
--- src/lib.rt:42:9
 returns-2 : tie.Need-returns-2 Inv-loop μ-loop Inv-loop2 μ-loop2 Inv-loop3 μ-loop3
 returns-2 c =
     let a = c .before .before .before .before .before .before .before .before .args in
     refuses (a .t1) (a .tree .now) (a .ticket .now) (a .tape .now) (a .trace .now) refl (refused-2 (a .t1) (a .tree .now) (a .ticket .now) (a .tape .now) (a .trace .now) (omega (arith, c .before .before .before .if1 .left)) (unfit-head (a .t1) (sym (c .before .head-fits .ensures) ∙ not-true (c .before .head-fits .result) (c .if2 .taken))))
 
--- src/lib.rt:48:16
 cast-size : tie.Need-cast-size Inv-loop μ-loop Inv-loop2 μ-loop2 Inv-loop3 μ-loop3
 cast-size c = search needs
 
--- src/lib.rt:49:13
 cast-n : tie.Need-cast-n Inv-loop μ-loop Inv-loop2 μ-loop2 Inv-loop3 μ-loop3
 cast-n c = search needs
 
--- src/lib.rt:53:5
 loop-holds : tie.Need-loop-holds Inv-loop μ-loop Inv-loop2 μ-loop2 Inv-loop3 μ-loop3
 loop-holds c = (looked-none (c .before .before .before .before .before .before .before .before .args .t1) _ refl, omega arith)
 
--- src/lib.rt:54:17
 mul-p : tie.Need-mul-p Inv-loop μ-loop Inv-loop2 μ-loop2 Inv-loop3 μ-loop3
 mul-p c = search needs
 
--- src/lib.rt:54:17
 element-copy-out-p :
     tie.Need-element-copy-out-p Inv-loop μ-loop Inv-loop2 μ-loop2 Inv-loop3 μ-loop3
 element-copy-out-p c = search needs
 
--- src/lib.rt:55:13
 used-fits-requires :
     tie.Need-used-fits-requires Inv-loop μ-loop Inv-loop2 μ-loop2 Inv-loop3 μ-loop3
 used-fits-requires c κs = bounds (c .before .before .before) .0
 
--- src/lib.rt:56:13
 returns-3 : tie.Need-returns-3 Inv-loop μ-loop Inv-loop2 μ-loop2 Inv-loop3 μ-loop3
 returns-3 c =
     let l = c .before .before .before .before .loop in
     let u = c .before .used-fits in
     unfit (c .before .before .before .before .before) (used-unfit (c .before .before .before .before .before .before .before .before .before .before .before .before .before .args .t1) (l .i) (l .least) (l .w) (l .inv .0) (c .before .before .before .loop-test .taken) (sym (u .ensures) ∙ not-true (u .result) (c .if3 .taken)))
 
--- src/lib.rt:63:24
 words-of-requires : tie.Need-words-of-requires Inv-loop μ-loop Inv-loop2 μ-loop2 Inv-loop3 μ-loop3
 words-of-requires c κs = search needs
 
--- src/lib.rt:63:9
 put-requires : tie.Need-put-requires Inv-loop μ-loop Inv-loop2 μ-loop2 Inv-loop3 μ-loop3
 put-requires c κs = search needs
 
--- src/lib.rt:64:17
 cast-least : tie.Need-cast-least Inv-loop μ-loop Inv-loop2 μ-loop2 Inv-loop3 μ-loop3
 cast-least c = search needs
 
--- src/lib.rt:64:17
 add-least : tie.Need-add-least Inv-loop μ-loop Inv-loop2 μ-loop2 Inv-loop3 μ-loop3
 add-least c = search needs
 
--- src/lib.rt:65:9
 add-i : tie.Need-add-i Inv-loop μ-loop Inv-loop2 μ-loop2 Inv-loop3 μ-loop3
 add-i c = search needs
 
--- src/lib.rt:53:5
 loop-less : tie.Need-loop-less Inv-loop μ-loop Inv-loop2 μ-loop2 Inv-loop3 μ-loop3
 loop-less c = search needs
 
--- src/lib.rt:53:5
 loop-again : tie.Need-loop-again Inv-loop μ-loop Inv-loop2 μ-loop2 Inv-loop3 μ-loop3
 loop-again c =
     let l = c .before .before .before .before .before .before .before .before .before .loop in
@@ -174,25 +157,20 @@ loop-again c =
       omega (arith, bounds (c .before .before .before .before .before .before .before .before .before .before) .1),
     )
 
--- src/lib.rt:67:5
 loop2-holds : tie.Need-loop2-holds Inv-loop μ-loop Inv-loop2 μ-loop2 Inv-loop3 μ-loop3
 loop2-holds c = (c .before .loop .inv .0, c .loop-test .left)
 
--- src/lib.rt:68:17
 mul-q : tie.Need-mul-q Inv-loop μ-loop Inv-loop2 μ-loop2 Inv-loop3 μ-loop3
 mul-q c = search needs
 
--- src/lib.rt:68:17
 element-copy-out-q :
     tie.Need-element-copy-out-q Inv-loop μ-loop Inv-loop2 μ-loop2 Inv-loop3 μ-loop3
 element-copy-out-q c = search needs
 
--- src/lib.rt:69:13
 zero-place-requires :
     tie.Need-zero-place-requires Inv-loop μ-loop Inv-loop2 μ-loop2 Inv-loop3 μ-loop3
 zero-place-requires c κs = search needs
 
--- src/lib.rt:70:13
 returns-4 : tie.Need-returns-4 Inv-loop μ-loop Inv-loop2 μ-loop2 Inv-loop3 μ-loop3
 returns-4 c =
     let l = c .before .before .before .before .loop2 in
@@ -200,15 +178,12 @@ returns-4 c =
     let z = c .before .zero-place in
     unfit (c .before .before .before .before .before .before .before) (unused-unfit (c .before .before .before .before .before .before .before .before .before .before .before .before .before .before .before .args .t1) (l .i) (m .least) (m .w) (l .inv .0) (l .inv .1) (omega (arith, c .before .before .before .loop2-test .taken)) (sym (z .ensures) ∙ not-true (z .result) (c .if4 .taken)))
 
--- src/lib.rt:76:9
 add-i-2 : tie.Need-add-i-2 Inv-loop μ-loop Inv-loop2 μ-loop2 Inv-loop3 μ-loop3
 add-i-2 c = search needs
 
--- src/lib.rt:67:5
 loop2-less : tie.Need-loop2-less Inv-loop μ-loop Inv-loop2 μ-loop2 Inv-loop3 μ-loop3
 loop2-less c = search needs
 
--- src/lib.rt:67:5
 loop2-again : tie.Need-loop2-again Inv-loop μ-loop Inv-loop2 μ-loop2 Inv-loop3 μ-loop3
 loop2-again c =
     let l = c .before .before .before .before .loop2 in
@@ -216,73 +191,57 @@ loop2-again c =
     let z = c .before .zero-place in
     (unused-more (c .before .before .before .before .before .before .before .before .before .before .before .before .before .before .before .args .t1) (l .i) (m .least) (m .w) (l .inv .0) (l .inv .1) (omega (arith, c .before .before .before .loop2-test .taken)) (sym (z .ensures) ∙ not-false (z .result) (c .if4 .left)), omega arith)
 
--- src/lib.rt:85:9
 call-words-requires :
     tie.Need-call-words-requires Inv-loop μ-loop Inv-loop2 μ-loop2 Inv-loop3 μ-loop3
 call-words-requires c κs = record { state = _; for = stand (c .before .before .before) }
 
--- src/lib.rt:88:9
 same-length : tie.Need-same-length Inv-loop μ-loop Inv-loop2 μ-loop2 Inv-loop3 μ-loop3
 same-length c = search needs
 
--- src/lib.rt:88:9
 same-length-2 : tie.Need-same-length-2 Inv-loop μ-loop Inv-loop2 μ-loop2 Inv-loop3 μ-loop3
 same-length-2 c = search needs
 
--- src/lib.rt:88:9
 returns-5 : tie.Need-returns-5 Inv-loop μ-loop Inv-loop2 μ-loop2 Inv-loop3 μ-loop3
 returns-5 c =
     let a = c .before .before .before .before .before .before .before .before .before .before .before .before .before .before .before .before .before .before .before .before .before .before .args in
     let r = c .before .before .before .before .before .before .call-words in
     kept (a .t1) (a .tree .now) (a .ticket .now) (a .tape .now) (a .trace .now) (stand (c .before .before .before .before .before .before .before .before .before .before)) (r .result) (r .ensures) (not-true (r .result .ran) (c .if5 .taken))
 
--- src/lib.rt:96:9
 no-place-requires : tie.Need-no-place-requires Inv-loop μ-loop Inv-loop2 μ-loop2 Inv-loop3 μ-loop3
 no-place-requires c κs = search needs
 
--- src/lib.rt:97:9
 greater-requires : tie.Need-greater-requires Inv-loop μ-loop Inv-loop2 μ-loop2 Inv-loop3 μ-loop3
 greater-requires c κs = search needs
 
--- src/lib.rt:100:5
 loop3-holds : tie.Need-loop3-holds Inv-loop μ-loop Inv-loop2 μ-loop2 Inv-loop3 μ-loop3
 loop3-holds c = (omega arith, refl)
 
--- src/lib.rt:102:32
 get-requires : tie.Need-get-requires Inv-loop μ-loop Inv-loop2 μ-loop2 Inv-loop3 μ-loop3
 get-requires c κs = (c .before .before .before .before .before .before .before .before .before .before .before .before .before .call-words .ensures .holds .sized, in-places (c .before .before))
 
--- src/lib.rt:102:17
 node-of-requires : tie.Need-node-of-requires Inv-loop μ-loop Inv-loop2 μ-loop2 Inv-loop3 μ-loop3
 node-of-requires c κs = search needs
 
--- src/lib.rt:103:13
 mul-t67 : tie.Need-mul-t67 Inv-loop μ-loop Inv-loop2 μ-loop2 Inv-loop3 μ-loop3
 mul-t67 c = omega (arith, in-places (c .before .before .before .before))
 
--- src/lib.rt:103:13
 element-set-from-left :
     tie.Need-element-set-from-left Inv-loop μ-loop Inv-loop2 μ-loop2 Inv-loop3 μ-loop3
 element-set-from-left c = in-places (c .before .before .before .before)
 
--- src/lib.rt:105:13
 mul-none : tie.Need-mul-none Inv-loop μ-loop Inv-loop2 μ-loop2 Inv-loop3 μ-loop3
 mul-none c = omega (arith, in-places (c .before))
 
--- src/lib.rt:105:13
 element-set-from-none :
     tie.Need-element-set-from-none Inv-loop μ-loop Inv-loop2 μ-loop2 Inv-loop3 μ-loop3
 element-set-from-none c = in-places (c .before)
 
--- src/lib.rt:107:9
 add-j : tie.Need-add-j Inv-loop μ-loop Inv-loop2 μ-loop2 Inv-loop3 μ-loop3
 add-j c = search needs
 
--- src/lib.rt:100:5
 loop3-less : tie.Need-loop3-less Inv-loop μ-loop Inv-loop2 μ-loop2 Inv-loop3 μ-loop3
 loop3-less c = search needs
 
--- src/lib.rt:100:5
 loop3-again : tie.Need-loop3-again Inv-loop μ-loop Inv-loop2 μ-loop2 Inv-loop3 μ-loop3
 loop3-again c =
     let r = c .before .before .before .before .before .before .before .before .before .before .before .before .call-words in
@@ -296,19 +255,15 @@ loop3-again c =
           (c .if6 .came),
     )
 
--- src/lib.rt:112:18
 cast-left : tie.Need-cast-left Inv-loop μ-loop Inv-loop2 μ-loop2 Inv-loop3 μ-loop3
 cast-left c = search needs
 
--- src/lib.rt:24:1
 same-length-3 : tie.Need-same-length-3 Inv-loop μ-loop Inv-loop2 μ-loop2 Inv-loop3 μ-loop3
 same-length-3 c = search needs
 
--- src/lib.rt:24:1
 same-length-4 : tie.Need-same-length-4 Inv-loop μ-loop Inv-loop2 μ-loop2 Inv-loop3 μ-loop3
 same-length-4 c = search needs
 
--- src/lib.rt:24:1
 returns-6 : tie.Need-returns-6 Inv-loop μ-loop Inv-loop2 μ-loop2 Inv-loop3 μ-loop3
 returns-6 c =
     let a = c .before .before .before .before .before .before .before .before .before .before .before .before .before .before .before .before .before .before .before .before .before .before .before .before .before .before .before .args in

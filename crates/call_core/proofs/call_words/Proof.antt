@@ -35,30 +35,24 @@ module _ (c : tie.Else4) where
       (bytes-of (a .tree .now) (λ i. omega (arith, c .before .before .before .before .before .before .before .before .before .before .before .before .before .before .before .slice-known .given i))) (bytes-of (a .ticket .now) (λ i. omega (arith, c .before .before .before .before .before .before .before .before .before .before .before .before .before .before .shared-slice-known .given i)))
       (omega (arith, widths), (omega (arith, widths), omega (arith, widths)))
 
--- src/lib.rt:58:16
 cast-size : tie.Need-cast-size
 cast-size c = search needs
 
--- src/lib.rt:59:22
 tree-length-requires : tie.Need-tree-length-requires
 tree-length-requires c κs = omega (arith, head-sizes (c .before .before .before .before .before .pre .for))
 
--- src/lib.rt:60:9
 refused-requires : tie.Need-refused-requires
 refused-requires c κs = search needs
 
--- src/lib.rt:60:9
 returns : tie.Need-returns
 returns c =
     let s = c .before .before .before .before .before .before .before .before in
     let a = s .args in
     core-refuses (s .pre) 3 (c .refused .ensures) (λ x st. gives-3 st (a .tree .now) (a .ticket .now) (a .tape .now) (a .trace .now) (λ e. omega (arith, e, c .before .if1 .taken, c .before .before .tree-length .ensures)))
 
--- src/lib.rt:63:9
 refused-requires-2 : tie.Need-refused-requires-2
 refused-requires-2 c κs = search needs
 
--- src/lib.rt:63:9
 returns-2 : tie.Need-returns-2
 returns-2 c =
     let s = c .before .before .before .before .before .before .before .before .before in
@@ -66,23 +60,18 @@ returns-2 c =
     core-refuses (s .pre) 4 (c .refused2 .ensures)
     (λ x st. gives-4 st (a .tree .now) (a .ticket .now) (a .tape .now) (a .trace .now) (omega (arith, c .before .before .if1 .left, c .before .before .before .tree-length .ensures)) (λ e. omega (arith, e, c .before .if2 .taken)))
 
--- src/lib.rt:65:9
 read-ticket-requires : tie.Need-read-ticket-requires
 read-ticket-requires c κs = search needs
 
--- src/lib.rt:66:21
 enum-known-asked : tie.Need-enum-known-asked
 enum-known-asked c = search needs
 
--- src/lib.rt:67:9
 enum-told : tie.Need-enum-told
 enum-told c = search needs
 
--- src/lib.rt:67:9
 refused-requires-3 : tie.Need-refused-requires-3
 refused-requires-3 c κs = search needs
 
--- src/lib.rt:67:9
 returns-3 : tie.Need-returns-3
 returns-3 c =
     let s = c .before .before .before .before .before .before .before .before .before .before .before .before in
@@ -90,15 +79,12 @@ returns-3 c =
     core-refuses (s .pre) 5 (c .refused3 .ensures)
     (λ x st. gives-5 st (a .tree .now) (a .ticket .now) (a .tape .now) (a .trace .now) (omega (arith, c .before .before .before .before .before .if1 .left, c .before .before .before .before .before .before .tree-length .ensures)) (omega (arith, c .before .before .before .before .if2 .left)) (sym (c .before .before .before .read-ticket .ensures) ∙ c .before .enum-told .given .1))
 
--- src/lib.rt:69:21
 draws-of-requires : tie.Need-draws-of-requires
 draws-of-requires c κs = head-sizes (c .before .before .before .before .before .before .before .before .before .before .before .before .pre .for)
 
--- src/lib.rt:70:9
 refused-requires-4 : tie.Need-refused-requires-4
 refused-requires-4 c κs = search needs
 
--- src/lib.rt:70:9
 returns-4 : tie.Need-returns-4
 returns-4 c =
     let s = c .before .before .before .before .before .before .before .before .before .before .before .before .before .before .before in
@@ -107,19 +93,15 @@ returns-4 c =
     (λ x st. gives-6 st (a .tree .now) (a .ticket .now) (a .tape .now) (a .trace .now) (omega (arith, c .before .before .before .before .before .before .before .before .if1 .left, c .before .before .before .before .before .before .before .before .before .tree-length .ensures)) (omega (arith, c .before .before .before .before .before .before .before .if2 .left)) (c .before .before .before .before .asked .given .0 .0)
     (sym (c .before .before .before .before .before .before .read-ticket .ensures) ∙ c .before .before .before .before .asked .given .1) _ refl (omega (arith, c .before .if3 .taken, c .before .before .draws-of .ensures .0)))
 
--- src/lib.rt:72:9
 rounds-of-requires : tie.Need-rounds-of-requires
 rounds-of-requires c κs = head-sizes (c .before .before .before .before .before .before .before .before .before .before .before .before .before .before .pre .for)
 
--- src/lib.rt:73:22
 mul-if4 : tie.Need-mul-if4
 mul-if4 c = search needs
 
--- src/lib.rt:74:9
 refused-requires-5 : tie.Need-refused-requires-5
 refused-requires-5 c κs = search needs
 
--- src/lib.rt:74:9
 returns-5 : tie.Need-returns-5
 returns-5 c =
     let s = c .before .before .before .before .before .before .before .before .before .before .before .before .before .before .before .before .before in
@@ -129,7 +111,6 @@ returns-5 c =
     (sym (c .before .before .before .before .before .before .before .before .read-ticket .ensures) ∙ c .before .before .before .before .before .before .asked .given .1) (c .before .before .rounds-of .result) (c .before .before .rounds-of .ensures .0)
     (omega (arith, c .before .before .before .if3 .left, c .before .before .before .before .draws-of .ensures .0, c .before .before .rounds-of .ensures .0)) (omega (arith, c .before .if4 .taken)))
 
--- src/lib.rt:77:9
 job-for-requires : tie.Need-job-for-requires
 job-for-requires c κs =
     let k = c .before in
@@ -137,26 +118,21 @@ job-for-requires c κs =
     let some = head-rounds st (k .before .rounds-of .ensures .0) in
     (head-sizes st .1, (k .before .rounds-of .ensures .1, omega (arith, ok k _ st .tape-long)))
 
--- src/lib.rt:78:22
 cast-run : tie.Need-cast-run
 cast-run c = search needs
 
--- src/lib.rt:78:5
 run-requires : tie.Need-run-requires
 run-requires c κs =
     let k = c .before .before .before .before .before .before in
     let st = start k .pre .for in
     rw (c .before .before .before .before .job-for .ensures) (head-runs st (ok k _ st))
 
--- src/lib.rt:47:1
 same-length : tie.Need-same-length
 same-length c = search needs
 
--- src/lib.rt:47:1
 same-length-2 : tie.Need-same-length-2
 same-length-2 c = search needs
 
--- src/lib.rt:47:1
 returns-6 : tie.Need-returns-6
 returns-6 c =
     let k = c .before .before .before .before .before .before .before .before .before .before .before in

@@ -1,4 +1,4 @@
--- `state::fetching::rounds_of` meets its contract: for the map by the greatest height, else 1.
+-- `call_draws::rounds_of` meets its contract: for the map by the greatest height, else 1.
 use mathlib.Core.Path.{_≡_}
 use Prim.Native.Nat.{_*_}
 use native.Mathlib.Omega.{arith}

@@ -1,4 +1,4 @@
--- `state::fetching::spare_of` meets its contract: a case for each structure.
+-- `call_draws::spare_of` meets its contract: a case for each structure.
 use mathlib.Core.Path.{_≡_}
 use native.Mathlib.Omega.{arith}
 use borrow.Author.Tests.{eq-eqb, ne-eqb}

@@ -12,21 +12,18 @@ use Rattle.put_rounds.proofs.put_rounds.Reads as put-rounds-reads
 use Rattle.stash.proofs.join.join_nodes.Reads as join-nodes-reads
 use Rattle.structures.proofs.operation.step.Reads as step-reads
 
--- src/ending.rt:106:9
 step-requires : tie.Need-step-requires
 step-requires c κs =
     let s = c .before .before .before .before .before .before in
     let held = s .pre .0 .held in
     (record { sized = s .pre .1 .0 .0; few = held .few; low = held .low; root-low = s .pre .0 .root-low }, s .pre .1 .0 .1)
 
--- src/ending.rt:110:9
 join-nodes-requires : tie.Need-join-nodes-requires
 join-nodes-requires c κs =
     let s = c .before .before .before .before .before .before .before .before .before .before in
     let step = c .before .before .before .step in
     (s .pre .0 .holds, (step .ensures .1 .1, (step .ensures .1 .0, omega (arith, s .pre .0 .room, step .ensures .1 .0))))
 
--- src/ending.rt:111:9
 put-rounds-requires : tie.Need-put-rounds-requires
 put-rounds-requires c κs =
     let s = c .before .before .before .before .before .before .before .before .before .before .before .before .before .before .before in
@@ -37,25 +34,20 @@ put-rounds-requires c κs =
       (s .pre .0 .some-rounds, s .pre .1 .1),
     )
 
--- src/ending.rt:114:9
 reply-after-requires : tie.Need-reply-after-requires
 reply-after-requires c κs = search needs
 
--- src/ending.rt:115:18
 add-leaves : tie.Need-add-leaves
 add-leaves c =
     let s = c .before .before .before .before .before .before .before .before .before .before .before .before .before .before .before .before .before .before .before .before .before .before .before in
     omega (arith, c .before .before .before .before .before .before .before .put-rounds .ensures .no-more, s .pre .0 .few-rounds)
 
--- src/ending.rt:89:1
 same-length : tie.Need-same-length
 same-length c = search needs
 
--- src/ending.rt:89:1
 same-length-2 : tie.Need-same-length-2
 same-length-2 c = search needs
 
--- src/ending.rt:89:1
 returns : tie.Need-returns
 returns c =
     let s = c .before .before .before .before .before .before .before .before .before .before .before .before .before .before .before .before .before .before .before .before .before .before .before in

@@ -7,15 +7,12 @@ use Rattle.call_ending.proofs.shut.Lts as lts
 use Rattle.stash.proofs.join.join_nodes.Reads as join-nodes-reads
 use Rattle.tag_moves.proofs.move_tags.Reads as move-tags-reads
 
--- src/ending.rt:75:9
 move-tags-requires : tie.Need-move-tags-requires
 move-tags-requires c κs = search needs
 
--- src/ending.rt:76:9
 join-nodes-requires : tie.Need-join-nodes-requires
 join-nodes-requires c κs = search needs
 
--- src/ending.rt:64:1
 returns : tie.Need-returns
 returns c =
     let s = c .before .before .before .before .before .before in

@@ -1,4 +1,4 @@
--- `edges::all` is safe and ends.
+-- `edges_main::all` is safe and ends.
 use Prim.Native.Nat.{_+_, _-_, _≤_}
 use lib.ListN.{length}
 use borrow.Author.Needs.{needs}

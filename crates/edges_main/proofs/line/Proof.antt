@@ -1,4 +1,4 @@
--- `edges::line` is safe and ends.
+-- `edges_main::line` is safe and ends.
 use mathlib.Core.Path.{sym}
 use native.Mathlib.Omega.{arith}
 use lib.Seq.{length-take-le}

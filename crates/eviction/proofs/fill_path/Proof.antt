@@ -1,4 +1,4 @@
--- `buckets::write::fill_path` meets its contract. The invariant: of the first i slots all but number out were placed.
+-- `eviction::fill_path` meets its contract. The invariant: of the first i slots all but number out were placed.
 use mathlib.Core.Path.{_≡_, sym, _∙_}
 use mathlib.Core.Logic.{⊎-elim}
 use mathlib.Core.List.{List}

@@ -1,4 +1,4 @@
--- `buckets::write::settle` meets its contract: it is the write half of all but a wanted slot.
+-- `eviction::settle` meets its contract: it is the write half of all but a wanted slot.
 use mathlib.Core.Path.{_≡_, sym, _∙_, ap}
 use mathlib.Core.Logic.{⊎-elim}
 use mathlib.Core.Bool.{Bool}

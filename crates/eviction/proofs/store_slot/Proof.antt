@@ -1,4 +1,4 @@
--- `buckets::write::store_slot` meets its contract: a store in the bucket's part is one in the tree.
+-- `eviction::store_slot` meets its contract: a store in the bucket's part is one in the tree.
 use mathlib.Core.Path.{_≡_, _∙_}
 use Prim.Native.Nat.{_+_, _*_, _-_, _≤_}
 use lib.ListN.{length}

@@ -47,47 +47,37 @@ module _ (c : tie.After-struct-known2) where
   few : f .count ≤ 33
   few = walked-few job draw is-leaf (start .pre .0) (start .args .trace .now) inv
 
--- src/fetch.rt:33:9
 want-rounds-requires : tie.Need-want-rounds-requires
 want-rounds-requires c κs = search needs
 
--- src/fetch.rt:37:9
 same-length : tie.Need-same-length
 same-length c = search needs
 
--- src/fetch.rt:37:9
 same-length-2 : tie.Need-same-length-2
 same-length-2 c = search needs
 
--- src/fetch.rt:37:9
 same-length-3 : tie.Need-same-length-3
 same-length-3 c = search needs
 
--- src/fetch.rt:37:9
 returns : tie.Need-returns
 returns c =
     let w = c .before .before .before .before .before .before .before .before .want-rounds .ensures in
     (w .0 .stops (λ e. omega (arith, e, c .if1 .taken)), w .1)
 
--- src/fetch.rt:40:16
 sub-left : tie.Need-sub-left
 sub-left c = omega (arith, inv c .upto)
 
--- src/fetch.rt:47:9
 sub-idle-rounds : tie.Need-sub-idle-rounds
 sub-idle-rounds c = search needs
 
--- src/fetch.rt:47:9
 part-idle-rounds-start : tie.Need-part-idle-rounds-start
 part-idle-rounds-start c = search needs
 
--- src/fetch.rt:47:9
 part-idle-rounds-end : tie.Need-part-idle-rounds-end
 part-idle-rounds-end c =
     let k = c .before .before .before .before in
     omega (arith, inv k .keys-sized, few k)
 
--- src/fetch.rt:41:9
 idle-rounds-requires : tie.Need-idle-rounds-requires
 idle-rounds-requires c κs =
     let k = c .before .before .before .before .before .before in
@@ -96,23 +86,18 @@ idle-rounds-requires c κs =
       (omega (arith, inv k .upto, s .pre .0 .puts-are, s .pre .1 .1 .1 .1 .0), omega (arith, inv k .upto, inv k .trace-sized, s .pre .1 .1 .1 .1 .1)),
     )
 
--- src/fetch.rt:56:16
 add-f : tie.Need-add-f
 add-f c = search needs
 
--- src/fetch.rt:17:1
 same-length-4 : tie.Need-same-length-4
 same-length-4 c = search needs
 
--- src/fetch.rt:17:1
 same-length-5 : tie.Need-same-length-5
 same-length-5 c = search needs
 
--- src/fetch.rt:17:1
 same-length-6 : tie.Need-same-length-6
 same-length-6 c = search needs
 
--- src/fetch.rt:17:1
 returns-2 : tie.Need-returns-2
 returns-2 c =
     let k = c .before .before .before .before .before .before .before .before .before .before .before .before in

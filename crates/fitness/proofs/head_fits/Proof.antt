@@ -1,4 +1,4 @@
--- `state::fit::head_fits` meets its contract: each test is a cause of an unfit state.
+-- `fitness::head_fits` meets its contract: each test is a cause of an unfit state.
 use mathlib.Core.Path.{_≡_, sym, _∙_}
 use mathlib.Core.Bool.{true}
 use Prim.Native.Nat.{_-_, _^_, _≤_, _<_}

@@ -1,4 +1,4 @@
--- `state::fit::in_range` meets its contract.
+-- `fitness::in_range` meets its contract.
 use mathlib.Core.Path.{sym}
 use Rattle.state_laws.specs.FitLaws.{in-range-zero, in-range-more}
 use Rattle.fitness.proofs.in_range.Statement.{statement}

@@ -1,4 +1,4 @@
--- `state::fit::place_good` meets its contract.
+-- `fitness::place_good` meets its contract.
 use borrow.Author.Tests.{not-true, not-false}
 use borrow.Author.Needs.{needs}
 use Rattle.fitness.proofs.place_good.Statement.{statement}

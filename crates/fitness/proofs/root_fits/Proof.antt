@@ -1,4 +1,4 @@
--- `state::fit::root_fits` meets its contract.
+-- `fitness::root_fits` meets its contract.
 use Prim.Native.Nat.{_-_, _≤_, _<_, _^_}
 use borrow.Author.Tests.{lt-ltb, le-ltb}
 use native.Mathlib.Omega.{arith}

@@ -1,4 +1,4 @@
--- `state::fit::root_good` meets its contract, structure by structure.
+-- `fitness::root_good` meets its contract, structure by structure.
 use borrow.Author.Tests.{eq-eqb, ne-eqb}
 use Rattle.state_spec.specs.Fit.{rootGood}
 use borrow.Author.Needs.{needs}

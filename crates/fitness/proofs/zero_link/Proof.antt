@@ -1,4 +1,4 @@
--- `state::fit::zero_link` meets its contract: its numbers are zero together.
+-- `fitness::zero_link` meets its contract: its numbers are zero together.
 use borrow.Author.Needs.{needs}
 use Rattle.state_laws.specs.FitLaws.{link-together}
 use Rattle.fitness.proofs.zero_link.Statement.{statement}

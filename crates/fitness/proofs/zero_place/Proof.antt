@@ -1,4 +1,4 @@
--- `state::fit::zero_place` meets its contract: its numbers are zero together.
+-- `fitness::zero_place` meets its contract: its numbers are zero together.
 use Rattle.state_laws.specs.FitLaws.{node-together}
 use native.Mathlib.Omega.{arith}
 use borrow.Author.Needs.{needs}
@@ -7,43 +7,33 @@ use Rattle.fitness.proofs.zero_place.Tie as tie
 use Rattle.fitness.proofs.zero_place.Reads as reads
 use Rattle.fitness.proofs.zero_place.Lts as lts
 
--- src/fit.rt:38:9
 returns : tie.Need-returns
 returns c = rw (c .if1 .taken)
 
--- src/fit.rt:40:15
 cast-own : tie.Need-cast-own
 cast-own c = search needs
 
--- src/fit.rt:40:50
 cast-own-2 : tie.Need-cast-own-2
 cast-own-2 c = search needs
 
--- src/fit.rt:41:16
 cast-left : tie.Need-cast-left
 cast-left c = search needs
 
--- src/fit.rt:41:44
 cast-left-2 : tie.Need-cast-left-2
 cast-left-2 c = search needs
 
--- src/fit.rt:41:69
 cast-left-3 : tie.Need-cast-left-3
 cast-left-3 c = search needs
 
--- src/fit.rt:42:17
 cast-right : tie.Need-cast-right
 cast-right c = omega (arith, c .struct-known7 .given .1 .0 .1 .1 .1 .1 .0)
 
--- src/fit.rt:42:46
 cast-right-2 : tie.Need-cast-right-2
 cast-right-2 c = omega arith
 
--- src/fit.rt:42:72
 cast-right-3 : tie.Need-cast-right-3
 cast-right-3 c = omega arith
 
--- src/fit.rt:34:1
 returns-2 : tie.Need-returns-2
 returns-2 c = rw (c .before .before .before .before .before .before .before .before .before .if1 .left) (node-together (c .before .before .before .before .before .before .before .before .before .before .args .p .node))
 

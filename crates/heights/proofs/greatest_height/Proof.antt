@@ -1,4 +1,4 @@
--- `balance::greatest_height` meets its contract: the table is the list of the greatest heights of the sizes 1 to 8.
+-- `heights::greatest_height` meets its contract: the table is the list of the greatest heights of the sizes 1 to 8.
 -- Assumes nothing.
 use Prim.Native.Nat.{_-_}
 use native.Mathlib.Omega.{arith}

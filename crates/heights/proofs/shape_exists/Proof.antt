@@ -1,4 +1,4 @@
--- `balance::shape_exists` meets its contract: the table is the list of the least numbers of entries of the heights
+-- `heights::shape_exists` meets its contract: the table is the list of the least numbers of entries of the heights
 -- 0 to 22, and in a greater height the least number is more than a u16.
 -- Assumes nothing.
 use Prim.Native.Nat.{ℕ, _*_, _%_, _^_, _≤_, _<_}

@@ -7,24 +7,19 @@ use Rattle.node_rows.proofs.from_at.Tie as tie
 use Rattle.node_rows.proofs.from_at.Reads as reads
 use Rattle.node_rows.proofs.from_at.Lts as lts
 
--- src/lib.rt:58:13
 mul-x : tie.Need-mul-x
 mul-x c = search needs
 
--- src/lib.rt:58:13
 element-copy-out-x : tie.Need-element-copy-out-x
 element-copy-out-x c = search needs
 
--- src/lib.rt:60:9
 returns : tie.Need-returns
 returns c =
     let a = c .before .before .args in sym (from-root (getD (a .froms .now) (a .i) 0) (c .if1 .taken))
 
--- src/lib.rt:62:16
 cast-t10 : tie.Need-cast-t10
 cast-t10 c = search needs
 
--- src/lib.rt:54:1
 returns-2 : tie.Need-returns-2
 returns-2 c =
     let a = c .before .before .args in sym (from-side (getD (a .froms .now) (a .i) 0) _ _ (c .if1 .left) refl refl)

@@ -12,59 +12,45 @@ use Rattle.node_rows.proofs.set_node.Reads as reads
 use Rattle.node_rows.proofs.set_node.Lts as lts
 use Rattle.slots.proofs.slot_of.Reads as slot-of-reads
 
--- src/lib.rt:45:9
 slot-of-requires : tie.Need-slot-of-requires
 slot-of-requires c κs = search needs
 
--- src/lib.rt:46:13
 mul-j : tie.Need-mul-j
 mul-j c = search needs
 
--- src/lib.rt:47:5
 mul-row : tie.Need-mul-row
 mul-row c = search needs
 
--- src/lib.rt:47:5
 element-write-row : tie.Need-element-write-row
 element-write-row c = search needs
 
--- src/lib.rt:48:9
 add-row : tie.Need-add-row
 add-row c = search needs
 
--- src/lib.rt:48:5
 mul-row-2 : tie.Need-mul-row-2
 mul-row-2 c = search needs
 
--- src/lib.rt:48:5
 element-write-row-2 : tie.Need-element-write-row-2
 element-write-row-2 c = search needs
 
--- src/lib.rt:49:9
 add-row-2 : tie.Need-add-row-2
 add-row-2 c = search needs
 
--- src/lib.rt:49:5
 mul-row-3 : tie.Need-mul-row-3
 mul-row-3 c = search needs
 
--- src/lib.rt:49:5
 element-write-row-3 : tie.Need-element-write-row-3
 element-write-row-3 c = search needs
 
--- src/lib.rt:50:9
 add-row-3 : tie.Need-add-row-3
 add-row-3 c = search needs
 
--- src/lib.rt:50:5
 mul-row-4 : tie.Need-mul-row-4
 mul-row-4 c = search needs
 
--- src/lib.rt:50:5
 element-write-row-4 : tie.Need-element-write-row-4
 element-write-row-4 c = search needs
 
--- src/lib.rt:41:1
 returns : tie.Need-returns
 returns c =
     let a = c .before .args in

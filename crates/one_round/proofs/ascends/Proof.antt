@@ -1,4 +1,4 @@
--- `call_rounds::ascends` meets its contract. The invariant: the keys ascend exactly if those from i on do.
+-- `one_round::ascends` meets its contract. The invariant: the keys ascend exactly if those from i on do.
 use mathlib.Core.Path.{_≡_, refl, sym, _∙_}
 use Prim.Native.Nat.{_+_, _-_, _≤_}
 use native.Mathlib.Omega.{arith}

@@ -1,4 +1,4 @@
--- `call_rounds::idle_round` meets its contract: one case of the round for each return.
+-- `one_round::idle_round` meets its contract: one case of the round for each return.
 use mathlib.Core.Bool.{false}
 use mathlib.Core.Path.{_≡_, refl}
 use Prim.Native.Nat.{ℕ}

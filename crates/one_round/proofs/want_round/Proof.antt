@@ -1,4 +1,4 @@
--- `call_rounds::want_round` meets its contract: one case of the round for each return.
+-- `one_round::want_round` meets its contract: one case of the round for each return.
 use mathlib.Core.Path.{refl, sym, _∙_}
 use mathlib.Core.Bool.{true}
 use native.Mathlib.Omega.{arith}

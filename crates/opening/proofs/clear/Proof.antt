@@ -1,4 +1,4 @@
--- `state::opening::clear` meets its contract. The invariant: the first a bytes are zero, the others as they were.
+-- `opening::clear` meets its contract. The invariant: the first a bytes are zero, the others as they were.
 use mathlib.Core.Path.{_≡_, refl, _∙_}
 use mathlib.Core.List.{_++_, append-nil}
 use Prim.Native.Nat.{_+_, _-_, _≤_, _%_}
@@ -22,35 +22,27 @@ Inv-loop tree₀ none a₀ tree a =
 abbrev μ-loop : tie.MeasureT-loop
 μ-loop tree₀ none a₀ tree a = length tree₀ - a
 
--- src/opening.rt:73:5
 loop-holds : tie.Need-loop-holds Inv-loop μ-loop
 loop-holds c = (omega arith, omega arith, refl, fill-none (c .before .args .tree .now) 0)
 
--- src/opening.rt:74:17
 add-e : tie.Need-add-e Inv-loop μ-loop
 add-e c = search needs
 
--- src/opening.rt:75:22
 sub-write-bucket : tie.Need-sub-write-bucket Inv-loop μ-loop
 sub-write-bucket c = search needs
 
--- src/opening.rt:75:22
 part-write-bucket-start : tie.Need-part-write-bucket-start Inv-loop μ-loop
 part-write-bucket-start c = search needs
 
--- src/opening.rt:75:22
 part-write-bucket-end : tie.Need-part-write-bucket-end Inv-loop μ-loop
 part-write-bucket-end c = search needs
 
--- src/opening.rt:75:9
 write-bucket-requires : tie.Need-write-bucket-requires Inv-loop μ-loop
 write-bucket-requires c κs = search needs
 
--- src/opening.rt:73:5
 loop-less : tie.Need-loop-less Inv-loop μ-loop
 loop-less c = search needs
 
--- src/opening.rt:73:5
 loop-again : tie.Need-loop-again Inv-loop μ-loop
 loop-again c =
     let l = c .before .before .before .before .before .loop in
@@ -60,11 +52,9 @@ loop-again c =
     let more = cleared-more t (l .tree) (w .last .0) (l .a) (l .a + bucketLength - l .a) n (l .inv .3) (w .ensures) in
     (search needs, search needs, search needs, more)
 
--- src/opening.rt:62:1
 same-length : tie.Need-same-length Inv-loop μ-loop
 same-length c = search needs
 
--- src/opening.rt:62:1
 returns : tie.Need-returns Inv-loop μ-loop
 returns c =
     let l = c .before .loop in

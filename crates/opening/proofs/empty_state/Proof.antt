@@ -1,4 +1,4 @@
--- `state::opening::empty_state` meets its contract.
+-- `opening::empty_state` meets its contract.
 use borrow.Author.Needs.{needs}
 use Rattle.opening.proofs.empty_state.Statement.{statement}
 use Rattle.opening.proofs.empty_state.Tie as tie

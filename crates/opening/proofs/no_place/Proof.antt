@@ -1,4 +1,4 @@
--- `state::opening::no_place` meets its contract.
+-- `opening::no_place` meets its contract.
 use borrow.Author.Needs.{needs}
 use Rattle.opening.proofs.no_place.Statement.{statement}
 use Rattle.opening.proofs.no_place.Tie as tie

@@ -1,4 +1,4 @@
--- `state::opening::open` meets its contract, check by check.
+-- `opening::open` meets its contract, check by check.
 use mathlib.Core.Path.{sym, _∙_, ap}
 use lib.ListN.{length}
 use borrow.Author.Tests.{not-true, not-false}

@@ -1,4 +1,4 @@
--- `buckets::write::clear_path` meets its contract. The invariant: the first i full slots are emptied, the others are left to empty.
+-- `path_clearing::clear_path` meets its contract. The invariant: the first i full slots are emptied, the others are left to empty.
 use mathlib.Core.Path.{_≡_, refl, sym, _∙_}
 use Prim.Native.Nat.{_-_, _≤_}
 use lib.ListN.{length, take, drop, getD}

@@ -1,4 +1,4 @@
--- `buckets::write::clear_slot` meets its contract: the zero slot as number j of the bucket's part is one in the tree.
+-- `path_clearing::clear_slot` meets its contract: the zero slot as number j of the bucket's part is one in the tree.
 use mathlib.Core.Path.{_≡_, refl}
 use Prim.Native.Nat.{_+_, _-_, _*_, _/_, _%_}
 use lib.ListN.{length, take, drop}
@@ -12,39 +12,30 @@ use Rattle.path_clearing.proofs.clear_slot.Reads as reads
 use Rattle.path_clearing.proofs.clear_slot.Lts as lts
 use Rattle.bucket_writer.proofs.write_in.Reads as write-in-reads
 
--- src/write.rt:58:13
 mul-a : tie.Need-mul-a
 mul-a c = search needs
 
--- src/write.rt:59:13
 add-e : tie.Need-add-e
 add-e c = search needs
 
--- src/write.rt:66:14
 sub-write-in : tie.Need-sub-write-in
 sub-write-in c = search needs
 
--- src/write.rt:66:14
 part-write-in-start : tie.Need-part-write-in-start
 part-write-in-start c = search needs
 
--- src/write.rt:66:14
 part-write-in-end : tie.Need-part-write-in-end
 part-write-in-end c = search needs
 
--- src/write.rt:66:32
 sub-write-in-2 : tie.Need-sub-write-in-2
 sub-write-in-2 c = search needs
 
--- src/write.rt:66:5
 write-in-requires : tie.Need-write-in-requires
 write-in-requires c κs = search needs
 
--- src/write.rt:54:1
 same-length : tie.Need-same-length
 same-length c = search needs
 
--- src/write.rt:54:1
 returns : tie.Need-returns
 returns c =
     let b = c .before .before .before .before .before in

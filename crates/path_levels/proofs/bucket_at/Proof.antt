@@ -1,4 +1,4 @@
--- `buckets::path::bucket_at` meets its contract: halving so many times is one shift.
+-- `path_levels::bucket_at` meets its contract: halving so many times is one shift.
 use mathlib.Core.Path.{sym, _∙_, ap}
 use Prim.Native.Nat.{ℕ, _/_, _^_}
 use Rattle.slot_spec.specs.Tree.{leafBucket}

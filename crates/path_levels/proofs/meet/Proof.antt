@@ -1,4 +1,4 @@
--- `buckets::path::meet` meets its contract: the leading zeros are at most 64.
+-- `path_levels::meet` meets its contract: the leading zeros are at most 64.
 use native.Mathlib.Omega.{arith}
 use borrow.Author.Needs.{needs}
 use lib.Bits.{bitXor}

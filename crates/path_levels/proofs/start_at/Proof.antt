@@ -1,4 +1,4 @@
--- `buckets::path::start_at` meets its contract: the path's buckets are in the tree.
+-- `path_levels::start_at` meets its contract: the path's buckets are in the tree.
 use Prim.Native.Nat.{_^_, _≤_}
 use lib.Pow.{pow-mono}
 use Rattle.word_round_laws.specs.PathLaws.{bucket-positive, bucket-small, bucket-inside}

@@ -1,4 +1,4 @@
--- `buckets::read::full` meets its contract.
+-- `path_reader::full` meets its contract.
 use borrow.Author.Needs.{needs}
 use Rattle.path_reader.proofs.full.Statement.{statement}
 use Rattle.path_reader.proofs.full.Tie as tie

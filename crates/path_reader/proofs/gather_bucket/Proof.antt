@@ -1,4 +1,4 @@
--- `buckets::read::gather_bucket` meets its contract. The invariant: the starts of the full ones of the first j slots are gathered, the others are left to ask.
+-- `path_reader::gather_bucket` meets its contract. The invariant: the starts of the full ones of the first j slots are gathered, the others are left to ask.
 use mathlib.Core.Path.{_≡_, refl, _∙_}
 use mathlib.Core.List.{_++_}
 use Prim.Native.Nat.{_+_, _*_, _-_, _≤_}

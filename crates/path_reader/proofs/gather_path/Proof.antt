@@ -1,4 +1,4 @@
--- `buckets::read::gather_path` meets its contract. The invariant: the full slots of the buckets below a level are gathered, the other buckets are left to ask.
+-- `path_reader::gather_path` meets its contract. The invariant: the full slots of the buckets below a level are gathered, the other buckets are left to ask.
 use mathlib.Core.Path.{_≡_, refl}
 use mathlib.Core.List.{_++_}
 use Prim.Native.Nat.{_+_, _*_, _-_, _≤_}

@@ -1,4 +1,4 @@
--- `buckets::read::is_held` meets its contract. The invariant: none of the first i is the key.
+-- `path_reader::is_held` meets its contract. The invariant: none of the first i is the key.
 use mathlib.Core.Path.{_≡_, refl, sym, _∙_}
 use Prim.Native.Nat.{_-_, _≤_}
 use lib.ListN.{length, drop}

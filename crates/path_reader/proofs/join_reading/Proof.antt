@@ -1,4 +1,4 @@
--- `buckets::read::join_reading` meets its contract: one case of the reading for each return.
+-- `path_reader::join_reading` meets its contract: one case of the reading for each return.
 use mathlib.Core.Path.{_≡_, refl, sym, _∙_, ap, subst}
 use mathlib.Core.Logic.{⊎-elim}
 use mathlib.Core.Bool.{true, false}

@@ -1,4 +1,4 @@
--- `buckets::read::look` meets its contract: one case of the read half for each return.
+-- `path_reader::look` meets its contract: one case of the read half for each return.
 use mathlib.Core.Path.{sym, subst}
 use mathlib.Core.Bool.{true}
 use borrow.Author.Tests.{not-true, not-false}

@@ -1,4 +1,4 @@
--- `buckets::read::read_path` meets its contract. The invariant: the first i full slots have joined, the others are left to join.
+-- `path_reader::read_path` meets its contract. The invariant: the first i full slots have joined, the others are left to join.
 use mathlib.Core.Path.{_≡_, sym, subst}
 use mathlib.Core.Bool.{true, false}
 use mathlib.Core.List.{List, [], _∷_, _++_, map}

@@ -1,4 +1,4 @@
--- `buckets::write::room_from` meets its contract. The invariant: no level before has room.
+-- `path_room::room_from` meets its contract. The invariant: no level before has room.
 use mathlib.Core.Path.{_≡_, refl, sym, _∙_}
 use Prim.Native.Nat.{_+_, _-_, _≤_, _<_}
 use lib.ListN.{length, take, drop, length-take}

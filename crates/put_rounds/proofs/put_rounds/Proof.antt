@@ -12,32 +12,24 @@ use Rattle.one_round.proofs.ascends.Reads as ascends-reads
 use Rattle.idle_rounds.proofs.idle.draw_at.Reads as draw-at-reads
 use Rattle.idle_rounds.proofs.idle.idle_rounds.Reads as idle-rounds-reads
 
--- src/put.rt:28:17
--- src/put.rt:29:9
 ascends-requires : tie.Need-ascends-requires
 ascends-requires c κs = search needs
 
--- src/put.rt:30:25
 draw-at-requires : tie.Need-draw-at-requires
 draw-at-requires c κs = search needs
 
--- src/put.rt:30:25
 cast-trace : tie.Need-cast-trace
 cast-trace c = search needs
 
--- src/put.rt:30:9
 mul-trace : tie.Need-mul-trace
 mul-trace c = search needs
 
--- src/put.rt:30:9
 slice-write-trace : tie.Need-slice-write-trace
 slice-write-trace c = search needs
 
--- src/put.rt:31:9
 same-length : tie.Need-same-length
 same-length c = search needs
 
--- src/put.rt:31:9
 returns : tie.Need-returns
 returns c =
     let s = c .before .before .before .before .before .before .before .before in
@@ -45,19 +37,15 @@ returns c =
     let draw = drawOf (a .size) (a .tape .now) in
     puts-twice (a .size) (a .n) draw (a .rounds) (a .first) (a .w .now) (a .tree .now) (a .trace .now) (s .pre .0) (sym (c .before .before .ascends .ensures) ∙ not-true (c .before .before .ascends .result) (c .before .if1 .taken)) (s .pre .1 .0) (c .draw-at .result) (c .draw-at .ensures .0)
 
--- src/put.rt:37:38
 sub-idle-rounds : tie.Need-sub-idle-rounds
 sub-idle-rounds c = search needs
 
--- src/put.rt:37:38
 part-idle-rounds-start : tie.Need-part-idle-rounds-start
 part-idle-rounds-start c = search needs
 
--- src/put.rt:37:38
 part-idle-rounds-end : tie.Need-part-idle-rounds-end
 part-idle-rounds-end c = search needs
 
--- src/put.rt:37:5
 idle-rounds-requires : tie.Need-idle-rounds-requires
 idle-rounds-requires c κs =
     let s = c .before .before .before .before .before .before .before .before .before .before .before .before in
@@ -65,15 +53,12 @@ idle-rounds-requires c κs =
     let draw = drawOf (a .size) (a .tape .now) in
     (stepped-between (s .pre .0) (sym (c .before .before .before .before .before .before .ascends .ensures) ∙ not-false (c .before .before .before .before .before .before .ascends .result) (c .before .before .before .before .before .if1 .left)), (omega (arith, s .pre), omega (arith, s .pre)))
 
--- src/put.rt:14:1
 same-length-2 : tie.Need-same-length-2
 same-length-2 c = search needs
 
--- src/put.rt:14:1
 same-length-3 : tie.Need-same-length-3
 same-length-3 c = search needs
 
--- src/put.rt:14:1
 returns-2 : tie.Need-returns-2
 returns-2 c =
     let s = c .before .before .before .before .before .before .before .before .before .before .before .before .before .before .before .before .before in

@@ -7,15 +7,12 @@ use Rattle.replies.proofs.reply_after.Reads as reads
 use Rattle.replies.proofs.reply_after.Lts as lts
 use Rattle.replies.proofs.reply_of.Reads as reply-of-reads
 
--- src/ending.rt:55:9
 returns : tie.Need-returns
 returns c = rw (ne-eqb (c .before .args .mark) 0 (λ e. omega (arith, e, c .if1 .taken)))
 
--- src/ending.rt:57:5
 reply-of-requires : tie.Need-reply-of-requires
 reply-of-requires c κs = search needs
 
--- src/ending.rt:51:1
 returns-2 : tie.Need-returns-2
 returns-2 c = rw (eq-eqb (c .before .before .args .mark) 0 (omega (arith, c .before .if1 .left))) (c .reply-of .ensures)
 

@@ -8,83 +8,65 @@ use Rattle.replies.proofs.reply_of.Tie as tie
 use Rattle.replies.proofs.reply_of.Reads as reads
 use Rattle.replies.proofs.reply_of.Lts as lts
 
--- src/ending.rt:28:25
 enum-told : tie.Need-enum-told
 enum-told c = search needs
 
--- src/ending.rt:29:23
 enum-known-answer : tie.Need-enum-known-answer
 enum-known-answer c = search needs
 
--- src/ending.rt:30:43
 enum-told-2 : tie.Need-enum-told-2
 enum-told-2 c = search needs
 
--- src/ending.rt:31:26
 enum-known-answer-2 : tie.Need-enum-known-answer-2
 enum-known-answer-2 c = search needs
 
--- src/ending.rt:32:40
 enum-told-3 : tie.Need-enum-told-3
 enum-told-3 c = search needs
 
--- src/ending.rt:33:25
 enum-known-answer-3 : tie.Need-enum-known-answer-3
 enum-known-answer-3 c = search needs
 
--- src/ending.rt:34:43
 enum-told-4 : tie.Need-enum-told-4
 enum-told-4 c = search needs
 
--- src/ending.rt:35:24
 enum-known-answer-4 : tie.Need-enum-known-answer-4
 enum-known-answer-4 c = search needs
 
--- src/ending.rt:36:42
 enum-told-5 : tie.Need-enum-told-5
 enum-told-5 c = search needs
 
--- src/ending.rt:24:1
 returns : tie.Need-returns
 unfolding replyOf
 returns c = sym (ap (λ (a : Answer). replyOf (toAnswer a)) (c .enum-told .given .1))
 
--- src/ending.rt:24:1
 returns-2 : tie.Need-returns-2
 unfolding replyOf
 returns-2 c = sym (ap (λ (a : Answer). replyOf (toAnswer a)) (c .before .answer .given .1))
 
--- src/ending.rt:24:1
 returns-3 : tie.Need-returns-3
 unfolding replyOf
 returns-3 c = sym (ap (λ (a : Answer). replyOf (toAnswer a)) (c .enum-told2 .given .1))
 
--- src/ending.rt:24:1
 returns-4 : tie.Need-returns-4
 unfolding replyOf
 returns-4 c = sym (ap (λ (a : Answer). replyOf (toAnswer a)) (c .before .answer2 .given .1))
 
--- src/ending.rt:24:1
 returns-5 : tie.Need-returns-5
 unfolding replyOf
 returns-5 c = sym (ap (λ (a : Answer). replyOf (toAnswer a)) (c .enum-told3 .given .1))
 
--- src/ending.rt:24:1
 returns-6 : tie.Need-returns-6
 unfolding replyOf
 returns-6 c = sym (ap (λ (a : Answer). replyOf (toAnswer a)) (c .before .answer3 .given .1))
 
--- src/ending.rt:24:1
 returns-7 : tie.Need-returns-7
 unfolding replyOf
 returns-7 c = sym (ap (λ (a : Answer). replyOf (toAnswer a)) (c .enum-told4 .given .1))
 
--- src/ending.rt:24:1
 returns-8 : tie.Need-returns-8
 unfolding replyOf
 returns-8 c = sym (ap (λ (a : Answer). replyOf (toAnswer a)) (c .before .answer4 .given .1))
 
--- src/ending.rt:24:1
 returns-9 : tie.Need-returns-9
 unfolding replyOf
 returns-9 c = sym (ap (λ (a : Answer). replyOf (toAnswer a)) (c .enum-told5 .given .1))

@@ -1,4 +1,4 @@
--- `buckets::write::mark_at_close` meets its contract.
+-- `round_close::mark_at_close` meets its contract.
 use borrow.Author.Needs.{needs}
 use Rattle.round_close.proofs.mark_at_close.Statement.{statement}
 use Rattle.round_close.proofs.mark_at_close.Tie as tie

@@ -1,15 +1,13 @@
--- `buckets::write::overflows` meets its contract: the limit is 64.
+-- `round_close::overflows` meets its contract: the limit is 64.
 use borrow.Author.Needs.{needs}
 use Rattle.round_close.proofs.overflows.Statement.{statement}
 use Rattle.round_close.proofs.overflows.Tie as tie
 use Rattle.round_close.proofs.overflows.Reads as reads
 use Rattle.round_close.proofs.overflows.Lts as lts
 
--- src/write.rt:160:13
 add-result : tie.Need-add-result
 add-result c = search needs
 
--- src/write.rt:156:1
 returns : tie.Need-returns
 returns c = search needs
 

@@ -1,4 +1,4 @@
--- `show_slot::print_slot` is safe and ends. The invariant: the index is within the slot, and the two byte strings have one byte.
+-- `slot_main::print_slot` is safe and ends. The invariant: the index is within the slot, and the two byte strings have one byte.
 use mathlib.Core.Path.{_≡_}
 use Prim.Native.Nat.{_≤_, _-_}
 use lib.ListN.{length}

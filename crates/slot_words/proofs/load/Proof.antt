@@ -1,4 +1,4 @@
--- `slots::words::load` meets its contract: four words are the slot's 32 bytes.
+-- `slot_words::load` meets its contract: four words are the slot's 32 bytes.
 use Rattle.slot_laws.specs.LittleEndianLaws.{bytes-from}
 use Rattle.slot_laws.specs.WordLaws.{slot-read}
 use borrow.Author.Needs.{needs}

@@ -1,4 +1,4 @@
--- `slots::words::put_word` meets its contract: eight stores are one run of stores.
+-- `slot_words::put_word` meets its contract: eight stores are one run of stores.
 use lib.ListN.{length-set}
 use Rattle.slot_laws.specs.WordLaws.{word-stored}
 use native.Mathlib.Omega.{arith}

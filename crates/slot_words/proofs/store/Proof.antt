@@ -1,4 +1,4 @@
--- `slots::words::store` meets its contract: four runs of stores are one.
+-- `slot_words::store` meets its contract: four runs of stores are one.
 use Rattle.slot_laws.specs.WordLaws.{slot-stored}
 use borrow.Author.Needs.{needs}
 use Rattle.slot_words.proofs.store.Statement.{statement}

@@ -1,4 +1,4 @@
--- `slots::words::word` meets its contract: the flat sum is the number that the eight bytes say.
+-- `slot_words::word` meets its contract: the flat sum is the number that the eight bytes say.
 use Rattle.slot_laws.specs.WordLaws.{word-read}
 use borrow.Author.Needs.{needs}
 use Rattle.slot_words.proofs.word.Statement.{statement}

@@ -1,4 +1,4 @@
--- `slots::codec::link_good` meets its contract, test by test.
+-- `slots::link_good` meets its contract, test by test.
 use mathlib.Core.Path.{sym}
 use Rattle.slot_laws.specs.ReadLaws.{absent-with-key, absent-without-key, link-present}
 use borrow.Author.Needs.{needs}

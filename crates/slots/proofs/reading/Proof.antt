@@ -1,4 +1,4 @@
--- `slots::codec::reading` meets its contract: each return is one case of a slot's reading.
+-- `slots::reading` meets its contract: each return is one case of a slot's reading.
 use mathlib.Core.Path.{sym, _∙_}
 use borrow.Author.Tests.{not-true, not-false}
 use Rattle.slot_laws.specs.SlotLaws.{slot-length}

@@ -1,4 +1,4 @@
--- `slots::codec::well_formed` meets its contract, test by test.
+-- `slots::well_formed` meets its contract, test by test.
 use borrow.Author.Tests.{not-true, not-false}
 use mathlib.Core.Path.{sym, _∙_}
 use Rattle.slot_laws.specs.ReadLaws.{own-tag-too-large, left-link-bad, left-link-good}

@@ -11,28 +11,23 @@ use Rattle.stack_steps.proofs.pop.Lts as lts
 use Rattle.node_rows.proofs.node_at.Reads as node-at-reads
 use Rattle.operations.proofs.one_less.Reads as one-less-reads
 
--- src/lib.rt:89:9
 returns : tie.Need-returns
 returns c =
     let a = c .before .before .args in
     (rw (pop-empty (a .entries) (toLink (a .root)) (nodesOf (heldIn (a .held .now) (a .count))) (c .if1 .taken)), refl)
 
--- src/lib.rt:97:9
 returns-2 : tie.Need-returns-2
 returns-2 c =
     let s = c .before .before .before in
     let a = s .args in
     (rw (pop-held-none (a .entries) (toLink (a .root)) (heldIn (a .held .now) (a .count)) (held-room (a .held .now) (s .pre .0) (a .count) (s .pre .1)) (c .before .if1 .left) (c .if2 .taken)), refl)
 
--- src/lib.rt:104:9
 node-at-requires : tie.Need-node-at-requires
 node-at-requires c κs = search needs
 
--- src/lib.rt:109:18
 one-less-requires : tie.Need-one-less-requires
 one-less-requires c κs = search needs
 
--- src/lib.rt:84:1
 returns-3 : tie.Need-returns-3
 returns-3 c =
     let s = c .before .before .before .before .before .before in

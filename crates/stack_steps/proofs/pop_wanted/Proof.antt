@@ -11,17 +11,14 @@ use Rattle.stack_steps.proofs.pop_wanted.Reads as reads
 use Rattle.stack_steps.proofs.pop_wanted.Lts as lts
 use Rattle.operations.proofs.start.Reads as start-reads
 
--- src/lib.rt:75:9
 returns : tie.Need-returns
 returns c =
     let a = c .before .before .args in
     rw (pop-empty (a .entries) (toLink (a .root)) (nodesOf (heldIn (a .held .now) (a .count))) (c .if1 .taken))
 
--- src/lib.rt:78:30
 start-requires : tie.Need-start-requires
 start-requires c κs = search needs
 
--- src/lib.rt:78:9
 returns-2 : tie.Need-returns-2
 returns-2 c =
     let s = c .before .before .before .before in
@@ -29,7 +26,6 @@ returns-2 c =
     rw (pop-held-none (a .entries) (toLink (a .root)) (heldIn (a .held .now) (a .count)) (held-room (a .held .now) (s .pre .0) (a .count) (s .pre .1)) (c .before .before .if1 .left) (c .before .if2 .taken))
     (ap some (c .start .ensures))
 
--- src/lib.rt:70:1
 returns-3 : tie.Need-returns-3
 returns-3 c =
     let s = c .before .before .before in

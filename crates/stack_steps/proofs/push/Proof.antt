@@ -11,7 +11,6 @@ use Rattle.stack_steps.proofs.push.Lts as lts
 use Rattle.node_rows.proofs.set_node.Reads as set-node-reads
 use Rattle.slots.proofs.no_link.Reads as no-link-reads
 
--- src/lib.rt:39:9
 returns : tie.Need-returns
 returns c =
     let a = c .before .args in (
@@ -19,23 +18,18 @@ returns c =
       (omega arith, c .before .pre),
     )
 
--- src/lib.rt:46:16
 add-more : tie.Need-add-more
 add-more c = search needs
 
--- src/lib.rt:47:15
 cast-key : tie.Need-cast-key
 cast-key c = search needs
 
--- src/lib.rt:53:16
 no-link-requires : tie.Need-no-link-requires
 no-link-requires c κs = search needs
 
--- src/lib.rt:55:5
 set-node-requires : tie.Need-set-node-requires
 set-node-requires c κs = search needs
 
--- src/lib.rt:27:1
 returns-2 : tie.Need-returns-2
 returns-2 c =
     let s = c .before .before .before .before in

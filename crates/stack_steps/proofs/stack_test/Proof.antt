@@ -9,31 +9,24 @@ use Rattle.stack_steps.proofs.stack_test.Tie as tie
 use Rattle.stack_steps.proofs.stack_test.Reads as reads
 use Rattle.stack_steps.proofs.stack_test.Lts as lts
 
--- src/fetched.rt:71:9
 returns : tie.Need-returns
 returns c = let a = c .before .before .before .before .args in sym (right-link (toWant (a .want)) (toNode (a .n)) (c .if1 .taken))
 
--- src/fetched.rt:74:9
 returns-2 : tie.Need-returns-2
 returns-2 c = let a = c .before .before .before .before .before .before .before .args in sym (last-key (toWant (a .want)) (toNode (a .n)) (c .before .before .before .if1 .left) (c .before .if2 .taken))
 
--- src/fetched.rt:77:9
 returns-3 : tie.Need-returns-3
 returns-3 c = let a = c .before .before .before .before .before .before .before .before .args in sym (not-one-high (toWant (a .want)) (toNode (a .n)) (c .before .before .before .before .if1 .left) (c .before .before .if2 .left) (c .if3 .taken))
 
--- src/fetched.rt:79:6
 cast-result : tie.Need-cast-result
 cast-result c = search needs
 
--- src/fetched.rt:79:5
 add-result : tie.Need-add-result
 add-result c = search needs
 
--- src/fetched.rt:79:30
 cast-result-2 : tie.Need-cast-result-2
 cast-result-2 c = search needs
 
--- src/fetched.rt:65:1
 returns-4 : tie.Need-returns-4
 returns-4 c = let a = c .before .before .before .before .before .before .before .before .before .before .args in rw (add-one) (sym (key-before (toWant (a .want)) (toNode (a .n)) (c .before .before .before .before .before .before .if1 .left) (c .before .before .before .before .if2 .left) (c .before .before .if3 .left)))
 

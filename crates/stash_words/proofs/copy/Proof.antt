@@ -1,4 +1,4 @@
--- `buckets::stash_words::copy` meets its contract. The invariant: the first i slots are copied.
+-- `stash_words::copy` meets its contract. The invariant: the first i slots are copied.
 use mathlib.Core.Path.{_≡_, refl, _∙_, ap}
 use Prim.Native.Nat.{_+_, _-_, _≤_}
 use lib.ListN.{length, take, set}

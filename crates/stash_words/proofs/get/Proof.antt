@@ -4,55 +4,42 @@ use borrow.Author.Needs.{needs}
 use Rattle.stash_words.proofs.get.Statement.{statement}
 use Rattle.stash_words.proofs.get.Tie as tie
 
--- src/stash_words.rt:15:13
 mul-j : tie.Need-mul-j
 mul-j c = search needs
 
--- src/stash_words.rt:17:12
 mul-t4 : tie.Need-mul-t4
 mul-t4 c = search needs
 
--- src/stash_words.rt:17:12
 element-copy-out-t7 : tie.Need-element-copy-out-t7
 element-copy-out-t7 c = search needs
 
--- src/stash_words.rt:18:14
 add-t8 : tie.Need-add-t8
 add-t8 c = search needs
 
--- src/stash_words.rt:18:12
 mul-t9 : tie.Need-mul-t9
 mul-t9 c = search needs
 
--- src/stash_words.rt:18:12
 element-copy-out-t12 : tie.Need-element-copy-out-t12
 element-copy-out-t12 c = search needs
 
--- src/stash_words.rt:19:14
 add-t13 : tie.Need-add-t13
 add-t13 c = search needs
 
--- src/stash_words.rt:19:12
 mul-t14 : tie.Need-mul-t14
 mul-t14 c = search needs
 
--- src/stash_words.rt:19:12
 element-copy-out-t17 : tie.Need-element-copy-out-t17
 element-copy-out-t17 c = search needs
 
--- src/stash_words.rt:20:14
 add-t18 : tie.Need-add-t18
 add-t18 c = search needs
 
--- src/stash_words.rt:20:12
 mul-t19 : tie.Need-mul-t19
 mul-t19 c = search needs
 
--- src/stash_words.rt:20:12
 element-copy-out-t22 : tie.Need-element-copy-out-t22
 element-copy-out-t22 c = search needs
 
--- src/stash_words.rt:11:1
 returns : tie.Need-returns
 returns c =
     let a = c .before .before .before .before .args in

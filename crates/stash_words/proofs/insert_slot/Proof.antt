@@ -1,4 +1,4 @@
--- `buckets::stash_words::insert_slot` meets its contract.
+-- `stash_words::insert_slot` meets its contract.
 use mathlib.Core.Path.{_≡_, sym, _∙_, ap}
 use Prim.Native.Nat.{ℕ, _+_}
 use lib.ListN.{take}

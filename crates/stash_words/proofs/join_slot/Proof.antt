@@ -1,4 +1,4 @@
--- `buckets::stash_words::join_slot` meets its contract. The invariant: of the first m slots, those from i on have a greater key and stand one place up.
+-- `stash_words::join_slot` meets its contract. The invariant: of the first m slots, those from i on have a greater key and stand one place up.
 use mathlib.Core.Path.{_≡_, sym, _∙_, ap}
 use lib.ListN.{length, take, getD}
 use Prim.Native.Nat.{ℕ, _+_, _-_, _<_}

@@ -6,55 +6,42 @@ use borrow.Author.Needs.{needs}
 use Rattle.stash_words.proofs.put.Statement.{statement}
 use Rattle.stash_words.proofs.put.Tie as tie
 
--- src/stash_words.rt:29:13
 mul-j : tie.Need-mul-j
 mul-j c = search needs
 
--- src/stash_words.rt:30:5
 mul-w : tie.Need-mul-w
 mul-w c = search needs
 
--- src/stash_words.rt:30:5
 element-write-w : tie.Need-element-write-w
 element-write-w c = search needs
 
--- src/stash_words.rt:31:7
 add-w : tie.Need-add-w
 add-w c = search needs
 
--- src/stash_words.rt:31:5
 mul-w-2 : tie.Need-mul-w-2
 mul-w-2 c = search needs
 
--- src/stash_words.rt:31:5
 element-write-w-2 : tie.Need-element-write-w-2
 element-write-w-2 c = search needs
 
--- src/stash_words.rt:32:7
 add-w-2 : tie.Need-add-w-2
 add-w-2 c = search needs
 
--- src/stash_words.rt:32:5
 mul-w-3 : tie.Need-mul-w-3
 mul-w-3 c = search needs
 
--- src/stash_words.rt:32:5
 element-write-w-3 : tie.Need-element-write-w-3
 element-write-w-3 c = search needs
 
--- src/stash_words.rt:33:7
 add-w-3 : tie.Need-add-w-3
 add-w-3 c = search needs
 
--- src/stash_words.rt:33:5
 mul-w-4 : tie.Need-mul-w-4
 mul-w-4 c = search needs
 
--- src/stash_words.rt:33:5
 element-write-w-4 : tie.Need-element-write-w-4
 element-write-w-4 c = search needs
 
--- src/stash_words.rt:25:1
 returns : tie.Need-returns
 returns c =
     let a = c .args in

@@ -1,4 +1,4 @@
--- `buckets::stash_words::shift_up` meets its contract. The invariant: of the first m slots, those from i on stand one place up.
+-- `stash_words::shift_up` meets its contract. The invariant: of the first m slots, those from i on stand one place up.
 use mathlib.Core.Path.{_≡_, _∙_, ap}
 use Prim.Native.Nat.{_+_, _≤_}
 use lib.ListN.{length, take, set}

@@ -25,31 +25,24 @@ Inv-loop held₀ count from tag i₀ held i = ((m : Node ℕ) → m .tag ≡ tag
 abbrev μ-loop : tie.MeasureT-loop
 μ-loop held₀ count from tag i₀ held i = count - i
 
--- src/lib.rt:56:5
 loop-holds : tie.Need-loop-holds Inv-loop μ-loop
 loop-holds c = (λ m t. moving-start (fetchOf (toFrom (c .args .from)) m) (c .args .held .now) (c .pre .0), (omega arith, c .pre .0))
 
--- src/lib.rt:57:13
 node-at-requires : tie.Need-node-at-requires Inv-loop μ-loop
 node-at-requires c κs = search needs
 
--- src/lib.rt:58:27
 moved-in-requires : tie.Need-moved-in-requires Inv-loop μ-loop
 moved-in-requires c κs = search needs
 
--- src/lib.rt:58:9
 set-node-requires : tie.Need-set-node-requires Inv-loop μ-loop
 set-node-requires c κs = search needs
 
--- src/lib.rt:59:9
 add-i : tie.Need-add-i Inv-loop μ-loop
 add-i c = search needs
 
--- src/lib.rt:56:5
 loop-less : tie.Need-loop-less Inv-loop μ-loop
 loop-less c = search needs
 
--- src/lib.rt:56:5
 loop-again : tie.Need-loop-again Inv-loop μ-loop
 loop-again c =
     let s = c .before .before .before .before .before .before .before in
@@ -60,7 +53,6 @@ loop-again c =
       (omega (arith, c .before .before .before .before .before .loop-test .taken), c .set-node .ensures .1),
     )
 
--- src/lib.rt:51:1
 returns : tie.Need-returns Inv-loop μ-loop
 returns c =
     let s = c .before .before in

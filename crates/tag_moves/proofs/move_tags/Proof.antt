@@ -20,36 +20,28 @@ Inv-loop held₀ count froms link₀ i₀ held link i = MovingTo count froms (to
 abbrev μ-loop : tie.MeasureT-loop
 μ-loop held₀ count froms link₀ i₀ held link i = count - i
 
--- src/lib.rt:70:5
 loop-holds : tie.Need-loop-holds Inv-loop μ-loop
 loop-holds c =
     let a = c .args in tags-start (a .count) (a .froms .now) (toLink (a .root)) (a .held .now) (c .pre .1 .0) (c .pre .0) (c .pre .1 .1)
 
--- src/lib.rt:71:13
 node-at-requires : tie.Need-node-at-requires Inv-loop μ-loop
 node-at-requires c κs = search needs
 
--- src/lib.rt:72:13
 from-at-requires : tie.Need-from-at-requires Inv-loop μ-loop
 from-at-requires c κs = search needs
 
--- src/lib.rt:73:9
 move-links-requires : tie.Need-move-links-requires Inv-loop μ-loop
 move-links-requires c κs = search needs
 
--- src/lib.rt:74:9
 moved-root-requires : tie.Need-moved-root-requires Inv-loop μ-loop
 moved-root-requires c κs = search needs
 
--- src/lib.rt:75:9
 add-i : tie.Need-add-i Inv-loop μ-loop
 add-i c = search needs
 
--- src/lib.rt:70:5
 loop-less : tie.Need-loop-less Inv-loop μ-loop
 loop-less c = search needs
 
--- src/lib.rt:70:5
 loop-again : tie.Need-loop-again Inv-loop μ-loop
 loop-again c =
     let s = c .before .before .before .before .before .before .before .before in
@@ -64,7 +56,6 @@ loop-again c =
     tags-turn (a .count) (a .froms .now) (toLink (a .root)) (a .held .now) (s .pre .1 .0) (s .pre .0) (s .pre .1 .1) (l .held) (l .i) (l .inv) taken
     (rw f at (c .before .move-links .ensures m t)) (rw f at (c .moved-root .ensures m t))
 
--- src/lib.rt:64:1
 returns : tie.Need-returns Inv-loop μ-loop
 returns c =
     let s = c .before .before in

@@ -10,23 +10,18 @@ use Rattle.tag_moves.proofs.moved_in.Lts as lts
 use Rattle.map_nodes.proofs.sides.child_link.Reads as child-link-reads
 use Rattle.map_nodes.proofs.sides.with_child.Reads as with-child-reads
 
--- src/lib.rt:28:23
 enum-told : tie.Need-enum-told
 enum-told c = search needs
 
--- src/lib.rt:29:20
 enum-known-from : tie.Need-enum-known-from
 enum-known-from c = search needs
 
--- src/lib.rt:31:21
 child-link-requires : tie.Need-child-link-requires
 child-link-requires c κs = search needs
 
--- src/lib.rt:33:17
 with-child-requires : tie.Need-with-child-requires
 with-child-requires c κs = search needs
 
--- src/lib.rt:33:17
 returns : tie.Need-returns
 returns c =
     let a = c .before .before .before .before .before .before .before .args in
@@ -34,11 +29,9 @@ returns c =
     λ m t. rw (from .1)
     (moved-here (toNode (a .n)) m (from .0 .0) (from .0 .1 .0) (c .before .before .if1 .taken) (c .before .child-link .ensures) t (c .with-child .ensures))
 
--- src/lib.rt:24:1
 returns-2 : tie.Need-returns-2
 returns-2 c = let a = c .before .before .args in λ m t. moved-by-root (toNode (a .n)) m (ap toFrom (c .enum-told .given .1))
 
--- src/lib.rt:24:1
 returns-3 : tie.Need-returns-3
 returns-3 c =
     let a = c .before .before .before .before .before .args in

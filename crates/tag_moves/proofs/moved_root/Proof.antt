@@ -6,18 +6,15 @@ use Rattle.tag_moves.proofs.moved_root.Tie as tie
 use Rattle.tag_moves.proofs.moved_root.Reads as reads
 use Rattle.tag_moves.proofs.moved_root.Lts as lts
 
--- src/lib.rt:45:9
 enum-told : tie.Need-enum-told
 enum-told c = search needs
 
 enum-told-2 : tie.Need-enum-told-2
 enum-told-2 c = search needs
 
--- src/lib.rt:40:1
 returns : tie.Need-returns
 returns c = let a = c .before .before .args in λ m t. rw (c .enum-told .given .1) (moved-root-link (toLink (a .root)) m t)
 
--- src/lib.rt:40:1
 returns-2 : tie.Need-returns-2
 returns-2 c = let a = c .before .before .args in λ m t. rw (c .enum-told2 .given .1) (moved-side-link (toLink (a .root)) m _ _)
 

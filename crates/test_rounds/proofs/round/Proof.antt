@@ -1,4 +1,4 @@
--- `single_rounds::round` meets its contract: one case of the round for each return.
+-- `test_rounds::round` meets its contract: one case of the round for each return.
 use mathlib.Core.Path.{refl}
 use native.Mathlib.Omega.{arith}
 use borrow.Author.Needs.{needs}

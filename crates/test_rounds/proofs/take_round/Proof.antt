@@ -1,4 +1,4 @@
--- `single_rounds::take_round` meets its contract.
+-- `test_rounds::take_round` meets its contract.
 use mathlib.Core.Path.{refl}
 use borrow.Author.Tests.{not-false}
 use Rattle.test_rounds.specs.SingleLaws.{resting-waits, rounded-rests}

@@ -1,4 +1,4 @@
--- `single_rounds::wait` meets its contract.
+-- `test_rounds::wait` meets its contract.
 use mathlib.Core.Path.{subst}
 use native.Mathlib.Omega.{arith}
 use borrow.Author.Needs.{needs}

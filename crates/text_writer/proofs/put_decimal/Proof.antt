@@ -1,4 +1,4 @@
--- `walk_lines::text::put_decimal` meets its contract: the digits of the library are the decimal text.
+-- `text_writer::put_decimal` meets its contract: the digits of the library are the decimal text.
 use borrow.Author.Needs.{needs}
 use Rattle.walk_laws.specs.LinesLaws.{decimal-digits}
 use Rattle.text_writer.proofs.put_decimal.Statement.{statement}

@@ -1,4 +1,4 @@
--- `walk_lines::text::put_leaves` meets its contract. The invariant: the first i numbers are put.
+-- `text_writer::put_leaves` meets its contract. The invariant: the first i numbers are put.
 use mathlib.Core.Path.{_≡_, _∙_, ap}
 use Prim.Native.Nat.{_-_, _≤_}
 use native.Mathlib.Omega.{arith}

@@ -1,4 +1,4 @@
--- `walk_lines::text::put_number` meets its contract: a blank, then the number.
+-- `text_writer::put_number` meets its contract: a blank, then the number.
 use mathlib.Core.Path.{_∙_}
 use borrow.Author.Needs.{needs}
 use lib.ListN.{length-set}

@@ -1,4 +1,4 @@
--- `walk_lines::text::put_text` meets its contract: the part of the buffer from the position on gets the copy.
+-- `text_writer::put_text` meets its contract: the part of the buffer from the position on gets the copy.
 use borrow.Author.Needs.{needs}
 use Rattle.walk_laws.specs.LinesLaws.{put-copied}
 use Rattle.text_writer.proofs.put_text.Statement.{statement}

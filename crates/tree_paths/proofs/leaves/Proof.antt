@@ -1,4 +1,4 @@
--- `slots::tree::leaves` meets its contract: a shift of 1 by at most 17 does not wrap.
+-- `tree_paths::leaves` meets its contract: a shift of 1 by at most 17 does not wrap.
 use mathlib.Core.Path.{refl}
 use Rattle.slot_laws.specs.TreeLaws.{shifted-one, power-range}
 use borrow.Author.Needs.{needs}

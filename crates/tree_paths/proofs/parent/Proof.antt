@@ -1,4 +1,4 @@
--- `slots::tree::parent` meets its contract: its result is the quotient.
+-- `tree_paths::parent` meets its contract: its result is the quotient.
 use mathlib.Core.Path.{refl}
 use Rattle.tree_paths.proofs.parent.Statement.{statement}
 use Rattle.tree_paths.proofs.parent.Tie as tie

@@ -1,4 +1,4 @@
--- `slots::tree::passes_bucket` meets its contract: by its length the bucket is above the path, below it, or at one level of it.
+-- `tree_paths::passes_bucket` meets its contract: by its length the bucket is above the path, below it, or at one level of it.
 use mathlib.Core.Path.{sym}
 use Prim.Native.Nat.{ℕ, _^_, _≤_, _<_}
 use lib.Count.{leading-le}

@@ -1,4 +1,4 @@
--- `slots::tree::path_bucket` meets its contract. The invariant: what is left to halve reaches the bucket of that level.
+-- `tree_paths::path_bucket` meets its contract. The invariant: what is left to halve reaches the bucket of that level.
 use mathlib.Core.Path.{_≡_, sym, _∙_}
 use Prim.Native.Nat.{_-_, _≤_}
 use native.Mathlib.Nat.{sub-zero}

@@ -1,4 +1,4 @@
--- `walk_lines::input::arrived` meets its contract, test by test.
+-- `walk_input::arrived` meets its contract, test by test.
 use borrow.Author.Tests.{lt-ltb, le-ltb, eq-eqb, ne-eqb}
 use Rattle.walk_spec.specs.Input.{arrivedOf}
 use Rattle.walk_input.proofs.arrived.Statement.{statement}

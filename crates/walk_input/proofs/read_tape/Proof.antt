@@ -1,4 +1,4 @@
--- `walk_lines::input::read_tape` meets its contract. The invariant: the first i numbers of the tape are read.
+-- `walk_input::read_tape` meets its contract. The invariant: the first i numbers of the tape are read.
 use mathlib.Core.Path.{_≡_, refl, sym, _∙_, ap}
 use Prim.Native.Nat.{ℕ, _+_, _-_, _*_, _≤_}
 use native.Mathlib.Omega.{arith}

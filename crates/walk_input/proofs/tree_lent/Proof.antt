@@ -1,4 +1,4 @@
--- `walk_lines::input::tree_lent` meets its contract.
+-- `walk_input::tree_lent` meets its contract.
 use mathlib.Core.Path.{_≡_, sym, _∙_}
 use native.Mathlib.Omega.{arith}
 use borrow.Author.Needs.{needs}

@@ -1,4 +1,4 @@
--- `walk_lines::line::first` meets its contract.
+-- `walk_lines::first` meets its contract.
 use mathlib.Core.Path.{sym}
 use native.Mathlib.Omega.{arith}
 use borrow.Author.Needs.{needs}

@@ -1,4 +1,4 @@
--- `walk_lines::line::line` meets its contract: word, value, leaves and newline are put one after another, and there is room for each.
+-- `walk_lines::line` meets its contract: word, value, leaves and newline are put one after another, and there is room for each.
 use Prim.Native.Nat.{_+_, _<_, _≤_}
 use native.Mathlib.Omega.{arith}
 use borrow.Author.Needs.{needs}

@@ -1,4 +1,4 @@
--- `walk_lines::line::short_line` meets its contract.
+-- `walk_lines::short_line` meets its contract.
 use native.Mathlib.Omega.{arith}
 use borrow.Author.Needs.{needs}
 use Rattle.walk_laws.specs.LinesLaws.{put-end, put-first, put-counts}

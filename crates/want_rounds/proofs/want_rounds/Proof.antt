@@ -126,7 +126,6 @@ module _ (c : tie.After-set-node Inv-loop μ-loop) where
   abbrev drawn : tie.After-draw-at Inv-loop μ-loop
   drawn = c .before .before
 
--- src/wanting.rt:78:5
 loop-holds : tie.Need-loop-holds Inv-loop μ-loop
 loop-holds c =
     let s = c .before .before .before .before .before in
@@ -136,92 +135,72 @@ loop-holds c =
       b .0,
     )
 
--- src/wanting.rt:79:13
 wanted-requires : tie.Need-wanted-requires Inv-loop μ-loop
 wanted-requires c κs =
     let l = c .before .before .before .before in
     (low l, l .loop .inv .1 .1)
 
--- src/wanting.rt:80:27
 enum-known-next : tie.Need-enum-known-next Inv-loop μ-loop
 enum-known-next c = search needs
 
--- src/wanting.rt:81:13
 enum-told : tie.Need-enum-told Inv-loop μ-loop
 enum-told c = search needs
 
--- src/wanting.rt:81:13
 came-to-requires : tie.Need-came-to-requires Inv-loop μ-loop
 came-to-requires c κs = search needs
 
--- src/wanting.rt:81:13
 same-length : tie.Need-same-length Inv-loop μ-loop
 same-length c = tree-kept (c .before .before .before .before .before .before .before .before)
 
--- src/wanting.rt:81:13
 same-length-2 : tie.Need-same-length-2 Inv-loop μ-loop
 same-length-2 c = keys-kept (c .before .before .before .before .before .before .before .before)
 
--- src/wanting.rt:81:13
 same-length-3 : tie.Need-same-length-3 Inv-loop μ-loop
 same-length-3 c = c .before .before .before .before .before .before .before .before .loop .inv .0 .trace-sized
 
--- src/wanting.rt:81:13
 returns : tie.Need-returns Inv-loop μ-loop
 returns c =
     let l = c .before .before .before .before .before .before .before .before in
     (rw (c .came-to .ensures) (walks-on refl (l .loop .inv .0) (none-wanted (c .before))), (l .loop .inv .1 .0, c .before .before .before .wanted .ensures .1))
 
--- src/wanting.rt:85:9
 mul-trace : tie.Need-mul-trace Inv-loop μ-loop
 mul-trace c = omega (arith, few (looped c))
 
--- src/wanting.rt:85:9
 slice-write-trace : tie.Need-slice-write-trace Inv-loop μ-loop
 slice-write-trace c = omega (arith, room c, looped c .loop .inv .0 .trace-sized)
 
--- src/wanting.rt:95:13
 sub-want-round : tie.Need-sub-want-round Inv-loop μ-loop
 sub-want-round c = search needs
 
--- src/wanting.rt:95:13
 part-want-round-start : tie.Need-part-want-round-start Inv-loop μ-loop
 part-want-round-start c = search needs
 
--- src/wanting.rt:95:13
 part-want-round-end : tie.Need-part-want-round-end Inv-loop μ-loop
 part-want-round-end c =
     let l = looped (c .before .before .before .before) in
     omega (arith, few l, l .loop .inv .0 .keys-sized)
 
--- src/wanting.rt:86:13
 want-round-requires : tie.Need-want-round-requires Inv-loop μ-loop
 want-round-requires c κs =
     let k = c .before .before .before .before .before in
     let l = looped k in
     rw (sub-zero (l .loop .count)) (want-ready (job l) (draw l) (is-leaf l) (start l .pre .0) (start l .args .trace .now) (l .loop .inv .0) (want k) (asked k))
 
--- src/wanting.rt:98:54
 add-came-to : tie.Need-add-came-to Inv-loop μ-loop
 add-came-to c = omega (arith, few (looped (linked (c .before .before .before .before))))
 
--- src/wanting.rt:98:13
 came-to-requires-2 : tie.Need-came-to-requires-2 Inv-loop μ-loop
 came-to-requires-2 c κs = search needs
 
--- src/wanting.rt:98:13
 same-length-4 : tie.Need-same-length-4 Inv-loop μ-loop
 same-length-4 c = search (needs, tree-kept (looped (linked (c .before .before .before .before .before))))
 
--- src/wanting.rt:98:13
 same-length-5 : tie.Need-same-length-5 Inv-loop μ-loop
 same-length-5 c = keys-kept (looped (linked (c .before .before .before .before .before)))
 
--- src/wanting.rt:98:13
 same-length-6 : tie.Need-same-length-6 Inv-loop μ-loop
 same-length-6 c = simp length-set (looped (linked (c .before .before .before .before .before)) .loop .inv .0 .trace-sized)
 
--- src/wanting.rt:98:13
 returns-2 : tie.Need-returns-2 Inv-loop μ-loop
 returns-2 c =
     let a = c .before .before .before .before .before in
@@ -233,65 +212,51 @@ returns-2 c =
       (l .loop .inv .1 .0, made-sized k),
     )
 
--- src/wanting.rt:101:20
 draw-at-requires : tie.Need-draw-at-requires Inv-loop μ-loop
 draw-at-requires c κs =
     let k = linked (c .before .before .before .before .before) in
     let l = looped k in
     (omega (arith, more k, start l .pre .1 .1 .1 .1 .0), start l .pre .0 .small)
 
--- src/wanting.rt:101:20
 cast-node : tie.Need-cast-node Inv-loop μ-loop
 cast-node c = omega (arith, c .draw-at .ensures .1 .1)
 
--- src/wanting.rt:102:9
 set-node-requires : tie.Need-set-node-requires Inv-loop μ-loop
 set-node-requires c κs = let d = c .before in (looped (took d) .loop .inv .1 .0, omega (arith, place d))
 
--- src/wanting.rt:103:24
 word-of-requires : tie.Need-word-of-requires Inv-loop μ-loop
 word-of-requires c κs = search needs
 
--- src/wanting.rt:103:9
 mul-froms : tie.Need-mul-froms Inv-loop μ-loop
 mul-froms c = omega (arith, place (c .before .before .before))
 
--- src/wanting.rt:103:9
 element-write-froms : tie.Need-element-write-froms Inv-loop μ-loop
 element-write-froms c = omega (arith, place (c .before .before .before), looped (took (c .before .before .before)) .loop .inv .0 .froms-sized)
 
--- src/wanting.rt:104:9
 mul-keys : tie.Need-mul-keys Inv-loop μ-loop
 mul-keys c = omega (arith, place (c .before .before .before))
 
--- src/wanting.rt:104:9
 slice-write-keys : tie.Need-slice-write-keys Inv-loop μ-loop
 slice-write-keys c = omega (arith, place (c .before .before .before), looped (took (c .before .before .before)) .loop .inv .0 .keys-sized)
 
--- src/wanting.rt:105:9
 add-count : tie.Need-add-count Inv-loop μ-loop
 add-count c = omega (arith, place (c .before .before .before))
 
--- src/wanting.rt:107:13
 came-to-requires-3 : tie.Need-came-to-requires-3 Inv-loop μ-loop
 came-to-requires-3 c κs = search needs
 
--- src/wanting.rt:107:13
 same-length-7 : tie.Need-same-length-7 Inv-loop μ-loop
 same-length-7 c = search (needs, tree-kept (looped (took (c .before .before .before .before .before .before))))
 
--- src/wanting.rt:107:13
 same-length-8 : tie.Need-same-length-8 Inv-loop μ-loop
 same-length-8 c =
     let d = c .before .before .before .before .before .before in
     let l = looped (took d) in
     length-set (l .loop .keys) (l .loop .count) (rounded d .want-round .result .node .key) ∙ keys-kept l
 
--- src/wanting.rt:107:13
 same-length-9 : tie.Need-same-length-9 Inv-loop μ-loop
 same-length-9 c = simp length-set (looped (took (c .before .before .before .before .before .before)) .loop .inv .0 .trace-sized)
 
--- src/wanting.rt:107:13
 returns-3 : tie.Need-returns-3 Inv-loop μ-loop
 returns-3 c =
     let h = c .before .before .before .before in
@@ -304,11 +269,9 @@ returns-3 c =
       (h .set-node .ensures .1, made-sized k),
     )
 
--- src/wanting.rt:78:5
 loop-less : tie.Need-loop-less Inv-loop μ-loop
 loop-less c = omega (arith, more (took (c .before .before .before .before .before)))
 
--- src/wanting.rt:78:5
 loop-again : tie.Need-loop-again Inv-loop μ-loop
 loop-again c =
     let h = c .before .before .before in
@@ -320,23 +283,18 @@ loop-again c =
       (h .set-node .ensures .1, made-sized k),
     )
 
--- src/wanting.rt:111:5
 came-to-requires-4 : tie.Need-came-to-requires-4 Inv-loop μ-loop
 came-to-requires-4 c κs = search needs
 
--- src/wanting.rt:58:1
 same-length-10 : tie.Need-same-length-10 Inv-loop μ-loop
 same-length-10 c = tree-kept (c .before .before .before)
 
--- src/wanting.rt:58:1
 same-length-11 : tie.Need-same-length-11 Inv-loop μ-loop
 same-length-11 c = keys-kept (c .before .before .before)
 
--- src/wanting.rt:58:1
 same-length-12 : tie.Need-same-length-12 Inv-loop μ-loop
 same-length-12 c = c .before .before .before .loop .inv .0 .trace-sized
 
--- src/wanting.rt:58:1
 returns-4 : tie.Need-returns-4 Inv-loop μ-loop
 returns-4 c =
     let l = c .before .before .before in (

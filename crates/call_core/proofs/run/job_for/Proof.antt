@@ -10,38 +10,30 @@ use Rattle.idle_rounds.proofs.idle.draw_at.Reads as draw-at-reads
 use Rattle.tree_paths.proofs.leaves.Reads as leaves-reads
 use Rattle.call_draws.proofs.spare_of.Reads as spare-of-reads
 
--- src/run.rt:38:18
 leaves-requires : tie.Need-leaves-requires
 leaves-requires c κs = search needs
 
--- src/run.rt:38:18
 sub-limit : tie.Need-sub-limit
 sub-limit c = search needs
 
--- src/run.rt:38:17
 cast-limit : tie.Need-cast-limit
 cast-limit c =
     let s = c .before .before in
     let most : 2 ^ s .args .size ≤ 2 ^ 8 = pow-mono (s .pre .0) in
     omega (arith, most, c .leaves .ensures)
 
--- src/run.rt:39:15
 draw-at-requires : tie.Need-draw-at-requires
 draw-at-requires c κs = search needs
 
--- src/run.rt:39:15
 cast-tag : tie.Need-cast-tag
 cast-tag c = search needs
 
--- src/run.rt:49:24
 spare-of-requires : tie.Need-spare-of-requires
 spare-of-requires c κs = search needs
 
--- src/run.rt:49:15
 add-t10 : tie.Need-add-t10
 add-t10 c = search needs
 
--- src/run.rt:26:1
 returns : tie.Need-returns
 returns c = rw (c .before .before .leaves .ensures .0, c .before .draw-at .ensures .0, c .spare-of .ensures .0)
 

@@ -10,56 +10,45 @@ use Rattle.call_ending.proofs.finish.Reads as finish-reads
 use Rattle.call_ending.proofs.shut.Reads as shut-reads
 use Rattle.fetch_rounds.proofs.fetch_rounds.Reads as fetch-rounds-reads
 
--- src/run.rt:79:9
 slice-aggregate-fetch-rounds : tie.Need-slice-aggregate-fetch-rounds
 slice-aggregate-fetch-rounds c = search needs
 
--- src/run.rt:70:9
 fetch-rounds-requires : tie.Need-fetch-rounds-requires
 fetch-rounds-requires c κs =
     let ok = c .before .before .before .before .before .before .before .before .before .before .before .pre in
     (ok .begins refl, ((refl, refl), (refl, (refl, (ok .tape-long, ok .trace-long)))))
 
--- src/run.rt:84:9
 shut-requires : tie.Need-shut-requires
 shut-requires c κs =
     let f = c .before .before .before .before .before .before .before .before .before .before .fetch-rounds .ensures in
     run-shuts (c .before .before .before .before .before .before .before .before .before .before .before .before .before .before .before .before .before .before .before .before .before .before .pre) (f .0) (λ e. omega (arith, e, c .before .before .before .if1 .taken)) _ (f .1 .0)
 
--- src/run.rt:84:9
 same-length : tie.Need-same-length
 same-length c = search needs
 
--- src/run.rt:84:9
 same-length-2 : tie.Need-same-length-2
 same-length-2 c = search needs
 
--- src/run.rt:84:9
 returns : tie.Need-returns
 returns c =
     let f = c .before .before .before .before .before .before .before .before .before .before .before .fetch-rounds .ensures in
     (run-ends-shut (c .before .before .before .before .before .before .before .before .before .before .before .before .before .before .before .before .before .before .before .before .before .before .before .pre) (f .0) (λ e. omega (arith, e, c .before .before .before .before .if1 .taken)) (c .shut .ensures), (c .shut .ensures .holds, c .shut .ensures .ran))
 
--- src/run.rt:87:52
 slice-aggregate-finish : tie.Need-slice-aggregate-finish
 slice-aggregate-finish c = search needs
 
--- src/run.rt:86:5
 finish-requires : tie.Need-finish-requires
 finish-requires c κs =
     let ok = c .before .before .before .before .before .before .before .before .before .before .before .before .before .before .before .before .before .before .before .before .before .before .before .before .before .before .pre in
     let f = c .before .before .before .before .before .before .before .before .before .before .before .before .before .before .fetch-rounds .ensures in
     (run-finishes ok (f .0) (omega (arith, c .before .before .before .before .before .before .before .if1 .left)), (f .1, (ok .tape-long, omega (arith, ok .trace-long, f .0 .trace-sized))))
 
--- src/run.rt:54:1
 same-length-3 : tie.Need-same-length-3
 same-length-3 c = search needs
 
--- src/run.rt:54:1
 same-length-4 : tie.Need-same-length-4
 same-length-4 c = search needs
 
--- src/run.rt:54:1
 returns-2 : tie.Need-returns-2
 returns-2 c =
     let done = c .before .before .before .before .finish .ensures in

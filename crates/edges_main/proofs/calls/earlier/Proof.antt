@@ -1,4 +1,4 @@
--- `edges::calls::earlier` is safe and ends.
+-- `edges_main::calls::earlier` is safe and ends.
 use Prim.Native.Nat.{_-_, _≤_}
 use mathlib.Core.Path.{_≡_}
 use lib.ListN.{length}

@@ -1,4 +1,4 @@
--- `edges::calls::made` is safe and ends.
+-- `edges_main::calls::made` is safe and ends.
 use mathlib.Core.Path.{sym}
 use native.Mathlib.Omega.{arith}
 use lib.Seq.{length-take-le}

@@ -1,4 +1,4 @@
--- `edges::cases::answer` is safe and ends.
+-- `edges_main::cases::answer` is safe and ends.
 use mathlib.Core.Path.{sym}
 use native.Mathlib.Omega.{arith}
 use lib.ListN.{length-replicate}

@@ -1,4 +1,4 @@
--- `edges::cases::case` is safe and ends.
+-- `edges_main::cases::case` is safe and ends.
 use mathlib.Core.Path.{sym}
 use lib.Seq.{length-take-le}
 use native.Mathlib.Omega.{arith}

@@ -1,4 +1,4 @@
--- `edges::cases::with_trace` is safe and ends.
+-- `edges_main::cases::with_trace` is safe and ends.
 use Prim.Native.Nat.{_-_, _≤_}
 use lib.ListN.{length}
 use borrow.Author.Needs.{needs}

@@ -1,4 +1,4 @@
--- `edges::rows::end_of` is safe and ends.
+-- `edges_main::rows::end_of` is safe and ends.
 use Prim.Native.Nat.{_-_, _≤_}
 use lib.ListN.{length}
 use borrow.Author.Needs.{needs}

@@ -1,4 +1,4 @@
--- `edges::rows::row_of` is safe and ends.
+-- `edges_main::rows::row_of` is safe and ends.
 use Prim.Native.Nat.{_-_, _<_, _≤_}
 use lib.ListN.{length}
 use mathlib.Core.Logic.{⊎-elim}

@@ -1,4 +1,4 @@
--- `edges::trees::checksum` is safe and ends.
+-- `edges_main::trees::checksum` is safe and ends.
 use Prim.Native.Nat.{_-_, _≤_}
 use lib.ListN.{length}
 use borrow.Author.Needs.{needs}

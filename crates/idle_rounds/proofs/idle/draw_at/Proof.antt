@@ -10,27 +10,21 @@ use Rattle.idle_rounds.proofs.idle.draw_at.Lts as lts
 use Rattle.idle_rounds.proofs.idle.wide.Reads as wide-reads
 use Rattle.tree_paths.proofs.leaves.Reads as leaves-reads
 
--- src/idle.rt:27:10
 mul-wide : tie.Need-mul-wide
 mul-wide c = search needs
 
--- src/idle.rt:27:10
 shared-slice-read-wide : tie.Need-shared-slice-read-wide
 shared-slice-read-wide c = search needs
 
--- src/idle.rt:27:5
 wide-requires : tie.Need-wide-requires
 wide-requires c κs = search needs
 
--- src/idle.rt:27:21
 leaves-requires : tie.Need-leaves-requires
 leaves-requires c κs = search needs
 
--- src/idle.rt:27:5
 rem-result : tie.Need-rem-result
 rem-result c = search needs
 
--- src/idle.rt:23:1
 returns : tie.Need-returns
 returns c =
     let a = c .before .before .before .before .args in

@@ -19,93 +19,75 @@ Inv-loop w₀ n s₀ tree₀ size held tape first count trace₀ at waiting₀ i
 abbrev μ-loop : tie.MeasureT-loop
 μ-loop w₀ n s₀ tree₀ size held tape first count trace₀ at waiting₀ i₀ w s tree trace waiting i = count - i
 
--- src/idle.rt:52:5
 loop-holds : tie.Need-loop-holds Inv-loop μ-loop
 loop-holds c =
     let s = c .before .before .before .before in
     let a = s .args in
     idling-begins (a .size) (a .n) (drawOf (a .size) (a .tape .now)) (a .count) (a .first) (a .at) (a .w .now) (a .tree .now) (a .trace .now) (a .held .now) (s .pre .0)
 
--- src/idle.rt:53:34
 add-draw-at : tie.Need-add-draw-at Inv-loop μ-loop
 add-draw-at c = search needs
 
--- src/idle.rt:53:13
 draw-at-requires : tie.Need-draw-at-requires Inv-loop μ-loop
 draw-at-requires c κs = search needs
 
--- src/idle.rt:54:25
 cast-trace : tie.Need-cast-trace Inv-loop μ-loop
 cast-trace c = search needs
 
--- src/idle.rt:54:15
 add-trace : tie.Need-add-trace Inv-loop μ-loop
 add-trace c = search needs
 
--- src/idle.rt:54:9
 mul-trace : tie.Need-mul-trace Inv-loop μ-loop
 mul-trace c = search needs
 
--- src/idle.rt:54:9
 slice-write-trace : tie.Need-slice-write-trace Inv-loop μ-loop
 slice-write-trace c =
     let s = c .before .before .before .before .before .before .before in
     let a = s .args in
     omega (arith, idling-sized (a .size) (a .n) (drawOf (a .size) (a .tape .now)) (a .count) (a .first) (a .at) (a .w .now) (a .tree .now) (a .trace .now) (a .held .now) (c .before .before .loop .inv))
 
--- src/idle.rt:55:13
 idle-round-requires : tie.Need-idle-round-requires Inv-loop μ-loop
 idle-round-requires c κs = between-ready (c .before .before .before .before .before .loop .inv .between) (c .before .before .before .draw-at .result) (c .before .before .before .draw-at .ensures .1 .0)
 
--- src/idle.rt:60:24
 add-t25 : tie.Need-add-t25 Inv-loop μ-loop
 add-t25 c = search needs
 
--- src/idle.rt:57:13
 same-length : tie.Need-same-length Inv-loop μ-loop
 same-length c = search needs
 
--- src/idle.rt:57:13
 same-length-2 : tie.Need-same-length-2 Inv-loop μ-loop
 same-length-2 c =
     let s = c .before .before .before .before .before .before .before .before .before .before .before .before .before .before .before in
     let a = s .args in
     length-set (c .before .before .before .before .before .before .before .before .before .before .loop .trace) (a .at + c .before .before .before .before .before .before .before .before .before .before .loop .i) (c .before .before .before .before .before .before .before .before .draw-at .result) ∙ idling-sized (a .size) (a .n) (drawOf (a .size) (a .tape .now)) (a .count) (a .first) (a .at) (a .w .now) (a .tree .now) (a .trace .now) (a .held .now) (c .before .before .before .before .before .before .before .before .before .before .loop .inv)
 
--- src/idle.rt:57:13
 returns : tie.Need-returns Inv-loop μ-loop
 returns c =
     let s = c .before .before .before .before .before .before .before .before .before .before .before .before .before .before .before in
     let a = s .args in
     idling-shuts (a .size) (a .n) (drawOf (a .size) (a .tape .now)) (a .count) (a .first) (a .at) (a .w .now) (a .tree .now) (a .trace .now) (a .held .now) (c .before .before .before .before .before .before .before .before .before .before .loop .inv) (omega arith) (c .before .before .before .before .before .before .before .before .draw-at .ensures .0) (c .before .before .before .before .before .before .before .before .draw-at .ensures .1 .0) refl (c .before .before .before .before .idle-round .ensures) (λ e. omega (arith, e, c .if1 .taken))
 
--- src/idle.rt:64:9
 add-i : tie.Need-add-i Inv-loop μ-loop
 add-i c = search needs
 
--- src/idle.rt:52:5
 loop-less : tie.Need-loop-less Inv-loop μ-loop
 loop-less c = search needs
 
--- src/idle.rt:52:5
 loop-again : tie.Need-loop-again Inv-loop μ-loop
 loop-again c =
     let s = c .before .before .before .before .before .before .before .before .before .before .before .before .before .before .before in
     let a = s .args in
     idling-goes (a .size) (a .n) (drawOf (a .size) (a .tape .now)) (a .count) (a .first) (a .at) (a .w .now) (a .tree .now) (a .trace .now) (a .held .now) (c .before .before .before .before .before .before .before .before .before .before .loop .inv) (omega arith) (c .before .before .before .before .before .before .before .before .draw-at .ensures .0) (c .before .before .before .before .before .before .before .before .draw-at .ensures .1 .0) refl (c .before .before .before .before .idle-round .ensures) (omega (arith, c .if1 .left))
 
--- src/idle.rt:34:1
 same-length-3 : tie.Need-same-length-3 Inv-loop μ-loop
 same-length-3 c = search needs
 
--- src/idle.rt:34:1
 same-length-4 : tie.Need-same-length-4 Inv-loop μ-loop
 same-length-4 c =
     let s = c .before .before .before .before .before .before in
     let a = s .args in
     idling-sized (a .size) (a .n) (drawOf (a .size) (a .tape .now)) (a .count) (a .first) (a .at) (a .w .now) (a .tree .now) (a .trace .now) (a .held .now) (c .before .loop .inv)
 
--- src/idle.rt:34:1
 returns-2 : tie.Need-returns-2 Inv-loop μ-loop
 returns-2 c =
     let s = c .before .before .before .before .before .before in

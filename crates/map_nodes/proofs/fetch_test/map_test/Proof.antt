@@ -12,50 +12,39 @@ use Rattle.map_nodes.proofs.lean.is_tall.Reads as is-tall-reads
 use Rattle.map_nodes.proofs.fetch_test.is_between.Reads as is-between-reads
 use Rattle.map_nodes.proofs.sides.taller.Reads as taller-reads
 
--- src/fetched.rt:48:8
 is-tall-requires : tie.Need-is-tall-requires
 is-tall-requires c κs = search needs
 
--- src/fetched.rt:49:9
 returns : tie.Need-returns
 returns c = let a = c .before .before .args in sym (tall-left (toWant (a .want)) (toNode (a .n)) (sym (c .before .is-tall .ensures) ∙ c .if1 .taken))
 
--- src/fetched.rt:51:8
 is-tall-requires-2 : tie.Need-is-tall-requires-2
 is-tall-requires-2 c κs = search needs
 
--- src/fetched.rt:52:9
 returns-2 : tie.Need-returns-2
 returns-2 c = let a = c .before .before .before .before .args in sym (tall-right (toWant (a .want)) (toNode (a .n)) (sym (c .before .before .before .is-tall .ensures) ∙ c .before .before .if1 .left) (sym (c .before .is-tall2 .ensures) ∙ c .if2 .taken))
 
--- src/fetched.rt:54:18
 taller-requires : tie.Need-taller-requires
 taller-requires c κs = search needs
 
--- src/fetched.rt:54:18
 cast-height : tie.Need-cast-height
 cast-height c = search needs
 
--- src/fetched.rt:56:8
 add-if3 : tie.Need-add-if3
 add-if3 c = search needs
 
--- src/fetched.rt:56:22
 cast-if3 : tie.Need-cast-if3
 cast-if3 c = search needs
 
--- src/fetched.rt:57:9
 returns-3 : tie.Need-returns-3
 returns-3 c =
     let a = c .before .before .before .before .before .before .before .before .args in
     sym (other-height (toWant (a .want)) (toNode (a .n)) (sym (c .before .before .before .before .before .before .before .is-tall .ensures) ∙ c .before .before .before .before .before .before .if1 .left)
     (sym (c .before .before .before .before .before .is-tall2 .ensures) ∙ c .before .before .before .before .if2 .left) (λ e. c .if3 .taken (rw (c .before .before .before .taller .ensures, add-one) e)))
 
--- src/fetched.rt:61:5
 is-between-requires : tie.Need-is-between-requires
 is-between-requires c κs = search needs
 
--- src/fetched.rt:45:1
 returns-4 : tie.Need-returns-4
 returns-4 c =
     let a = c .before .before .before .before .before .before .before .before .before .args in

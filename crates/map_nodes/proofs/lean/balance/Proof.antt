@@ -8,27 +8,21 @@ use Rattle.map_nodes.proofs.lean.balance.Tie as tie
 use Rattle.map_nodes.proofs.lean.balance.Reads as reads
 use Rattle.map_nodes.proofs.lean.balance.Lts as lts
 
--- src/balance.rt:15:12
 sub-if2 : tie.Need-sub-if2
 sub-if2 c = search needs
 
--- src/balance.rt:16:13
 returns : tie.Need-returns
 returns c = sym (balance-two (toNode (c .before .before .args .n)) (omega arith) (omega arith))
 
--- src/balance.rt:18:9
 returns-2 : tie.Need-returns-2
 returns-2 c = sym (balance-one (toNode (c .before .before .args .n)) (omega arith) (omega arith))
 
--- src/balance.rt:22:13
 returns-3 : tie.Need-returns-3
 returns-3 c = sym (balance-minus-two (toNode (c .before .before .before .args .n)) (omega arith) (omega arith))
 
--- src/balance.rt:24:9
 returns-4 : tie.Need-returns-4
 returns-4 c = sym (balance-minus-one (toNode (c .before .before .before .args .n)) (omega arith) (omega arith))
 
--- src/balance.rt:9:1
 returns-5 : tie.Need-returns-5
 returns-5 c = sym (balance-zero (toNode (c .before .before .args .n)) (omega arith))
 

@@ -7,11 +7,9 @@ use Rattle.map_nodes.proofs.lean.is_tall.Reads as reads
 use Rattle.map_nodes.proofs.lean.is_tall.Lts as lts
 use Rattle.map_nodes.proofs.lean.lean.Reads as lean-reads
 
--- src/balance.rt:44:9
 lean-requires : tie.Need-lean-requires
 lean-requires c κs = search needs
 
--- src/balance.rt:41:1
 returns : tie.Need-returns
 returns c = rw (c .lean .ensures) (tall-test (c .before .args .left) (toNode (c .before .args .n)))
 

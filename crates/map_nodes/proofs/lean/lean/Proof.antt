@@ -7,19 +7,15 @@ use Rattle.map_nodes.proofs.lean.lean.Reads as reads
 use Rattle.map_nodes.proofs.lean.lean.Lts as lts
 use Rattle.map_nodes.proofs.lean.balance.Reads as balance-reads
 
--- src/balance.rt:33:9
 balance-requires : tie.Need-balance-requires
 balance-requires c κs = search needs
 
--- src/balance.rt:35:9
 returns : tie.Need-returns
 returns c = rw (c .before .balance .ensures, c .if1 .taken) (balance-kept (toNode (c .before .before .args .n)))
 
--- src/balance.rt:37:5
 sub-result : tie.Need-sub-result
 sub-result c = rw (c .before .balance .ensures) (balance-fits (toNode (c .before .before .args .n)))
 
--- src/balance.rt:30:1
 returns-2 : tie.Need-returns-2
 returns-2 c = rw (c .before .balance .ensures, c .if1 .left) (balance-negated (toNode (c .before .before .args .n)))
 

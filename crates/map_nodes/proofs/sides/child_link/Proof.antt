@@ -3,11 +3,9 @@ use Rattle.map_nodes.proofs.sides.child_link.Tie as tie
 use Rattle.map_nodes.proofs.sides.child_link.Reads as reads
 use Rattle.map_nodes.proofs.sides.child_link.Lts as lts
 
--- src/rotation.rt:13:9
 returns : tie.Need-returns
 returns c = rw (c .before .if1 .taken)
 
--- src/rotation.rt:9:1
 returns-2 : tie.Need-returns-2
 returns-2 c = rw (c .before .if1 .left)
 

@@ -6,15 +6,12 @@ use Rattle.map_nodes.proofs.sides.link_to.Reads as reads
 use Rattle.map_nodes.proofs.sides.link_to.Lts as lts
 use Rattle.map_nodes.proofs.sides.taller.Reads as taller-reads
 
--- src/rotation.rt:53:9
 taller-requires : tie.Need-taller-requires
 taller-requires c κs = search needs
 
--- src/rotation.rt:55:17
 add-t3 : tie.Need-add-t3
 add-t3 c = search needs
 
--- src/rotation.rt:49:1
 returns : tie.Need-returns
 returns c = rw (add-one, c .taller .ensures)
 

@@ -3,11 +3,9 @@ use Rattle.map_nodes.proofs.sides.with_child.Tie as tie
 use Rattle.map_nodes.proofs.sides.with_child.Reads as reads
 use Rattle.map_nodes.proofs.sides.with_child.Lts as lts
 
--- src/rotation.rt:25:9
 returns : tie.Need-returns
 returns c = rw (c .if1 .taken)
 
--- src/rotation.rt:19:1
 returns-2 : tie.Need-returns-2
 returns-2 c = rw (c .if1 .left)
 

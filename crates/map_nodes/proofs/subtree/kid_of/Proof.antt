@@ -4,23 +4,18 @@ use Rattle.map_nodes.proofs.subtree.kid_of.Tie as tie
 use Rattle.map_nodes.proofs.subtree.kid_of.Reads as reads
 use Rattle.map_nodes.proofs.subtree.kid_of.Lts as lts
 
--- src/subtree.rt:39:25
 enum-told : tie.Need-enum-told
 enum-told c = search needs
 
--- src/subtree.rt:40:21
 enum-known-b : tie.Need-enum-known-b
 enum-known-b c = search needs
 
--- src/subtree.rt:42:17
 returns : tie.Need-returns
 returns c = rw (c .before .before .b .given .1, c .if1 .taken)
 
--- src/subtree.rt:35:1
 returns-2 : tie.Need-returns-2
 returns-2 c = search needs
 
--- src/subtree.rt:35:1
 returns-3 : tie.Need-returns-3
 returns-3 c = rw (c .before .before .b .given .1, c .if1 .left)
 

@@ -9,23 +9,18 @@ use Rattle.map_nodes.proofs.subtree.link_of.Reads as reads
 use Rattle.map_nodes.proofs.subtree.link_of.Lts as lts
 use Rattle.map_nodes.proofs.sides.link_to.Reads as link-to-reads
 
--- src/subtree.rt:20:19
 enum-known-b : tie.Need-enum-known-b
 enum-known-b c = search needs
 
--- src/subtree.rt:21:18
 enum-known-b-2 : tie.Need-enum-known-b-2
 enum-known-b-2 c = search needs
 
--- src/subtree.rt:21:30
 link-to-requires : tie.Need-link-to-requires
 link-to-requires c κs = subst (λ (b : Sub). LowSub 254 (toSub b)) (c .before .b2 .given .1) (c .before .before .before .pre) .0
 
--- src/subtree.rt:15:1
 returns : tie.Need-returns
 returns c = rw (c .before .b .given .1)
 
--- src/subtree.rt:15:1
 returns-2 : tie.Need-returns-2
 returns-2 c = rw (c .before .before .b2 .given .1) (c .link-to .ensures)
 

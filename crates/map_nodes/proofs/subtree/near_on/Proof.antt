@@ -5,15 +5,12 @@ use Rattle.map_nodes.proofs.subtree.near_on.Reads as reads
 use Rattle.map_nodes.proofs.subtree.near_on.Lts as lts
 use Rattle.map_nodes.proofs.sides.child_link.Reads as child-link-reads
 
--- src/subtree.rt:64:9
 returns : tie.Need-returns
 returns c = rw (c .if1 .taken)
 
--- src/subtree.rt:67:9
 child-link-requires : tie.Need-child-link-requires
 child-link-requires c κs = search needs
 
--- src/subtree.rt:60:1
 returns-2 : tie.Need-returns-2
 returns-2 c = rw (c .before .before .if1 .left, c .child-link .ensures)
 

@@ -6,15 +6,12 @@ use Rattle.map_nodes.proofs.subtree.place.Lts as lts
 use Rattle.map_nodes.proofs.sides.with_child.Reads as with-child-reads
 use Rattle.map_nodes.proofs.subtree.link_of.Reads as link-of-reads
 
--- src/subtree.rt:55:9
 link-of-requires : tie.Need-link-of-requires
 link-of-requires c κs = search needs
 
--- src/subtree.rt:56:5
 with-child-requires : tie.Need-with-child-requires
 with-child-requires c κs = search needs
 
--- src/subtree.rt:50:1
 returns : tie.Need-returns
 returns c = rw (← c .before .link-of .ensures) (c .with-child .ensures)
 

@@ -4,19 +4,15 @@ use Rattle.map_nodes.proofs.subtree.top_of.Tie as tie
 use Rattle.map_nodes.proofs.subtree.top_of.Reads as reads
 use Rattle.map_nodes.proofs.subtree.top_of.Lts as lts
 
--- src/subtree.rt:29:25
 enum-told : tie.Need-enum-told
 enum-told c = search needs
 
--- src/subtree.rt:30:18
 enum-known-b : tie.Need-enum-known-b
 enum-known-b c = search needs
 
--- src/subtree.rt:25:1
 returns : tie.Need-returns
 returns c = search needs
 
--- src/subtree.rt:25:1
 returns-2 : tie.Need-returns-2
 returns-2 c = rw (c .before .b .given .1)
 

@@ -6,15 +6,12 @@ use Rattle.map_nodes.proofs.wants.below.Lts as lts
 use Rattle.map_nodes.proofs.sides.child_link.Reads as child-link-reads
 use Rattle.map_nodes.proofs.wants.beside.Reads as beside-reads
 
--- src/wants.rt:67:9
 child-link-requires : tie.Need-child-link-requires
 child-link-requires c κs = search needs
 
--- src/wants.rt:68:5
 beside-requires : tie.Need-beside-requires
 beside-requires c κs = search needs
 
--- src/wants.rt:63:1
 returns : tie.Need-returns
 returns c = rw (← c .before .child-link .ensures) (c .beside .ensures)
 

@@ -3,11 +3,9 @@ use Rattle.map_nodes.proofs.wants.beside.Tie as tie
 use Rattle.map_nodes.proofs.wants.beside.Reads as reads
 use Rattle.map_nodes.proofs.wants.beside.Lts as lts
 
--- src/wants.rt:47:9
 returns : tie.Need-returns
 returns c = rw (c .if1 .taken)
 
--- src/wants.rt:41:1
 returns-2 : tie.Need-returns-2
 returns-2 c = rw (c .if1 .left)
 

@@ -1,4 +1,4 @@
--- `steps::fetch_test::passes` meets its contract: it is the test of the structure that the number says.
+-- `structures::fetch_test::passes` meets its contract: it is the test of the structure that the number says.
 use borrow.Author.Needs.{needs}
 use borrow.Author.Tests.{eq-eqb, ne-eqb}
 use Rattle.method_spec.specs.Call.{test}

@@ -14,59 +14,45 @@ use Rattle.map_operations.proofs.remove.Reads as remove-reads
 use Rattle.stack_steps.proofs.pop.Reads as pop-reads
 use Rattle.stack_steps.proofs.push.Reads as push-reads
 
--- src/operation.rt:85:17
 enum-known-op : tie.Need-enum-known-op
 enum-known-op c = search needs
 
--- src/operation.rt:86:13
 get-requires : tie.Need-get-requires
 get-requires c κs = let s = c .before .before .before in (s .pre .0 .sized, walks-of (s .pre .0))
 
--- src/operation.rt:85:25
 map-step-requires : tie.Need-map-step-requires
 map-step-requires c κs = let s = c .before .before .before .before .before in (s .pre .0 .sized, s .pre .1, walks-of (s .pre .0), c .before .get .ensures .ready)
 
--- src/operation.rt:94:17
 enum-known-op-2 : tie.Need-enum-known-op-2
 enum-known-op-2 c = search needs
 
--- src/operation.rt:95:13
 put-requires : tie.Need-put-requires
 put-requires c κs = let s = c .before .before .before in (s .pre .0 .sized, walks-of (s .pre .0))
 
--- src/operation.rt:94:32
 map-step-requires-2 : tie.Need-map-step-requires-2
 map-step-requires-2 c κs = let s = c .before .before .before .before .before in (s .pre .0 .sized, s .pre .1, walks-of (s .pre .0), c .before .put .ensures .ready)
 
--- src/operation.rt:103:20
 enum-known-op-3 : tie.Need-enum-known-op-3
 enum-known-op-3 c = search needs
 
--- src/operation.rt:104:13
 remove-requires : tie.Need-remove-requires
 remove-requires c κs = let s = c .before .before .before in (s .pre .0 .sized, walks-of (s .pre .0))
 
--- src/operation.rt:103:28
 map-step-requires-3 : tie.Need-map-step-requires-3
 map-step-requires-3 c κs = let s = c .before .before .before .before .before in (s .pre .0 .sized, s .pre .1, walks-of (s .pre .0), c .before .remove .ensures .ready)
 
--- src/operation.rt:112:18
 enum-known-op-4 : tie.Need-enum-known-op-4
 enum-known-op-4 c = search needs
 
--- src/operation.rt:112:28
 push-requires : tie.Need-push-requires
 push-requires c κs = c .before .before .before .before .pre .1
 
--- src/operation.rt:113:20
 enum-told : tie.Need-enum-told
 enum-told c = search needs
 
--- src/operation.rt:113:20
 pop-requires : tie.Need-pop-requires
 pop-requires c κs = let s = c .before .before in (s .pre .0 .sized, omega (arith, s .pre .0 .few))
 
--- src/operation.rt:71:1
 returns : tie.Need-returns
 returns c =
     let s = c .before .before .before .before .before .before in
@@ -76,7 +62,6 @@ returns c =
       c .map-step .ensures .1,
     )
 
--- src/operation.rt:71:1
 returns-2 : tie.Need-returns-2
 returns-2 c =
     let s = c .before .before .before .before .before .before in
@@ -86,7 +71,6 @@ returns-2 c =
       c .map-step2 .ensures .1,
     )
 
--- src/operation.rt:71:1
 returns-3 : tie.Need-returns-3
 returns-3 c =
     let s = c .before .before .before .before .before .before in
@@ -96,7 +80,6 @@ returns-3 c =
       c .map-step3 .ensures .1,
     )
 
--- src/operation.rt:71:1
 returns-4 : tie.Need-returns-4
 returns-4 c =
     let a = c .before .before .before .before .before .args in
@@ -105,7 +88,6 @@ returns-4 c =
       (omega (arith, c .push .ensures .1 .0), c .push .ensures .1 .1),
     )
 
--- src/operation.rt:71:1
 returns-5 : tie.Need-returns-5
 returns-5 c =
     let s = c .before .before .before in

@@ -13,55 +13,42 @@ use Rattle.map_operations.proofs.put.Reads as put-reads
 use Rattle.map_operations.proofs.remove.Reads as remove-reads
 use Rattle.stack_steps.proofs.pop_wanted.Reads as pop-wanted-reads
 
--- src/operation.rt:40:17
 enum-known-op : tie.Need-enum-known-op
 enum-known-op c = search needs
 
--- src/operation.rt:41:13
 get-requires : tie.Need-get-requires
 get-requires c κs = let s = c .before .before .before in (s .pre .0 .sized, walks-of (s .pre .0))
 
--- src/operation.rt:40:25
 map-wanted-requires : tie.Need-map-wanted-requires
 map-wanted-requires c κs = let s = c .before .before .before .before .before in (s .pre .0 .sized, s .pre .1, walks-of (s .pre .0), c .before .get .ensures .ready)
 
--- src/operation.rt:48:17
 enum-known-op-2 : tie.Need-enum-known-op-2
 enum-known-op-2 c = search needs
 
--- src/operation.rt:49:13
 put-requires : tie.Need-put-requires
 put-requires c κs = let s = c .before .before .before in (s .pre .0 .sized, walks-of (s .pre .0))
 
--- src/operation.rt:48:32
 map-wanted-requires-2 : tie.Need-map-wanted-requires-2
 map-wanted-requires-2 c κs = let s = c .before .before .before .before .before in (s .pre .0 .sized, s .pre .1, walks-of (s .pre .0), c .before .put .ensures .ready)
 
--- src/operation.rt:56:20
 enum-known-op-3 : tie.Need-enum-known-op-3
 enum-known-op-3 c = search needs
 
--- src/operation.rt:57:13
 remove-requires : tie.Need-remove-requires
 remove-requires c κs = let s = c .before .before .before in (s .pre .0 .sized, walks-of (s .pre .0))
 
--- src/operation.rt:56:28
 map-wanted-requires-3 : tie.Need-map-wanted-requires-3
 map-wanted-requires-3 c κs = let s = c .before .before .before .before .before in (s .pre .0 .sized, s .pre .1, walks-of (s .pre .0), c .before .remove .ensures .ready)
 
--- src/operation.rt:64:24
 enum-told : tie.Need-enum-told
 enum-told c = search needs
 
--- src/operation.rt:65:20
 enum-told-2 : tie.Need-enum-told-2
 enum-told-2 c = search needs
 
--- src/operation.rt:65:20
 pop-wanted-requires : tie.Need-pop-wanted-requires
 pop-wanted-requires c κs = let s = c .before .before in (s .pre .0 .sized, omega (arith, s .pre .0 .few))
 
--- src/operation.rt:26:1
 returns : tie.Need-returns
 returns c =
     let s = c .before .before .before .before .before .before in
@@ -71,7 +58,6 @@ returns c =
       c .map-wanted .ensures .1,
     )
 
--- src/operation.rt:26:1
 returns-2 : tie.Need-returns-2
 returns-2 c =
     let s = c .before .before .before .before .before .before in
@@ -81,7 +67,6 @@ returns-2 c =
       c .map-wanted2 .ensures .1,
     )
 
--- src/operation.rt:26:1
 returns-3 : tie.Need-returns-3
 returns-3 c =
     let s = c .before .before .before .before .before .before in
@@ -91,7 +76,6 @@ returns-3 c =
       c .map-wanted3 .ensures .1,
     )
 
--- src/operation.rt:26:1
 returns-4 : tie.Need-returns-4
 returns-4 c =
     let s = c .before .before in
@@ -99,7 +83,6 @@ returns-4 c =
     let h = heldIn (a .held .now) (a .count) in
     (wanted-by (program-push (a .op) (a .tag) (a .limit) (a .entries) (toLink (a .root)) (c .enum-told .given .1)) h (push-wants-none _ (a .tag) (a .entries) (a .limit) (toLink (a .root)) h), s .pre .1)
 
--- src/operation.rt:26:1
 returns-5 : tie.Need-returns-5
 returns-5 c =
     let s = c .before .before .before in

@@ -38,7 +38,7 @@ leftBy structure size r words tree trace =
       trace = trace;
     }
 
--- The end of a call of a store of that structure and size, of what it leaves: store's `ending`.
+-- The end of a call of a store of that structure and size, of what it leaves: `ending` of call_spec.
 abbrev pub endingWith : (structure size : ℕ) → List ℕ → Left → Ended
 endingWith structure size trace l =
     record {

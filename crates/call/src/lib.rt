@@ -3,7 +3,7 @@ use call_core::Head;
 use call_core::call_words;
 use call_spec::Called;
 use call_spec::Reply;
-use fitness::head_fits;
+use fitness::head_refusal;
 use fitness::zero_place;
 use opening::no_place;
 use slots::node_of;
@@ -26,24 +26,19 @@ ghost use Rattle.call.specs.Run.{endedAs};
 pub fn call(state: State, tree: &mut [u8], ticket: &[u8], tape: &[u16], trace: &mut [u16]) -> Called
     ensures { λ r. ⌜ endedAs r (now (tree .exit)) (now (trace .exit)) ≡ called state (now (tree .entry)) (now (ticket .entry)) (now (tape .entry)) (now (trace .entry)) ⌝ }
 {
-    if state.mark != 0 {
-        return Called {
-            state,
-            reply: Reply::Refused(1),
-            leaves: 0,
-        };
-    }
     let root = state.root;
-    if !head_fits(
+    let number = head_refusal(
+        state.mark,
         state.structure,
         state.size,
         state.entries,
         state.count,
         root,
-    ) {
+    );
+    if number != 0 {
         return Called {
             state,
-            reply: Reply::Refused(2),
+            reply: Reply::Refused(number),
             leaves: 0,
         };
     }

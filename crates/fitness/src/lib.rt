@@ -10,6 +10,7 @@ ghost use Prim.Native.Nat.{_≤_, _^_};
 ghost use lib.Dec.{ltb};
 ghost use Rattle.state_spec.specs.Fit.{zeroLink, zeroPlace, placeGood, rootGood, inRange};
 ghost use Rattle.state_spec.specs.Head.{headFits};
+ghost use Rattle.fitness.specs.Refusal.{headRefusal};
 
 // Structures are numbered from 1: map, stack. Sizes are 1 to 8.
 pub const LARGEST_STRUCTURE: u8 = 2;
@@ -87,7 +88,7 @@ fn root_fits(size: usize, structure: u8, entries: u16, root: Link) -> bool
 }
 
 // Whether a state fits, its places not asked about: `call` asks about those.
-pub fn head_fits(structure: u8, size: u8, entries: u16, count: u16, root: Link) -> bool
+fn head_fits(structure: u8, size: u8, entries: u16, count: u16, root: Link) -> bool
     ensures { λ r. ⌜ r ≡ headFits structure size entries count root ⌝ }
 {
     if !in_range(structure, LARGEST_STRUCTURE) {
@@ -104,4 +105,17 @@ pub fn head_fits(structure: u8, size: u8, entries: u16, count: u16, root: Link) 
         return false;
     }
     root_fits(k, structure, entries, root)
+}
+
+// The number with which the head of a state is refused: 1 closed, 2 unfit, 0 neither.
+pub fn head_refusal(mark: u8, structure: u8, size: u8, entries: u16, count: u16, root: Link) -> u8
+    ensures { λ r. ⌜ r ≡ headRefusal mark structure size entries count root ⌝ }
+{
+    if mark != 0 {
+        return 1;
+    }
+    if !head_fits(structure, size, entries, count, root) {
+        return 2;
+    }
+    0
 }

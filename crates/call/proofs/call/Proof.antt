@@ -2,7 +2,7 @@
 use mathlib.Core.Path.{_≡_, refl, sym, _∙_, ap}
 use mathlib.Core.Bool.{true, false}
 use mathlib.Core.Logic.{⊎-elim}
-use Prim.Native.Nat.{_-_, _≤_, _<_}
+use Prim.Native.Nat.{ℕ, _-_, _≤_, _<_}
 use lib.ListN.{length, set, length-map}
 use borrow.Author.Tests.{not-true, not-false}
 use borrow.Author.Needs.{needs}
@@ -17,8 +17,8 @@ use Rattle.state_laws.specs.FitLaws.{head-true}
 use Rattle.stash.specs.LoadLaws.{LookedAt, looked-none, used-unfit, unused-unfit, used-more, unused-more, looked-all}
 use Rattle.stash.specs.SaveLaws.{savedTo, saved-node, saved-none, saved-all}
 use Rattle.call_core.specs.Run.{headOf, StandsFor}
-use Rattle.call_core.specs.CallLaws.{refused-1, refused-2}
-use Rattle.call.specs.CallLaws.{unfit-head, fit-by-places, stands, refuses, kept, changed}
+use Rattle.call_core.specs.CallLaws.{refused-2}
+use Rattle.call.specs.CallLaws.{head-passed, head-refused, fit-by-places, stands, refuses, kept, changed}
 use Rattle.call.proofs.call.Statement.{statement}
 use Rattle.call.proofs.call.Tie as tie
 use Rattle.call.proofs.call.Reads as reads
@@ -30,38 +30,42 @@ use Rattle.slots.proofs.node_of.Reads as node-of-reads
 use Rattle.stash.proofs.places.greater.Reads as greater-reads
 use Rattle.stash.proofs.places.used_fits.Reads as used-fits-reads
 use Rattle.stash.proofs.words_of.Reads as words-of-reads
-use Rattle.fitness.proofs.head_fits.Reads as head-fits-reads
+use Rattle.fitness.proofs.head_refusal.Reads as head-refusal-reads
 use Rattle.fitness.proofs.zero_place.Reads as zero-place-reads
 use Rattle.opening.proofs.no_place.Reads as no-place-reads
 
 abbrev Inv-loop : tie.InvT-loop
-Inv-loop tree ticket tape trace state root size n w₀ least₀ i₀ w least i = LookedAt state i least w × (i ≤ 64)
+Inv-loop tree ticket tape trace state root number size n w₀ least₀ i₀ w least i = LookedAt state i least w × (i ≤ 64)
 
 abbrev μ-loop : tie.MeasureT-loop
-μ-loop tree ticket tape trace state root size n w₀ least₀ i₀ w least i = n - i
+μ-loop tree ticket tape trace state root number size n w₀ least₀ i₀ w least i = n - i
 
 abbrev Inv-loop2 : tie.InvT-loop2
-Inv-loop2 tree ticket tape trace state root size n w least i₀ i = LookedAt state i least w × (state .count ≤ i)
+Inv-loop2 tree ticket tape trace state root number size n w least i₀ i = LookedAt state i least w × (state .count ≤ i)
 
 abbrev μ-loop2 : tie.MeasureT-loop2
-μ-loop2 tree ticket tape trace state root size n w least i₀ i = 101 - i
+μ-loop2 tree ticket tape trace state root number size n w least i₀ i = 101 - i
 
 abbrev Inv-loop3 : tie.InvT-loop3
-Inv-loop3 tree ticket tape trace size n w least i r reply after m none end left₀ j₀ left j = (j ≤ end) × (left ≡ savedTo j m w left₀)
+Inv-loop3 tree ticket tape trace number size n w least i r reply after m none end left₀ j₀ left j = (j ≤ end) × (left ≡ savedTo j m w left₀)
 
 abbrev μ-loop3 : tie.MeasureT-loop3
-μ-loop3 tree ticket tape trace size n w least i r reply after m none end left₀ j₀ left j = end - j
+μ-loop3 tree ticket tape trace number size n w least i r reply after m none end left₀ j₀ left j = end - j
 
 -- Where the head fits: the state has no mark, and few nodes wait.
-unmarked : (c : tie.Else2 Inv-loop μ-loop Inv-loop2 μ-loop2 Inv-loop3 μ-loop3) → c .before .before .before .before .before .before .before .before .args .t1 .mark ≡ 0
-unmarked c = omega (arith, c .before .before .before .if1 .left)
+passed : (c : tie.Else1 Inv-loop μ-loop Inv-loop2 μ-loop2 Inv-loop3 μ-loop3) → (let s = c .before .before .before .before .before .before .before .args .t1 in ((s .mark ≡ 0) × (headFits (s .structure) (s .size) (s .entries) (s .count) (s .root) ≡ true)))
+passed c =
+    head-passed (c .before .before .before .before .before .before .before .args .t1) (omega (arith, c .before .head-refusal .ensures, c .if1 .left))
 
-fit-head : (c : tie.Else2 Inv-loop μ-loop Inv-loop2 μ-loop2 Inv-loop3 μ-loop3) → (let s = c .before .before .before .before .before .before .before .before .args .t1 in headFits (s .structure) (s .size) (s .entries) (s .count) (s .root) ≡ true)
-fit-head c = sym (c .before .head-fits .ensures) ∙ not-false (c .before .head-fits .result) (c .if2 .left)
+unmarked : (c : tie.Else1 Inv-loop μ-loop Inv-loop2 μ-loop2 Inv-loop3 μ-loop3) → c .before .before .before .before .before .before .before .args .t1 .mark ≡ 0
+unmarked c = passed c .0
 
-bounds : (c : tie.Else2 Inv-loop μ-loop Inv-loop2 μ-loop2 Inv-loop3 μ-loop3) → (let s = c .before .before .before .before .before .before .before .before .args .t1 in ((s .size ≤ 16) × (s .count ≤ 64)))
+fit-head : (c : tie.Else1 Inv-loop μ-loop Inv-loop2 μ-loop2 Inv-loop3 μ-loop3) → (let s = c .before .before .before .before .before .before .before .args .t1 in headFits (s .structure) (s .size) (s .entries) (s .count) (s .root) ≡ true)
+fit-head c = passed c .1
+
+bounds : (c : tie.Else1 Inv-loop μ-loop Inv-loop2 μ-loop2 Inv-loop3 μ-loop3) → (let s = c .before .before .before .before .before .before .before .args .t1 in ((s .size ≤ 16) × (s .count ≤ 64)))
 bounds c =
-    let s = c .before .before .before .before .before .before .before .before .args .t1 in
+    let s = c .before .before .before .before .before .before .before .args .t1 in
     let h = head-true (s .structure) (s .size) (s .entries) (s .count) (s .root) (fit-head c) in
     (omega (arith, h .sizes), omega (arith, h .waiting))
 
@@ -69,16 +73,16 @@ sized : (c : tie.Start Inv-loop μ-loop Inv-loop2 μ-loop2 Inv-loop3 μ-loop3) �
 sized c = sym (length-map (c .args .t1 .places) _) ∙ (c .good .0 .1 .1 .1 .1 .1 .1 .1 .1 .0 .1 .0 .1)
 
 -- A place does not fit: refused.
-unfit : (c : tie.Else2 Inv-loop μ-loop Inv-loop2 μ-loop2 Inv-loop3 μ-loop3) → placesFit (c .before .before .before .before .before .before .before .before .args .t1) ≡ false
-    → (let a = c .before .before .before .before .before .before .before .before .args in endedAs (record { state = a .t1; reply = Refused 2; leaves = 0 }) (a .tree .now) (a .trace .now) ≡ called (a .t1) (a .tree .now) (a .ticket .now) (a .tape .now) (a .trace .now))
+unfit : (c : tie.Else1 Inv-loop μ-loop Inv-loop2 μ-loop2 Inv-loop3 μ-loop3) → placesFit (c .before .before .before .before .before .before .before .args .t1) ≡ false
+    → (let a = c .before .before .before .before .before .before .before .args in endedAs (record { state = a .t1; reply = Refused 2; leaves = 0 }) (a .tree .now) (a .trace .now) ≡ called (a .t1) (a .tree .now) (a .ticket .now) (a .tape .now) (a .trace .now))
 unfit c e =
-    let a = c .before .before .before .before .before .before .before .before .args in
+    let a = c .before .before .before .before .before .before .before .args in
     refuses (a .t1) (a .tree .now) (a .ticket .now) (a .tape .now) (a .trace .now) refl (refused-2 (a .t1) (a .tree .now) (a .ticket .now) (a .tape .now) (a .trace .now) (unmarked c) (fit-by-places (a .t1) (fit-head c) e))
 
 -- All places are looked at: head and words stand for the state.
-stand : (c : tie.After-loop2 Inv-loop μ-loop Inv-loop2 μ-loop2 Inv-loop3 μ-loop3) → (let s = c .before .before .before .before .before .before .before .before .before .before .before .before .args .t1 in StandsFor s (headOf s) (c .before .before .before .loop .w))
+stand : (c : tie.After-loop2 Inv-loop μ-loop Inv-loop2 μ-loop2 Inv-loop3 μ-loop3) → (let s = c .before .before .before .before .before .before .before .before .before .before .before .args .t1 in StandsFor s (headOf s) (c .before .before .before .loop .w))
 stand c =
-    let s = c .before .before .before .before .before .before .before .before .before .before .before .before .args .t1 in
+    let s = c .before .before .before .before .before .before .before .before .before .before .before .args .t1 in
     let l = c .before .loop2 in
     let m = c .before .before .before .loop in
     let all = looked-all s (l .i) (m .least) (m .w) (l .inv .0) (c .loop2-test .left) (omega (arith, bounds (c .before .before .before .before) .1)) in
@@ -88,19 +92,17 @@ stand c =
 in-places : (c : tie.In-loop3 Inv-loop μ-loop Inv-loop2 μ-loop2 Inv-loop3 μ-loop3) → c .before .loop3 .j < 101
 in-places c = omega (arith, c .loop3-test .taken, c .before .before .greater .ensures, bounds (c .before .before .before .before .before .before .before .before .before .before .before .before .before .before .before .before .before .before .before) .1, c .before .before .before .before .before .before .before .before .before .before .before .call-words .ensures .holds .few)
 
+head-refusal-requires :
+    tie.Need-head-refusal-requires Inv-loop μ-loop Inv-loop2 μ-loop2 Inv-loop3 μ-loop3
+head-refusal-requires c κs = search needs
+
 returns : tie.Need-returns Inv-loop μ-loop Inv-loop2 μ-loop2 Inv-loop3 μ-loop3
 returns c =
-    let a = c .before .before .before .before .before .args in
-    refuses (a .t1) (a .tree .now) (a .ticket .now) (a .tape .now) (a .trace .now) refl (refused-1 (a .t1) (a .tree .now) (a .ticket .now) (a .tape .now) (a .trace .now) (λ e. omega (arith, e, c .if1 .taken)))
-
-head-fits-requires :
-    tie.Need-head-fits-requires Inv-loop μ-loop Inv-loop2 μ-loop2 Inv-loop3 μ-loop3
-head-fits-requires c κs = search needs
-
-returns-2 : tie.Need-returns-2 Inv-loop μ-loop Inv-loop2 μ-loop2 Inv-loop3 μ-loop3
-returns-2 c =
-    let a = c .before .before .before .before .before .before .before .before .args in
-    refuses (a .t1) (a .tree .now) (a .ticket .now) (a .tape .now) (a .trace .now) refl (refused-2 (a .t1) (a .tree .now) (a .ticket .now) (a .tape .now) (a .trace .now) (omega (arith, c .before .before .before .if1 .left)) (unfit-head (a .t1) (sym (c .before .head-fits .ensures) ∙ not-true (c .before .head-fits .result) (c .if2 .taken))))
+    let a = c .before .before .before .before .before .before .before .args in
+    let h = c .before .head-refusal in
+    refuses (a .t1) (a .tree .now) (a .ticket .now) (a .tape .now) (a .trace .now)
+    (ap (λ (n : ℕ). record { state = a .t1; reply = Refused n; leaves = 0 }) (h .ensures))
+    (head-refused (a .t1) (a .tree .now) (a .ticket .now) (a .tape .now) (a .trace .now) (λ e. omega (arith, e, h .ensures, c .if1 .taken)))
 
 cast-size : tie.Need-cast-size Inv-loop μ-loop Inv-loop2 μ-loop2 Inv-loop3 μ-loop3
 cast-size c = search needs
@@ -109,7 +111,7 @@ cast-n : tie.Need-cast-n Inv-loop μ-loop Inv-loop2 μ-loop2 Inv-loop3 μ-loop3
 cast-n c = search needs
 
 loop-holds : tie.Need-loop-holds Inv-loop μ-loop Inv-loop2 μ-loop2 Inv-loop3 μ-loop3
-loop-holds c = (looked-none (c .before .before .before .before .before .before .before .before .args .t1) _ refl, omega arith)
+loop-holds c = (looked-none (c .before .before .before .before .before .before .before .args .t1) _ refl, omega arith)
 
 mul-p : tie.Need-mul-p Inv-loop μ-loop Inv-loop2 μ-loop2 Inv-loop3 μ-loop3
 mul-p c = search needs
@@ -122,11 +124,11 @@ used-fits-requires :
     tie.Need-used-fits-requires Inv-loop μ-loop Inv-loop2 μ-loop2 Inv-loop3 μ-loop3
 used-fits-requires c κs = bounds (c .before .before .before) .0
 
-returns-3 : tie.Need-returns-3 Inv-loop μ-loop Inv-loop2 μ-loop2 Inv-loop3 μ-loop3
-returns-3 c =
+returns-2 : tie.Need-returns-2 Inv-loop μ-loop Inv-loop2 μ-loop2 Inv-loop3 μ-loop3
+returns-2 c =
     let l = c .before .before .before .before .loop in
     let u = c .before .used-fits in
-    unfit (c .before .before .before .before .before) (used-unfit (c .before .before .before .before .before .before .before .before .before .before .before .before .before .args .t1) (l .i) (l .least) (l .w) (l .inv .0) (c .before .before .before .loop-test .taken) (sym (u .ensures) ∙ not-true (u .result) (c .if3 .taken)))
+    unfit (c .before .before .before .before .before) (used-unfit (c .before .before .before .before .before .before .before .before .before .before .before .before .args .t1) (l .i) (l .least) (l .w) (l .inv .0) (c .before .before .before .loop-test .taken) (sym (u .ensures) ∙ not-true (u .result) (c .if2 .taken)))
 
 words-of-requires : tie.Need-words-of-requires Inv-loop μ-loop Inv-loop2 μ-loop2 Inv-loop3 μ-loop3
 words-of-requires c κs = search needs
@@ -152,8 +154,8 @@ loop-again c =
     let u = c .before .before .before .before .before .before .used-fits in
     let n = c .before .before .words-of .ensures in
     let p = c .before .put in (
-      used-more (c .before .before .before .before .before .before .before .before .before .before .before .before .before .before .before .before .before .before .args .t1) (l .i) (l .least) (l .w) (l .inv .0) (p .last .0) (c .before .before .before .before .before .before .before .before .loop-test .taken) (omega (arith, bounds (c .before .before .before .before .before .before .before .before .before .before) .1))
-          (sym (u .ensures) ∙ not-false (u .result) (c .before .before .before .before .before .if3 .left)) (n .0) (p .ensures .0 ∙ ap (set (slotsOf (l .w)) (l .i)) (n .1)) (p .ensures .1),
+      used-more (c .before .before .before .before .before .before .before .before .before .before .before .before .before .before .before .before .before .args .t1) (l .i) (l .least) (l .w) (l .inv .0) (p .last .0) (c .before .before .before .before .before .before .before .before .loop-test .taken) (omega (arith, bounds (c .before .before .before .before .before .before .before .before .before .before) .1))
+          (sym (u .ensures) ∙ not-false (u .result) (c .before .before .before .before .before .if2 .left)) (n .0) (p .ensures .0 ∙ ap (set (slotsOf (l .w)) (l .i)) (n .1)) (p .ensures .1),
       omega (arith, bounds (c .before .before .before .before .before .before .before .before .before .before) .1),
     )
 
@@ -171,12 +173,12 @@ zero-place-requires :
     tie.Need-zero-place-requires Inv-loop μ-loop Inv-loop2 μ-loop2 Inv-loop3 μ-loop3
 zero-place-requires c κs = search needs
 
-returns-4 : tie.Need-returns-4 Inv-loop μ-loop Inv-loop2 μ-loop2 Inv-loop3 μ-loop3
-returns-4 c =
+returns-3 : tie.Need-returns-3 Inv-loop μ-loop Inv-loop2 μ-loop2 Inv-loop3 μ-loop3
+returns-3 c =
     let l = c .before .before .before .before .loop2 in
     let m = c .before .before .before .before .before .before .loop in
     let z = c .before .zero-place in
-    unfit (c .before .before .before .before .before .before .before) (unused-unfit (c .before .before .before .before .before .before .before .before .before .before .before .before .before .before .before .args .t1) (l .i) (m .least) (m .w) (l .inv .0) (l .inv .1) (omega (arith, c .before .before .before .loop2-test .taken)) (sym (z .ensures) ∙ not-true (z .result) (c .if4 .taken)))
+    unfit (c .before .before .before .before .before .before .before) (unused-unfit (c .before .before .before .before .before .before .before .before .before .before .before .before .before .before .args .t1) (l .i) (m .least) (m .w) (l .inv .0) (l .inv .1) (omega (arith, c .before .before .before .loop2-test .taken)) (sym (z .ensures) ∙ not-true (z .result) (c .if3 .taken)))
 
 add-i-2 : tie.Need-add-i-2 Inv-loop μ-loop Inv-loop2 μ-loop2 Inv-loop3 μ-loop3
 add-i-2 c = search needs
@@ -189,7 +191,7 @@ loop2-again c =
     let l = c .before .before .before .before .loop2 in
     let m = c .before .before .before .before .before .before .loop in
     let z = c .before .zero-place in
-    (unused-more (c .before .before .before .before .before .before .before .before .before .before .before .before .before .before .before .args .t1) (l .i) (m .least) (m .w) (l .inv .0) (l .inv .1) (omega (arith, c .before .before .before .loop2-test .taken)) (sym (z .ensures) ∙ not-false (z .result) (c .if4 .left)), omega arith)
+    (unused-more (c .before .before .before .before .before .before .before .before .before .before .before .before .before .before .args .t1) (l .i) (m .least) (m .w) (l .inv .0) (l .inv .1) (omega (arith, c .before .before .before .loop2-test .taken)) (sym (z .ensures) ∙ not-false (z .result) (c .if3 .left)), omega arith)
 
 call-words-requires :
     tie.Need-call-words-requires Inv-loop μ-loop Inv-loop2 μ-loop2 Inv-loop3 μ-loop3
@@ -201,11 +203,11 @@ same-length c = search needs
 same-length-2 : tie.Need-same-length-2 Inv-loop μ-loop Inv-loop2 μ-loop2 Inv-loop3 μ-loop3
 same-length-2 c = search needs
 
-returns-5 : tie.Need-returns-5 Inv-loop μ-loop Inv-loop2 μ-loop2 Inv-loop3 μ-loop3
-returns-5 c =
-    let a = c .before .before .before .before .before .before .before .before .before .before .before .before .before .before .before .before .before .before .before .before .before .before .args in
+returns-4 : tie.Need-returns-4 Inv-loop μ-loop Inv-loop2 μ-loop2 Inv-loop3 μ-loop3
+returns-4 c =
+    let a = c .before .before .before .before .before .before .before .before .before .before .before .before .before .before .before .before .before .before .before .before .before .args in
     let r = c .before .before .before .before .before .before .call-words in
-    kept (a .t1) (a .tree .now) (a .ticket .now) (a .tape .now) (a .trace .now) (stand (c .before .before .before .before .before .before .before .before .before .before)) (r .result) (r .ensures) (not-true (r .result .ran) (c .if5 .taken))
+    kept (a .t1) (a .tree .now) (a .ticket .now) (a .tape .now) (a .trace .now) (stand (c .before .before .before .before .before .before .before .before .before .before)) (r .result) (r .ensures) (not-true (r .result .ran) (c .if4 .taken))
 
 no-place-requires : tie.Need-no-place-requires Inv-loop μ-loop Inv-loop2 μ-loop2 Inv-loop3 μ-loop3
 no-place-requires c κs = search needs
@@ -222,8 +224,8 @@ get-requires c κs = (c .before .before .before .before .before .before .before 
 node-of-requires : tie.Need-node-of-requires Inv-loop μ-loop Inv-loop2 μ-loop2 Inv-loop3 μ-loop3
 node-of-requires c κs = search needs
 
-mul-t67 : tie.Need-mul-t67 Inv-loop μ-loop Inv-loop2 μ-loop2 Inv-loop3 μ-loop3
-mul-t67 c = omega (arith, in-places (c .before .before .before .before))
+mul-t66 : tie.Need-mul-t66 Inv-loop μ-loop Inv-loop2 μ-loop2 Inv-loop3 μ-loop3
+mul-t66 c = omega (arith, in-places (c .before .before .before .before))
 
 element-set-from-left :
     tie.Need-element-set-from-left Inv-loop μ-loop Inv-loop2 μ-loop2 Inv-loop3 μ-loop3
@@ -246,13 +248,13 @@ loop3-again : tie.Need-loop3-again Inv-loop μ-loop Inv-loop2 μ-loop2 Inv-loop3
 loop3-again c =
     let r = c .before .before .before .before .before .before .before .before .before .before .before .before .call-words in
     let st = stand (c .before .before .before .before .before .before .before .before .before .before .before .before .before .before .before .before) in
-    let s = c .before .before .before .before .before .before .before .before .before .before .before .before .before .before .before .before .before .before .before .before .before .before .before .before .before .before .before .before .args .t1 in
+    let s = c .before .before .before .before .before .before .before .before .before .before .before .before .before .before .before .before .before .before .before .before .before .before .before .before .before .before .before .args .t1 in
     let l = c .before .before .loop3 in (
       omega arith,
       ⊎-elim
-          (λ w. w .4 ∙ saved-node (r .result .waiting) _ (r .ensures .holds) s (st .fit) (sized (c .before .before .before .before .before .before .before .before .before .before .before .before .before .before .before .before .before .before .before .before .before .before .before .before .before .before .before .before)) (l .j) (l .left) (w .2 .result) (w .3 .result) (w .0 .taken) (l .inv .1) (w .2 .ensures) (w .3 .ensures))
-          (λ w. w .1 ∙ saved-none (r .result .waiting) _ (r .ensures .holds) s (st .fit) (sized (c .before .before .before .before .before .before .before .before .before .before .before .before .before .before .before .before .before .before .before .before .before .before .before .before .before .before .before .before)) (l .j) (l .left) (c .before .before .before .before .no-place .result) (w .0 .left) (omega (arith, bounds (c .before .before .before .before .before .before .before .before .before .before .before .before .before .before .before .before .before .before .before .before) .1, r .ensures .holds .few)) (l .inv .1) (c .before .before .before .before .no-place .ensures))
-          (c .if6 .came),
+          (λ w. w .4 ∙ saved-node (r .result .waiting) _ (r .ensures .holds) s (st .fit) (sized (c .before .before .before .before .before .before .before .before .before .before .before .before .before .before .before .before .before .before .before .before .before .before .before .before .before .before .before)) (l .j) (l .left) (w .2 .result) (w .3 .result) (w .0 .taken) (l .inv .1) (w .2 .ensures) (w .3 .ensures))
+          (λ w. w .1 ∙ saved-none (r .result .waiting) _ (r .ensures .holds) s (st .fit) (sized (c .before .before .before .before .before .before .before .before .before .before .before .before .before .before .before .before .before .before .before .before .before .before .before .before .before .before .before)) (l .j) (l .left) (c .before .before .before .before .no-place .result) (w .0 .left) (omega (arith, bounds (c .before .before .before .before .before .before .before .before .before .before .before .before .before .before .before .before .before .before .before .before) .1, r .ensures .holds .few)) (l .inv .1) (c .before .before .before .before .no-place .ensures))
+          (c .if5 .came),
     )
 
 cast-left : tie.Need-cast-left Inv-loop μ-loop Inv-loop2 μ-loop2 Inv-loop3 μ-loop3
@@ -264,14 +266,14 @@ same-length-3 c = search needs
 same-length-4 : tie.Need-same-length-4 Inv-loop μ-loop Inv-loop2 μ-loop2 Inv-loop3 μ-loop3
 same-length-4 c = search needs
 
-returns-6 : tie.Need-returns-6 Inv-loop μ-loop Inv-loop2 μ-loop2 Inv-loop3 μ-loop3
-returns-6 c =
-    let a = c .before .before .before .before .before .before .before .before .before .before .before .before .before .before .before .before .before .before .before .before .before .before .before .before .before .before .before .args in
+returns-5 : tie.Need-returns-5 Inv-loop μ-loop Inv-loop2 μ-loop2 Inv-loop3 μ-loop3
+returns-5 c =
+    let a = c .before .before .before .before .before .before .before .before .before .before .before .before .before .before .before .before .before .before .before .before .before .before .before .before .before .before .args in
     let r = c .before .before .before .before .before .before .before .before .before .before .before .call-words in
     let st = stand (c .before .before .before .before .before .before .before .before .before .before .before .before .before .before .before) in
     let l = c .before .loop3 in
-    changed (a .t1) (a .tree .now) (a .ticket .now) (a .tape .now) (a .trace .now) st (r .result) (r .ensures) (not-false (r .result .ran) (c .before .before .before .before .before .if5 .left))
-    (saved-all (r .result .waiting) _ (r .ensures .holds) (a .t1) (st .fit) (sized (c .before .before .before .before .before .before .before .before .before .before .before .before .before .before .before .before .before .before .before .before .before .before .before .before .before .before .before)) (l .j) (l .left) (r .result .mark) (r .result .entries) (r .result .root) (l .inv .1)
+    changed (a .t1) (a .tree .now) (a .ticket .now) (a .tape .now) (a .trace .now) st (r .result) (r .ensures) (not-false (r .result .ran) (c .before .before .before .before .before .if4 .left))
+    (saved-all (r .result .waiting) _ (r .ensures .holds) (a .t1) (st .fit) (sized (c .before .before .before .before .before .before .before .before .before .before .before .before .before .before .before .before .before .before .before .before .before .before .before .before .before .before)) (l .j) (l .left) (r .result .mark) (r .result .entries) (r .result .root) (l .inv .1)
     (omega arith) (omega (arith, c .before .before .greater .ensures)) (omega (arith, bounds (c .before .before .before .before .before .before .before .before .before .before .before .before .before .before .before .before .before .before .before) .1, r .ensures .holds .few)))
 
 pub call-spec : {M : Type 1} → statement M
@@ -284,16 +286,15 @@ call-spec =
     μ-loop2
     Inv-loop3
     μ-loop3
+    head-refusal-requires
     returns
-    head-fits-requires
-    returns-2
     cast-size
     cast-n
     loop-holds
     mul-p
     element-copy-out-p
     used-fits-requires
-    returns-3
+    returns-2
     words-of-requires
     put-requires
     cast-least
@@ -305,20 +306,20 @@ call-spec =
     mul-q
     element-copy-out-q
     zero-place-requires
-    returns-4
+    returns-3
     add-i-2
     loop2-less
     loop2-again
     call-words-requires
     same-length
     same-length-2
-    returns-5
+    returns-4
     no-place-requires
     greater-requires
     loop3-holds
     get-requires
     node-of-requires
-    mul-t67
+    mul-t66
     element-set-from-left
     mul-none
     element-set-from-none
@@ -328,4 +329,4 @@ call-spec =
     cast-left
     same-length-3
     same-length-4
-    returns-6)
+    returns-5)

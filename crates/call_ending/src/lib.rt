@@ -7,7 +7,7 @@ use replies::reply_after;
 use slot_spec::Link;
 use stash::join::join_nodes;
 use stash_words::WORDS;
-use structures::operation::step;
+use structures::step;
 use tag_moves::move_tags;
 use want_rounds::Fetched;
 use want_rounds::Job;

@@ -1,5 +1,6 @@
 // One round of a call over the lent tree and the waiting nodes: one that wants none, and one that wants a node.
 use eviction::settle;
+use fetch_tests::passes;
 use operation_spec::Want;
 use path_reader::PATH_SLOTS;
 use path_reader::Wish;
@@ -9,7 +10,6 @@ use slot_spec::Node;
 use slots::key_of;
 use stash_words::WORDS;
 use stash_words::get;
-use structures::fetch_test::passes;
 ghost use mathlib.Core.Path.{_≡_};
 ghost use Prim.Native.Nat.{_+_, _<_};
 ghost use Rattle.list_spec.specs.Ascending.{ascending};

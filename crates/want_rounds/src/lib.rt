@@ -9,7 +9,7 @@ use operation_spec::Op;
 use operation_spec::Wanted;
 use slot_spec::Link;
 use stash_words::WORDS;
-use structures::operation::wanted;
+use structures::wanted;
 ghost use mathlib.Core.Path.{_≡_};
 ghost use Rattle.bucket_call_spec.specs.Call.{drawOf};
 ghost use Rattle.node_rows.specs.Held.{heldIn};

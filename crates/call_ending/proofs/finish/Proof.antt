@@ -10,7 +10,7 @@ use Rattle.call_ending.proofs.finish.Lts as lts
 use Rattle.replies.proofs.reply_after.Reads as reply-after-reads
 use Rattle.put_rounds.proofs.put_rounds.Reads as put-rounds-reads
 use Rattle.stash.proofs.join.join_nodes.Reads as join-nodes-reads
-use Rattle.structures.proofs.operation.step.Reads as step-reads
+use Rattle.structures.proofs.step.Reads as step-reads
 
 step-requires : tie.Need-step-requires
 step-requires c κs =

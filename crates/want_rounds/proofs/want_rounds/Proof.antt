@@ -32,7 +32,7 @@ use Rattle.idle_rounds.proofs.idle.draw_at.Reads as draw-at-reads
 use Rattle.node_rows.proofs.set_node.Reads as set-node-reads
 use Rattle.node_rows.proofs.word_of.Reads as word-of-reads
 use Rattle.want_rounds.proofs.came_to.Reads as came-to-reads
-use Rattle.structures.proofs.operation.wanted.Reads as wanted-reads
+use Rattle.structures.proofs.wanted.Reads as wanted-reads
 
 abbrev Inv-loop : tie.InvT-loop
 Inv-loop job w₀ n s₀ tree₀ held₀ froms₀ made₀ keys₀ tape trace₀ op root count₀ waiting₀ w s tree held froms made keys trace count waiting =

@@ -3,10 +3,10 @@ use Rattle.leaf_spec.specs.Convert.{toLink}
 use Rattle.node_rows.specs.Held.{heldIn, nodesOf}
 use Rattle.structures.specs.OperationLaws.{walks-of, program-get, program-put, program-remove, program-push, program-pop, outcome-by, outcome-up}
 use borrow.Author.Needs.{needs}
-use Rattle.structures.proofs.operation.step.Statement.{statement}
-use Rattle.structures.proofs.operation.step.Tie as tie
-use Rattle.structures.proofs.operation.step.Reads as reads
-use Rattle.structures.proofs.operation.step.Lts as lts
+use Rattle.structures.proofs.step.Statement.{statement}
+use Rattle.structures.proofs.step.Tie as tie
+use Rattle.structures.proofs.step.Reads as reads
+use Rattle.structures.proofs.step.Lts as lts
 use Rattle.map_steps.proofs.map_step.Reads as map-step-reads
 use Rattle.map_operations.proofs.get.Reads as get-reads
 use Rattle.map_operations.proofs.put.Reads as put-reads

@@ -1,9 +1,9 @@
--- `structures::fetch_test::passes` meets its contract: it is the test of the structure that the number says.
+-- `fetch_tests::passes` meets its contract: it is the test of the structure that the number says.
 use borrow.Author.Needs.{needs}
 use borrow.Author.Tests.{eq-eqb, ne-eqb}
 use Rattle.method_spec.specs.Call.{test}
-use Rattle.structures.proofs.fetch_test.passes.Statement.{statement}
-use Rattle.structures.proofs.fetch_test.passes.Tie as tie
+use Rattle.fetch_tests.proofs.passes.Statement.{statement}
+use Rattle.fetch_tests.proofs.passes.Tie as tie
 
 map-test-requires : tie.Need-map-test-requires
 map-test-requires c κs = search needs

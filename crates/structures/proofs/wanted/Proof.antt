@@ -3,10 +3,10 @@ use Rattle.leaf_spec.specs.Convert.{toLink}
 use Rattle.node_rows.specs.Held.{heldIn}
 use Rattle.structures.specs.OperationLaws.{walks-of, program-get, program-put, program-remove, program-push, program-pop, push-wants-none, wanted-by, wanted-up}
 use borrow.Author.Needs.{needs}
-use Rattle.structures.proofs.operation.wanted.Statement.{statement}
-use Rattle.structures.proofs.operation.wanted.Tie as tie
-use Rattle.structures.proofs.operation.wanted.Reads as reads
-use Rattle.structures.proofs.operation.wanted.Lts as lts
+use Rattle.structures.proofs.wanted.Statement.{statement}
+use Rattle.structures.proofs.wanted.Tie as tie
+use Rattle.structures.proofs.wanted.Reads as reads
+use Rattle.structures.proofs.wanted.Lts as lts
 use Rattle.map_steps.proofs.map_wanted.Reads as map-wanted-reads
 use Rattle.map_operations.proofs.get.Reads as get-reads
 use Rattle.map_operations.proofs.put.Reads as put-reads

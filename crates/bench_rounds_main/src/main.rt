@@ -3,8 +3,8 @@
 // bench/rounds.c does the same in C.
 use libc::STDOUT_FILENO;
 use path_reader::Wish;
+use slot_fields::no_link;
 use slot_spec::Node;
-use slots::no_link;
 use stash_words::SLOT_WORDS;
 use stash_words::WORDS;
 use test_rounds::Closed;

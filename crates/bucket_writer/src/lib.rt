@@ -1,4 +1,5 @@
 // Slots and buckets in the lent tree.
+use slot_fields::slot_of;
 use slot_spec::Node;
 use slot_spec::Reading;
 use slot_spec::SLOT_LENGTH;
@@ -6,7 +7,6 @@ use slot_spec::Slot;
 use slot_words::load;
 use slot_words::store;
 use slots::reading;
-use slots::slot_of;
 ghost use mathlib.Core.Path.{_≡_};
 ghost use mathlib.Core.List.{map};
 ghost use Prim.Native.Nat.{_+_, _*_, _≤_, _<_};

@@ -4,17 +4,12 @@ use call_core::call_words;
 use call_spec::Called;
 use call_spec::Reply;
 use fitness::head_refusal;
-use fitness::zero_place;
-use opening::no_place;
-use slots::node_of;
 use stash::places::greater;
-use stash::places::used_fits;
-use stash::words_of;
+use stash::places::load_place;
+use stash::places::saved_place;
 use stash_words::WORDS;
-use stash_words::get;
-use stash_words::put;
+use state_places::zero_place;
 use state_spec::PLACES;
-use state_spec::Place;
 use state_spec::State;
 ghost use mathlib.Core.Path.{_≡_};
 ghost use Rattle.call_spec.specs.Store.{called};
@@ -50,16 +45,14 @@ pub fn call(state: State, tree: &mut [u8], ticket: &[u8], tape: &[u16], trace: &
     let mut i = 0;
     while i < n {
         let p = state.places[i];
-        if !used_fits(p, size, least) {
+        if !load_place(&mut w, i, p, size, least) {
             return Called {
                 state,
                 reply: Reply::Refused(2),
                 leaves: 0,
             };
         }
-        let node = p.node;
-        put(&mut w, i, words_of(node));
-        least = node.key as u64 + 1;
+        least = p.node.key as u64 + 1;
         i += 1;
     }
     while i < PLACES {
@@ -92,17 +85,11 @@ pub fn call(state: State, tree: &mut [u8], ticket: &[u8], tape: &[u16], trace: &
     // The state that is left. Past the nodes that wait now and those that waited before, its places are unused already.
     let after = r.root;
     let m = r.waiting;
-    let none = no_place();
     let end = greater(m, n);
     let mut left = state;
     let mut j = 0;
     while j < end {
-        if j < m {
-            let node = node_of(get(&w, j));
-            left.places[j] = Place { full: true, node };
-        } else {
-            left.places[j] = none;
-        }
+        left.places[j] = saved_place(&w, m, j);
         j += 1;
     }
     left.mark = r.mark;

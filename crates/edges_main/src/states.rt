@@ -3,9 +3,9 @@ use super::rows::byte;
 use super::rows::key;
 use super::rows::number;
 use super::rows::short;
-use opening::no_place;
 use slot_spec::Link;
 use slot_spec::Node;
+use state_places::no_place;
 use state_spec::Place;
 use state_spec::State;
 

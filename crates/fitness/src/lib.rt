@@ -1,14 +1,12 @@
 // Whether a state fits: each cause of document 01's list.
 use heights::shape_exists;
 use slot_spec::Link;
-use slots::well_formed;
-use state_spec::Place;
 use tree_paths::leaves;
 ghost use mathlib.Core.Path.{_≡_};
 ghost use mathlib.Core.Bool.{_&&_};
 ghost use Prim.Native.Nat.{_≤_, _^_};
 ghost use lib.Dec.{ltb};
-ghost use Rattle.state_spec.specs.Fit.{zeroLink, zeroPlace, placeGood, rootGood, inRange};
+ghost use Rattle.state_spec.specs.Fit.{zeroLink, rootGood, inRange};
 ghost use Rattle.state_spec.specs.Head.{headFits};
 ghost use Rattle.fitness.specs.Refusal.{headRefusal};
 
@@ -35,30 +33,6 @@ fn zero_link(l: Link) -> bool
     ensures { λ r. ⌜ r ≡ zeroLink l ⌝ }
 {
     l.height as u64 | l.key as u64 | l.tag as u64 == 0
-}
-
-// A place that is all zero: one test of its numbers together.
-pub fn zero_place(p: Place) -> bool
-    ensures { λ r. ⌜ r ≡ zeroPlace p ⌝ }
-{
-    if p.full {
-        return false;
-    }
-    let own = p.node.key as u64 | p.node.value | p.node.tag as u64;
-    let left = p.node.left.height as u64 | p.node.left.key as u64 | p.node.left.tag as u64;
-    let right = p.node.right.height as u64 | p.node.right.key as u64 | p.node.right.tag as u64;
-    own | left | right == 0
-}
-
-pub fn place_good(size: usize, p: Place) -> bool
-    requires { ⌜ size ≤ 16 ⌝ }
-    ensures { λ r. ⌜ r ≡ placeGood size p ⌝ }
-{
-    let n = p.node;
-    if !p.full {
-        return false;
-    }
-    well_formed(size, n)
 }
 
 fn root_good(structure: u8, entries: u16, root: Link) -> bool

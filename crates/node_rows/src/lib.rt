@@ -1,10 +1,10 @@
 // For the length of a call the nodes that it has fetched, and those that its step makes, stand in rows of lent words, a slot's
 // words to a node; a second row says where the link to each fetched node stood.
 use operation_spec::From;
+use slot_fields::node_of;
+use slot_fields::slot_of;
 use slot_spec::Node;
 use slot_spec::Slot;
-use slots::node_of;
-use slots::slot_of;
 ghost use mathlib.Core.Path.{_≡_};
 ghost use Prim.Native.Nat.{_<_};
 ghost use lib.ListN.{length, getD, set};

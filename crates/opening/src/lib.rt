@@ -3,27 +3,17 @@ use bucket_writer::write_bucket;
 use fitness::LARGEST_SIZE;
 use fitness::LARGEST_STRUCTURE;
 use fitness::in_range;
+use slot_fields::no_link;
 use slot_spec::BUCKET_LENGTH;
 use slot_spec::Slot;
-use slots::no_link;
-use slots::no_node;
-use state_spec::Place;
+use state_places::no_place;
 use state_spec::State;
 use tree_paths::tree_length;
 ghost use mathlib.Core.Path.{_≡_};
 ghost use Prim.Native.Nat.{_<_, _%_, _^_};
 ghost use lib.ListN.{length, replicate};
 ghost use Rattle.slot_spec.specs.Tree.{bucketLength};
-ghost use Rattle.state_spec.specs.Fit.{noPlace};
 ghost use Rattle.state_spec.specs.Opening.{empty, opened};
-
-// A place that holds no node.
-pub fn no_place() -> Place
-    ensures { λ r. ⌜ r ≡ noPlace ⌝ }
-{
-    let node = no_node();
-    Place { full: false, node }
-}
 
 // A state with no entries and none waiting.
 fn empty_state(mark: u8, structure: u8, size: u8) -> State

@@ -6,11 +6,11 @@
 use bucket_writer::read_slot;
 use libc::STDOUT_FILENO;
 use path_reader::Wish;
+use slot_fields::no_link;
+use slot_fields::node_of;
 use slot_spec::Node;
 use slot_spec::Reading;
 use slot_spec::SLOT_LENGTH;
-use slots::no_link;
-use slots::node_of;
 use stash_words::WORDS;
 use stash_words::get;
 use test_rounds::Closed;

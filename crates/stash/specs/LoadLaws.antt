@@ -11,12 +11,12 @@ use borrow.Author.Tests.{leb-true, leb-false}
 use Rattle.list_spec.specs.Ascending.{ascending}
 use Rattle.slot_spec.specs.Row.{slotsOf}
 use Rattle.word_round_laws.specs.Words.{wordCount}
-use Rattle.stash_laws.specs.Waiting.{wordsFor, InWidths}
+use Rattle.stash_laws.specs.Waiting.{wordsFor}
 use Rattle.state_spec.specs.declared.Place.{Place}
 use Rattle.state_spec.specs.declared.State.{State}
 use Rattle.state_spec.specs.Fit.{zeroPlace, allOf, placeGood, keysIn, places, noPlace, placesFrom, used, unused, placesFit}
 use Rattle.state_laws.specs.FitLaws.{all-passes, all-fails, all-end, ascendingAt, ascending-start, keys-ascend, keys-fall, keys-end}
-use Rattle.stash.specs.Stash.{Loaded}
+use Rattle.stash.specs.Stash.{Loaded, PlaceLoaded}
 use Rattle.stash.specs.StashLaws.{nodeAt, LoadedTo, loaded-none, loaded-more, loaded-all}
 
 module _ (s : State) where
@@ -56,8 +56,8 @@ module _ (s : State) where
 
   module _ (i least : ℕ) (words : List ℕ) (l : LookedAt i least words) where
     -- A place that does not fit.
-    pub used-unfit : i < s .count → (placeGood (s .size) (at i) && leb least (at i .node .key)) ≡ false → placesFit s ≡ false
-    used-unfit h e = go (placeGood (s .size) (at i)) refl e
+    pub used-unfit : (more : List ℕ) (r : Bool) → i < s .count → PlaceLoaded (s .size) least i (at i) words more r → r ≡ false → placesFit s ≡ false
+    used-unfit more r h p e = go (placeGood (s .size) (at i)) refl (sym (p .fits) ∙ e)
       where
         go : (t : Bool) → placeGood (s .size) (at i) ≡ t → (t && leb least (at i .node .key)) ≡ false → placesFit s ≡ false
         go false g e = rw (sym (l .goods) ∙ all-fails (placeGood (s .size)) (s .count) i (s .places) h g)
@@ -70,18 +70,18 @@ module _ (s : State) where
         rw (sym (rw high at (l .blanks)) ∙ all-fails zeroPlace places i (s .places) k e) (simp and-false)
 
     -- One that does.
-    pub used-more : (more : List ℕ) → i < s .count → s .count ≤ places → (placeGood (s .size) (at i) && leb least (at i .node .key)) ≡ true
-        → InWidths (nodeAt (at i)) → slotsOf more ≡ set (slotsOf words) i (wordsFor (nodeAt (at i))) → length more ≡ wordCount
+    pub used-more : (more : List ℕ) (r : Bool) → i < s .count → s .count ≤ places → PlaceLoaded (s .size) least i (at i) words more r → r ≡ true
         → LookedAt (i + 1) (at i .node .key + 1) more
-    used-more more h few e r put sized =
-        let both = and-eq-true-iff (placeGood (s .size) (at i)) (leb least (at i .node .key)) .0 e in
+    used-more more r h few p e =
+        let both = and-eq-true-iff (placeGood (s .size) (at i)) (leb least (at i .node .key)) .0 (sym (p .fits) ∙ e) in
+        let put : slotsOf more ≡ set (slotsOf words) i (wordsFor (nodeAt (at i))) = rw e at (p .slots) in
         let low : min i (s .count) ≡ i = omega arith in
         let low' : min (i + 1) (s .count) ≡ i + 1 = omega arith in
         let high : max i (s .count) ≡ s .count = omega arith in
         let high' : max (i + 1) (s .count) ≡ s .count = omega arith in
         record {
           within = omega arith;
-          loaded = rw low' (loaded-more i (s .places) words more (rw low at (l .loaded)) (omega arith) r put sized);
+          loaded = rw low' (loaded-more i (s .places) words more (rw low at (l .loaded)) (omega arith) (p .ranged e) put (p .sized));
           goods = sym (all-passes (placeGood (s .size)) (s .count) i (s .places) h (both .0)) ∙ l .goods;
           keys = sym (keys-ascend (s .count) i least (s .places) h (leb-true least (at i .node .key) (both .1))) ∙ l .keys;
           blanks = rw high' (rw high at (l .blanks));

@@ -8,7 +8,7 @@ use native.Mathlib.Omega.{arith}
 use borrow.Author.Tests.{not-true, eqb-true, leb-true}
 use lib.Dec.{eqb, leb}
 use lib.ListN.{length, take, drop, getD, set, replicate, length-map, length-append, length-replicate, length-drop, getD-replicate, take-append-drop, drop-of-length-le, List·getD-append, List·getD-map}
-use lib.Seq.{take-suc, drop-cons, drop-drop, drop-append-add, set-at, append-snoc, getD-append-add, getD-take, length-take-le}
+use lib.Seq.{take-suc, split-at, getD-at, drop-cons, drop-drop, drop-append-add, set-at, append-snoc, getD-append-add, getD-take, length-take-le}
 use Rattle.slot_spec.specs.Slot.{fieldsIn, nodeOf, slotBytes, noLink}
 use Rattle.slot_spec.specs.declared.Slot.{Slot}
 use Rattle.slot_spec.specs.declared.Link.{Link}
@@ -107,6 +107,10 @@ blank-from s i p sized h few =
     ∙ ap (λ (k : ℕ). replicate k noPlace) f
 
 -- ---- the places that are saved
+any-default : {A : Type 0} (l : List A) (i : ℕ) (d e : A) → i < length l → getD l i d ≡ getD l i e
+any-default {A = A} l i d e h =
+    ap (λ (m : List A). getD m i d) (split-at l i e h) ∙ getD-at (take i l) (getD l i e) (drop (suc i) l) d i (length-take-le i l (omega arith))
+
 abbrev holding : Node ℕ → Place
 holding n = record { full = true; node = fromNode n }
 
@@ -138,37 +142,34 @@ module _ (n : ℕ) (words : List ℕ) (h : Holds n words) where
   placed-count = simp (length-append, length-replicate) (omega (arith, many, waiting-length h, h .few))
 
   -- What stands in a place: a node, or from n on nothing.
-  holds-node : (i : ℕ) → i < n → getD (placed nodes) i (holding (nodeIn zeroSlot)) ≡ holding (nodeIn (getD (slotsOf words) i zeroSlot))
-  holds-node i b =
-      List·getD-append (map holding nodes) (replicate (places - length nodes) noPlace) (holding (nodeIn zeroSlot)) i (omega (arith, many))
+  pub holds-node : (i : ℕ) (x : Slot) (m : node.Node) → i < n → x ≡ getD (slotsOf words) i zeroSlot → m ≡ nodeOf (fieldsIn (slotBytes x))
+      → record { full = true; node = m } ≡ getD (placed nodes) i noPlace
+  holds-node i x m b e f =
+      let d = holding (nodeIn zeroSlot) in
+      sym
+      (any-default (placed nodes) i noPlace d (omega (arith, placed-count, h .few))
+      ∙ List·getD-append (map holding nodes) (replicate (places - length nodes) noPlace) d i (omega (arith, many))
       ∙ List·getD-map holding nodes i (nodeIn zeroSlot)
       ∙ ap holding (List·getD-map nodeIn (take n (slotsOf words)) i zeroSlot ∙ ap nodeIn (getD-take n (slotsOf words) i zeroSlot b))
+      ∙ rw (f, e))
 
-  holds-none : (i : ℕ) (d : Place) → n ≤ i → i < places → getD (placed nodes) i d ≡ noPlace
-  holds-none i d a b =
+  pub holds-none : (i : ℕ) → n ≤ i → i < places → noPlace ≡ getD (placed nodes) i noPlace
+  holds-none i a b =
       let e : i ≡ length (map holding nodes) + (i - n) = omega (arith, many) in
-      rw e (getD-append-add (map holding nodes) (replicate (places - length nodes) noPlace) (i - n) d ∙ getD-replicate (places - length nodes) (i - n) noPlace d (omega (arith, waiting-length h)))
+      sym
+      (rw e (getD-append-add (map holding nodes) (replicate (places - length nodes) noPlace) (i - n) noPlace ∙ getD-replicate (places - length nodes) (i - n) noPlace noPlace (omega (arith, waiting-length h))))
 
   module _ (s : State) (fit : fits s ≡ true) (sized : length (s .places) ≡ places) where
     -- One more place is as it is saved.
-    next-place : (i : ℕ) (after : State) (p d : Place) → i < places → after ≡ savedTo i n words s → p ≡ getD (placed nodes) i d
+    pub saved-more : (i : ℕ) (after : State) (p : Place) → i < places → after ≡ savedTo i n words s → p ≡ getD (placed nodes) i noPlace
         → withPlaces after (set (after .places) i p) ≡ savedTo (i + 1) n words s
-    next-place i after p d b e q =
+    saved-more i after p b e q =
         let rest = drop (suc i) (s .places) in
-        rw (e, q, add-one i, drop-cons (s .places) i d (omega arith))
+        rw (e, q, add-one i, drop-cons (s .places) i noPlace (omega arith))
         (ap (withPlaces s)
-        (set-at (take i (placed nodes)) (getD (s .places) i d) rest (getD (placed nodes) i d) i (length-take-le i (placed nodes) (omega (arith, placed-count)))
-        ∙ sym (append-snoc (take i (placed nodes)) (getD (placed nodes) i d) rest)
-        ∙ ap (λ (ps : List Place). ps ++ rest) (sym (take-suc (placed nodes) i d (omega (arith, placed-count))))))
-
-    pub saved-node : (i : ℕ) (after : State) (x : Slot) (m : node.Node) → i < n → after ≡ savedTo i n words s → x ≡ getD (slotsOf words) i zeroSlot
-        → m ≡ nodeOf (fieldsIn (slotBytes x)) → withPlaces after (set (after .places) i (record { full = true; node = m })) ≡ savedTo (i + 1) n words s
-    saved-node i after x m b e q r =
-        next-place i after (record { full = true; node = m }) (holding (nodeIn zeroSlot)) (omega (arith, h .few)) e (rw (r, q) (sym (holds-node i b)))
-
-    pub saved-none : (i : ℕ) (after : State) (p : Place) → n ≤ i → i < places → after ≡ savedTo i n words s → p ≡ noPlace
-        → withPlaces after (set (after .places) i p) ≡ savedTo (i + 1) n words s
-    saved-none i after p a b e q = next-place i after p noPlace b e (q ∙ sym (holds-none i noPlace a b))
+        (set-at (take i (placed nodes)) (getD (s .places) i noPlace) rest (getD (placed nodes) i noPlace) i (length-take-le i (placed nodes) (omega (arith, placed-count)))
+        ∙ sym (append-snoc (take i (placed nodes)) (getD (placed nodes) i noPlace) rest)
+        ∙ ap (λ (ps : List Place). ps ++ rest) (sym (take-suc (placed nodes) i noPlace (omega (arith, placed-count))))))
 
     -- Past the nodes that wait and those that waited, nothing is left to save.
     nothing-left : (i : ℕ) → n ≤ i → s .count ≤ i → i ≤ places → take i (placed nodes) ++ drop i (s .places) ≡ placed nodes

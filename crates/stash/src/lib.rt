@@ -1,8 +1,8 @@
 // For the length of a call the waiting nodes of a state are words in a lent array: loaded at its start, joined by other
 // nodes, saved at its end.
+use slot_fields::slot_of;
 use slot_spec::Node;
 use slot_spec::Slot;
-use slots::slot_of;
 ghost use mathlib.Core.Path.{_≡_};
 ghost use Rattle.leaf_spec.specs.Convert.{toNode};
 ghost use Rattle.stash_laws.specs.Waiting.{wordsFor, InWidths};

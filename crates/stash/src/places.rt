@@ -1,11 +1,22 @@
-// What is asked of a place that is loaded, and how many are saved.
-use fitness::place_good;
+// One place of a state: loaded into the words, and saved from them; and how many are saved.
+use super::words_of;
+use slot_fields::node_of;
+use stash_words::WORDS;
+use stash_words::get;
+use stash_words::put;
+use state_places::no_place;
+use state_places::place_good;
 use state_spec::Place;
 ghost use mathlib.Core.Path.{_≡_};
 ghost use mathlib.Core.Bool.{_&&_};
-ghost use Prim.Native.Nat.{max, _≤_};
+ghost use Prim.Native.Nat.{max, _≤_, _<_};
 ghost use lib.Dec.{leb};
-ghost use Rattle.state_spec.specs.Fit.{placeGood};
+ghost use lib.ListN.{length, getD};
+ghost use Rattle.state_spec.specs.Fit.{placeGood, noPlace};
+ghost use Rattle.call_spec.specs.Store.{placed};
+ghost use Rattle.word_round_laws.specs.Words.{places, wordCount};
+ghost use Rattle.stash_laws.specs.Waiting.{waitingIn, Holds};
+ghost use Rattle.stash.specs.Stash.{PlaceLoaded};
 
 // The greater of two numbers.
 pub fn greater(a: usize, b: usize) -> usize
@@ -15,7 +26,7 @@ pub fn greater(a: usize, b: usize) -> usize
 }
 
 // Whether a used place is good and its key at least `least`, one more than the key before it.
-pub fn used_fits(p: Place, size: usize, least: u64) -> bool
+fn used_fits(p: Place, size: usize, least: u64) -> bool
     requires { ⌜ size ≤ 16 ⌝ }
     ensures { λ r. ⌜ r ≡ (placeGood size p && leb least (p .node .key)) ⌝ }
 {
@@ -23,4 +34,29 @@ pub fn used_fits(p: Place, size: usize, least: u64) -> bool
         return false;
     }
     least <= p.node.key as u64
+}
+
+// A used place is asked whether it fits; if so its node is put into slot i of the words.
+pub fn load_place(w: &mut [u64; WORDS], i: usize, p: Place, size: usize, least: u64) -> bool
+    requires { ⌜ (length (now w) ≡ wordCount) × ((i < places) × (size ≤ 16)) ⌝ }
+    ensures { λ r. ⌜ PlaceLoaded size least i p (now (w .entry)) (now (w .exit)) r ⌝ }
+{
+    if !used_fits(p, size, least) {
+        return false;
+    }
+    let node = p.node;
+    put(w, i, words_of(node));
+    true
+}
+
+// Place i as it is saved, where n nodes wait in the words.
+pub fn saved_place(w: &[u64; WORDS], n: usize, i: usize) -> Place
+    requires { ⌜ Holds n (now w) × (i < places) ⌝ }
+    ensures { λ r. ⌜ r ≡ getD (placed (waitingIn n (now (w .entry)))) i noPlace ⌝ }
+{
+    if n <= i {
+        return no_place();
+    }
+    let node = node_of(get(w, i));
+    Place { full: true, node }
 }

@@ -1,6 +1,6 @@
 // The waiting slots in a lent array of words: places read and written, and the first m of them as an ascending list.
+use slot_fields::key_of;
 use slot_spec::Slot;
-use slots::key_of;
 ghost use mathlib.Core.Path.{_≡_};
 ghost use mathlib.Core.Bool.{true};
 ghost use mathlib.Core.List.{_++_};

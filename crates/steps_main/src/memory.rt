@@ -2,9 +2,9 @@
 use node_rows::ROW;
 use node_rows::node_at;
 use operation_spec::Outcome;
+use slot_fields::no_node;
 use slot_spec::Link;
 use slot_spec::Node;
-use slots::no_node;
 ghost use mathlib.Core.Path.{_≡_};
 ghost use Prim.Native.Nat.{_≤_, _<_};
 ghost use lib.ListN.{length};

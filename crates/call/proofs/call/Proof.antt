@@ -1,13 +1,11 @@
 -- `call` meets its contract. Two loops look at the places and load them, the third saves them.
 use mathlib.Core.Path.{_≡_, refl, sym, _∙_, ap}
 use mathlib.Core.Bool.{true, false}
-use mathlib.Core.Logic.{⊎-elim}
 use Prim.Native.Nat.{ℕ, _-_, _≤_, _<_}
-use lib.ListN.{length, set, length-map}
+use lib.ListN.{length, length-map}
 use borrow.Author.Tests.{not-true, not-false}
 use borrow.Author.Needs.{needs}
 use native.Mathlib.Omega.{arith}
-use Rattle.slot_spec.specs.Row.{slotsOf}
 use Rattle.state_spec.specs.Fit.{placesFit}
 use Rattle.state_spec.specs.Head.{headFits}
 use Rattle.call_spec.specs.declared.Reply.the-variants.{Refused}
@@ -15,7 +13,7 @@ use Rattle.call_spec.specs.Store.{called}
 use Rattle.call.specs.Run.{endedAs}
 use Rattle.state_laws.specs.FitLaws.{head-true}
 use Rattle.stash.specs.LoadLaws.{LookedAt, looked-none, used-unfit, unused-unfit, used-more, unused-more, looked-all}
-use Rattle.stash.specs.SaveLaws.{savedTo, saved-node, saved-none, saved-all}
+use Rattle.stash.specs.SaveLaws.{savedTo, saved-more, saved-all}
 use Rattle.call_core.specs.Run.{headOf, StandsFor}
 use Rattle.call_core.specs.CallLaws.{refused-2}
 use Rattle.call.specs.CallLaws.{head-passed, head-refused, fit-by-places, stands, refuses, kept, changed}
@@ -23,16 +21,12 @@ use Rattle.call.proofs.call.Statement.{statement}
 use Rattle.call.proofs.call.Tie as tie
 use Rattle.call.proofs.call.Reads as reads
 use Rattle.call.proofs.call.Lts as lts
-use Rattle.stash_words.proofs.get.Reads as get-reads
-use Rattle.stash_words.proofs.put.Reads as put-reads
 use Rattle.call_core.proofs.call_words.Reads as call-words-reads
-use Rattle.slots.proofs.node_of.Reads as node-of-reads
 use Rattle.stash.proofs.places.greater.Reads as greater-reads
-use Rattle.stash.proofs.places.used_fits.Reads as used-fits-reads
-use Rattle.stash.proofs.words_of.Reads as words-of-reads
+use Rattle.stash.proofs.places.load_place.Reads as load-place-reads
+use Rattle.stash.proofs.places.saved_place.Reads as saved-place-reads
 use Rattle.fitness.proofs.head_refusal.Reads as head-refusal-reads
-use Rattle.fitness.proofs.zero_place.Reads as zero-place-reads
-use Rattle.opening.proofs.no_place.Reads as no-place-reads
+use Rattle.state_places.proofs.zero_place.Reads as zero-place-reads
 
 abbrev Inv-loop : tie.InvT-loop
 Inv-loop tree ticket tape trace state root number size n w₀ least₀ i₀ w least i = LookedAt state i least w × (i ≤ 64)
@@ -47,10 +41,10 @@ abbrev μ-loop2 : tie.MeasureT-loop2
 μ-loop2 tree ticket tape trace state root number size n w least i₀ i = 101 - i
 
 abbrev Inv-loop3 : tie.InvT-loop3
-Inv-loop3 tree ticket tape trace number size n w least i r reply after m none end left₀ j₀ left j = (j ≤ end) × (left ≡ savedTo j m w left₀)
+Inv-loop3 tree ticket tape trace number size n w least i r reply after m end left₀ j₀ left j = (j ≤ end) × (left ≡ savedTo j m w left₀)
 
 abbrev μ-loop3 : tie.MeasureT-loop3
-μ-loop3 tree ticket tape trace number size n w least i r reply after m none end left₀ j₀ left j = end - j
+μ-loop3 tree ticket tape trace number size n w least i r reply after m end left₀ j₀ left j = end - j
 
 -- Where the head fits: the state has no mark, and few nodes wait.
 passed : (c : tie.Else1 Inv-loop μ-loop Inv-loop2 μ-loop2 Inv-loop3 μ-loop3) → (let s = c .before .before .before .before .before .before .before .args .t1 in ((s .mark ≡ 0) × (headFits (s .structure) (s .size) (s .entries) (s .count) (s .root) ≡ true)))
@@ -90,7 +84,7 @@ stand c =
 
 -- A place that is saved is one of the state's.
 in-places : (c : tie.In-loop3 Inv-loop μ-loop Inv-loop2 μ-loop2 Inv-loop3 μ-loop3) → c .before .loop3 .j < 101
-in-places c = omega (arith, c .loop3-test .taken, c .before .before .greater .ensures, bounds (c .before .before .before .before .before .before .before .before .before .before .before .before .before .before .before .before .before .before .before) .1, c .before .before .before .before .before .before .before .before .before .before .before .call-words .ensures .holds .few)
+in-places c = omega (arith, c .loop3-test .taken, c .before .before .greater .ensures, bounds (c .before .before .before .before .before .before .before .before .before .before .before .before .before .before .before .before .before .before) .1, c .before .before .before .before .before .before .before .before .before .before .call-words .ensures .holds .few)
 
 head-refusal-requires :
     tie.Need-head-refusal-requires Inv-loop μ-loop Inv-loop2 μ-loop2 Inv-loop3 μ-loop3
@@ -120,21 +114,17 @@ element-copy-out-p :
     tie.Need-element-copy-out-p Inv-loop μ-loop Inv-loop2 μ-loop2 Inv-loop3 μ-loop3
 element-copy-out-p c = search needs
 
-used-fits-requires :
-    tie.Need-used-fits-requires Inv-loop μ-loop Inv-loop2 μ-loop2 Inv-loop3 μ-loop3
-used-fits-requires c κs = bounds (c .before .before .before) .0
+load-place-requires :
+    tie.Need-load-place-requires Inv-loop μ-loop Inv-loop2 μ-loop2 Inv-loop3 μ-loop3
+load-place-requires c κs =
+    let l = c .before .before .before .loop in
+    (l .inv .0 .loaded .holds .sized, (omega (arith, l .inv .1), bounds (c .before .before .before .before) .0))
 
 returns-2 : tie.Need-returns-2 Inv-loop μ-loop Inv-loop2 μ-loop2 Inv-loop3 μ-loop3
 returns-2 c =
-    let l = c .before .before .before .before .loop in
-    let u = c .before .used-fits in
-    unfit (c .before .before .before .before .before) (used-unfit (c .before .before .before .before .before .before .before .before .before .before .before .before .args .t1) (l .i) (l .least) (l .w) (l .inv .0) (c .before .before .before .loop-test .taken) (sym (u .ensures) ∙ not-true (u .result) (c .if2 .taken)))
-
-words-of-requires : tie.Need-words-of-requires Inv-loop μ-loop Inv-loop2 μ-loop2 Inv-loop3 μ-loop3
-words-of-requires c κs = search needs
-
-put-requires : tie.Need-put-requires Inv-loop μ-loop Inv-loop2 μ-loop2 Inv-loop3 μ-loop3
-put-requires c κs = search needs
+    let l = c .before .before .before .before .before .loop in
+    let u = c .before .load-place in
+    unfit (c .before .before .before .before .before .before) (used-unfit (c .before .before .before .before .before .before .before .before .before .before .before .before .before .args .t1) (l .i) (l .least) (l .w) (l .inv .0) (u .last .0) (u .result) (c .before .before .before .before .loop-test .taken) (u .ensures) (not-true (u .result) (c .if2 .taken)))
 
 cast-least : tie.Need-cast-least Inv-loop μ-loop Inv-loop2 μ-loop2 Inv-loop3 μ-loop3
 cast-least c = search needs
@@ -150,13 +140,10 @@ loop-less c = search needs
 
 loop-again : tie.Need-loop-again Inv-loop μ-loop Inv-loop2 μ-loop2 Inv-loop3 μ-loop3
 loop-again c =
-    let l = c .before .before .before .before .before .before .before .before .before .loop in
-    let u = c .before .before .before .before .before .before .used-fits in
-    let n = c .before .before .words-of .ensures in
-    let p = c .before .put in (
-      used-more (c .before .before .before .before .before .before .before .before .before .before .before .before .before .before .before .before .before .args .t1) (l .i) (l .least) (l .w) (l .inv .0) (p .last .0) (c .before .before .before .before .before .before .before .before .loop-test .taken) (omega (arith, bounds (c .before .before .before .before .before .before .before .before .before .before) .1))
-          (sym (u .ensures) ∙ not-false (u .result) (c .before .before .before .before .before .if2 .left)) (n .0) (p .ensures .0 ∙ ap (set (slotsOf (l .w)) (l .i)) (n .1)) (p .ensures .1),
-      omega (arith, bounds (c .before .before .before .before .before .before .before .before .before .before) .1),
+    let l = c .before .before .before .before .before .before .loop in
+    let u = c .before .before .load-place in (
+      used-more (c .before .before .before .before .before .before .before .before .before .before .before .before .before .before .args .t1) (l .i) (l .least) (l .w) (l .inv .0) (u .last .0) (u .result) (c .before .before .before .before .before .loop-test .taken) (omega (arith, bounds (c .before .before .before .before .before .before .before) .1)) (u .ensures) (not-false (u .result) (c .before .if2 .left)),
+      omega (arith, bounds (c .before .before .before .before .before .before .before) .1),
     )
 
 loop2-holds : tie.Need-loop2-holds Inv-loop μ-loop Inv-loop2 μ-loop2 Inv-loop3 μ-loop3
@@ -209,34 +196,21 @@ returns-4 c =
     let r = c .before .before .before .before .before .before .call-words in
     kept (a .t1) (a .tree .now) (a .ticket .now) (a .tape .now) (a .trace .now) (stand (c .before .before .before .before .before .before .before .before .before .before)) (r .result) (r .ensures) (not-true (r .result .ran) (c .if4 .taken))
 
-no-place-requires : tie.Need-no-place-requires Inv-loop μ-loop Inv-loop2 μ-loop2 Inv-loop3 μ-loop3
-no-place-requires c κs = search needs
-
 greater-requires : tie.Need-greater-requires Inv-loop μ-loop Inv-loop2 μ-loop2 Inv-loop3 μ-loop3
 greater-requires c κs = search needs
 
 loop3-holds : tie.Need-loop3-holds Inv-loop μ-loop Inv-loop2 μ-loop2 Inv-loop3 μ-loop3
 loop3-holds c = (omega arith, refl)
 
-get-requires : tie.Need-get-requires Inv-loop μ-loop Inv-loop2 μ-loop2 Inv-loop3 μ-loop3
-get-requires c κs = (c .before .before .before .before .before .before .before .before .before .before .before .before .before .call-words .ensures .holds .sized, in-places (c .before .before))
+saved-place-requires : tie.Need-saved-place-requires Inv-loop μ-loop Inv-loop2 μ-loop2 Inv-loop3 μ-loop3
+saved-place-requires c κs = (c .before .before .before .before .before .before .before .before .before .before .before .call-words .ensures .holds, in-places (c .before))
 
-node-of-requires : tie.Need-node-of-requires Inv-loop μ-loop Inv-loop2 μ-loop2 Inv-loop3 μ-loop3
-node-of-requires c κs = search needs
-
-mul-t66 : tie.Need-mul-t66 Inv-loop μ-loop Inv-loop2 μ-loop2 Inv-loop3 μ-loop3
-mul-t66 c = omega (arith, in-places (c .before .before .before .before))
+mul-t60 : tie.Need-mul-t60 Inv-loop μ-loop Inv-loop2 μ-loop2 Inv-loop3 μ-loop3
+mul-t60 c = omega (arith, in-places (c .before .before))
 
 element-set-from-left :
     tie.Need-element-set-from-left Inv-loop μ-loop Inv-loop2 μ-loop2 Inv-loop3 μ-loop3
-element-set-from-left c = in-places (c .before .before .before .before)
-
-mul-none : tie.Need-mul-none Inv-loop μ-loop Inv-loop2 μ-loop2 Inv-loop3 μ-loop3
-mul-none c = omega (arith, in-places (c .before))
-
-element-set-from-none :
-    tie.Need-element-set-from-none Inv-loop μ-loop Inv-loop2 μ-loop2 Inv-loop3 μ-loop3
-element-set-from-none c = in-places (c .before)
+element-set-from-left c = in-places (c .before .before)
 
 add-j : tie.Need-add-j Inv-loop μ-loop Inv-loop2 μ-loop2 Inv-loop3 μ-loop3
 add-j c = search needs
@@ -249,13 +223,9 @@ loop3-again c =
     let r = c .before .before .before .before .before .before .before .before .before .before .before .before .call-words in
     let st = stand (c .before .before .before .before .before .before .before .before .before .before .before .before .before .before .before .before) in
     let s = c .before .before .before .before .before .before .before .before .before .before .before .before .before .before .before .before .before .before .before .before .before .before .before .before .before .before .before .args .t1 in
-    let l = c .before .before .loop3 in (
-      omega arith,
-      ⊎-elim
-          (λ w. w .4 ∙ saved-node (r .result .waiting) _ (r .ensures .holds) s (st .fit) (sized (c .before .before .before .before .before .before .before .before .before .before .before .before .before .before .before .before .before .before .before .before .before .before .before .before .before .before .before)) (l .j) (l .left) (w .2 .result) (w .3 .result) (w .0 .taken) (l .inv .1) (w .2 .ensures) (w .3 .ensures))
-          (λ w. w .1 ∙ saved-none (r .result .waiting) _ (r .ensures .holds) s (st .fit) (sized (c .before .before .before .before .before .before .before .before .before .before .before .before .before .before .before .before .before .before .before .before .before .before .before .before .before .before .before)) (l .j) (l .left) (c .before .before .before .before .no-place .result) (w .0 .left) (omega (arith, bounds (c .before .before .before .before .before .before .before .before .before .before .before .before .before .before .before .before .before .before .before .before) .1, r .ensures .holds .few)) (l .inv .1) (c .before .before .before .before .no-place .ensures))
-          (c .if5 .came),
-    )
+    let l = c .before .before .before .loop3 in
+    let p = c .saved-place in
+    (omega arith, saved-more (r .result .waiting) _ (r .ensures .holds) s (st .fit) (sized (c .before .before .before .before .before .before .before .before .before .before .before .before .before .before .before .before .before .before .before .before .before .before .before .before .before .before .before)) (l .j) (l .left) (p .result) (in-places (c .before .before)) (l .inv .1) (p .ensures))
 
 cast-left : tie.Need-cast-left Inv-loop μ-loop Inv-loop2 μ-loop2 Inv-loop3 μ-loop3
 cast-left c = search needs
@@ -268,13 +238,13 @@ same-length-4 c = search needs
 
 returns-5 : tie.Need-returns-5 Inv-loop μ-loop Inv-loop2 μ-loop2 Inv-loop3 μ-loop3
 returns-5 c =
-    let a = c .before .before .before .before .before .before .before .before .before .before .before .before .before .before .before .before .before .before .before .before .before .before .before .before .before .before .args in
-    let r = c .before .before .before .before .before .before .before .before .before .before .before .call-words in
-    let st = stand (c .before .before .before .before .before .before .before .before .before .before .before .before .before .before .before) in
+    let a = c .before .before .before .before .before .before .before .before .before .before .before .before .before .before .before .before .before .before .before .before .before .before .before .before .before .args in
+    let r = c .before .before .before .before .before .before .before .before .before .before .call-words in
+    let st = stand (c .before .before .before .before .before .before .before .before .before .before .before .before .before .before) in
     let l = c .before .loop3 in
-    changed (a .t1) (a .tree .now) (a .ticket .now) (a .tape .now) (a .trace .now) st (r .result) (r .ensures) (not-false (r .result .ran) (c .before .before .before .before .before .if4 .left))
-    (saved-all (r .result .waiting) _ (r .ensures .holds) (a .t1) (st .fit) (sized (c .before .before .before .before .before .before .before .before .before .before .before .before .before .before .before .before .before .before .before .before .before .before .before .before .before .before)) (l .j) (l .left) (r .result .mark) (r .result .entries) (r .result .root) (l .inv .1)
-    (omega arith) (omega (arith, c .before .before .greater .ensures)) (omega (arith, bounds (c .before .before .before .before .before .before .before .before .before .before .before .before .before .before .before .before .before .before .before) .1, r .ensures .holds .few)))
+    changed (a .t1) (a .tree .now) (a .ticket .now) (a .tape .now) (a .trace .now) st (r .result) (r .ensures) (not-false (r .result .ran) (c .before .before .before .before .if4 .left))
+    (saved-all (r .result .waiting) _ (r .ensures .holds) (a .t1) (st .fit) (sized (c .before .before .before .before .before .before .before .before .before .before .before .before .before .before .before .before .before .before .before .before .before .before .before .before .before)) (l .j) (l .left) (r .result .mark) (r .result .entries) (r .result .root) (l .inv .1)
+    (omega arith) (omega (arith, c .before .before .greater .ensures)) (omega (arith, bounds (c .before .before .before .before .before .before .before .before .before .before .before .before .before .before .before .before .before .before) .1, r .ensures .holds .few)))
 
 pub call-spec : {M : Type 1} → statement M
 call-spec =
@@ -293,10 +263,8 @@ call-spec =
     loop-holds
     mul-p
     element-copy-out-p
-    used-fits-requires
+    load-place-requires
     returns-2
-    words-of-requires
-    put-requires
     cast-least
     add-least
     add-i
@@ -314,15 +282,11 @@ call-spec =
     same-length
     same-length-2
     returns-4
-    no-place-requires
     greater-requires
     loop3-holds
-    get-requires
-    node-of-requires
-    mul-t66
+    saved-place-requires
+    mul-t60
     element-set-from-left
-    mul-none
-    element-set-from-none
     add-j
     loop3-less
     loop3-again

@@ -6,7 +6,7 @@ use Rattle.node_rows.proofs.node_at.Statement.{statement}
 use Rattle.node_rows.proofs.node_at.Tie as tie
 use Rattle.node_rows.proofs.node_at.Reads as reads
 use Rattle.node_rows.proofs.node_at.Lts as lts
-use Rattle.slots.proofs.node_of.Reads as node-of-reads
+use Rattle.slot_fields.proofs.node_of.Reads as node-of-reads
 
 mul-j : tie.Need-mul-j
 mul-j c = search needs

@@ -10,7 +10,7 @@ use Rattle.node_rows.proofs.set_node.Statement.{statement}
 use Rattle.node_rows.proofs.set_node.Tie as tie
 use Rattle.node_rows.proofs.set_node.Reads as reads
 use Rattle.node_rows.proofs.set_node.Lts as lts
-use Rattle.slots.proofs.slot_of.Reads as slot-of-reads
+use Rattle.slot_fields.proofs.slot_of.Reads as slot-of-reads
 
 slot-of-requires : tie.Need-slot-of-requires
 slot-of-requires c κs = search needs

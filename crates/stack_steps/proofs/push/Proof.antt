@@ -9,7 +9,7 @@ use Rattle.stack_steps.proofs.push.Tie as tie
 use Rattle.stack_steps.proofs.push.Reads as reads
 use Rattle.stack_steps.proofs.push.Lts as lts
 use Rattle.node_rows.proofs.set_node.Reads as set-node-reads
-use Rattle.slots.proofs.no_link.Reads as no-link-reads
+use Rattle.slot_fields.proofs.no_link.Reads as no-link-reads
 
 returns : tie.Need-returns
 returns c =

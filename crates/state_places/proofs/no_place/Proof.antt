@@ -1,7 +1,7 @@
 -- `opening::no_place` meets its contract.
 use borrow.Author.Needs.{needs}
-use Rattle.opening.proofs.no_place.Statement.{statement}
-use Rattle.opening.proofs.no_place.Tie as tie
+use Rattle.state_places.proofs.no_place.Statement.{statement}
+use Rattle.state_places.proofs.no_place.Tie as tie
 
 no-node-requires : tie.Need-no-node-requires
 no-node-requires c κs = search needs

@@ -4,8 +4,8 @@ use Rattle.slot_laws.specs.Ranges.{slot-ranges}
 use Rattle.slot_spec.specs.Slot.{Fields}
 use Rattle.slot_laws.specs.SlotLaws.{fields-in-words, fieldsOfWords}
 use borrow.Author.Needs.{needs}
-use Rattle.slots.proofs.tag_of.Statement.{statement}
-use Rattle.slots.proofs.tag_of.Tie as tie
+use Rattle.slot_fields.proofs.tag_of.Statement.{statement}
+use Rattle.slot_fields.proofs.tag_of.Tie as tie
 
 cast-result : tie.Need-cast-result
 cast-result c = search needs

@@ -1,8 +1,8 @@
 -- `fitness::place_good` meets its contract.
 use borrow.Author.Tests.{not-true, not-false}
 use borrow.Author.Needs.{needs}
-use Rattle.fitness.proofs.place_good.Statement.{statement}
-use Rattle.fitness.proofs.place_good.Tie as tie
+use Rattle.state_places.proofs.place_good.Statement.{statement}
+use Rattle.state_places.proofs.place_good.Tie as tie
 
 returns : tie.Need-returns
 returns c = let p = c .before .before .before .args .p in rw (not-true (p .full) (c .if1 .taken))

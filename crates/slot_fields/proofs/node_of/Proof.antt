@@ -4,8 +4,8 @@ use Rattle.slot_laws.specs.Ranges.{slot-ranges}
 use Rattle.slot_spec.specs.Slot.{nodeOf}
 use Rattle.slot_laws.specs.SlotLaws.{fields-in-words, fieldsOfWords}
 use borrow.Author.Needs.{needs}
-use Rattle.slots.proofs.node_of.Statement.{statement}
-use Rattle.slots.proofs.node_of.Tie as tie
+use Rattle.slot_fields.proofs.node_of.Statement.{statement}
+use Rattle.slot_fields.proofs.node_of.Tie as tie
 
 cast-t6 : tie.Need-cast-t6
 cast-t6 c = search needs

@@ -2,10 +2,10 @@
 use Rattle.state_laws.specs.FitLaws.{node-together}
 use native.Mathlib.Omega.{arith}
 use borrow.Author.Needs.{needs}
-use Rattle.fitness.proofs.zero_place.Statement.{statement}
-use Rattle.fitness.proofs.zero_place.Tie as tie
-use Rattle.fitness.proofs.zero_place.Reads as reads
-use Rattle.fitness.proofs.zero_place.Lts as lts
+use Rattle.state_places.proofs.zero_place.Statement.{statement}
+use Rattle.state_places.proofs.zero_place.Tie as tie
+use Rattle.state_places.proofs.zero_place.Reads as reads
+use Rattle.state_places.proofs.zero_place.Lts as lts
 
 returns : tie.Need-returns
 returns c = rw (c .if1 .taken)

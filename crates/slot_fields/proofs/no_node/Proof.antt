@@ -1,6 +1,6 @@
 use borrow.Author.Needs.{needs}
-use Rattle.slots.proofs.no_node.Statement.{statement}
-use Rattle.slots.proofs.no_node.Tie as tie
+use Rattle.slot_fields.proofs.no_node.Statement.{statement}
+use Rattle.slot_fields.proofs.no_node.Tie as tie
 
 no-link-requires : tie.Need-no-link-requires
 no-link-requires c κs = search needs

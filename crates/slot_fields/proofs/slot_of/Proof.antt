@@ -4,8 +4,8 @@ use Rattle.slot_spec.specs.Slot.{slotOf}
 use Rattle.slot_laws.specs.SlotLaws.{slot-encoded}
 use Rattle.slot_laws.specs.Ranges.{node-ranges}
 use borrow.Author.Needs.{needs}
-use Rattle.slots.proofs.slot_of.Statement.{statement}
-use Rattle.slots.proofs.slot_of.Tie as tie
+use Rattle.slot_fields.proofs.slot_of.Statement.{statement}
+use Rattle.slot_fields.proofs.slot_of.Tie as tie
 
 cast-t2 : tie.Need-cast-t2
 cast-t2 c = search needs

@@ -2,9 +2,9 @@
 use eviction::settle;
 use fetch_tests::passes;
 use operation_spec::Want;
-use path_reader::PATH_SLOTS;
 use path_reader::Wish;
 use path_reader::look;
+use path_slots::PATH_SLOTS;
 use round_close::mark_at_close;
 use slot_fields::key_of;
 use slot_spec::Node;

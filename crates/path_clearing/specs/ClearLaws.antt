@@ -21,7 +21,7 @@ use Rattle.slot_spec.specs.Row.{zeroSlot}
 use Rattle.word_round_laws.specs.Fill.{cleared, emptied}
 use Rattle.word_round_laws.specs.Gather.{slotFrom, fourFrom, slotStarts, fullStarts, PathGathered}
 use Rattle.list_laws.specs.DistinctLaws.{all-nil, all-cons, all-append, all-getD}
-use Rattle.path_reader.specs.GatherLaws.{Within, inside, starts-within, full-all}
+use Rattle.word_round_laws.specs.GatherLaws.{Within, inside, starts-within, full-all}
 use Rattle.word_round_laws.specs.StoreLaws.{sets-append, sets-own, with-sets, part-stored, bucket-lent}
 
 -- ---- runs of zero bytes

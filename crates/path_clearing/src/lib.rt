@@ -1,6 +1,6 @@
 // The path of a leaf cleared: only the slots that were full are written.
 use bucket_writer::write_in;
-use path_reader::PATH_SLOTS;
+use path_slots::PATH_SLOTS;
 use slot_spec::BUCKET_LENGTH;
 use slot_spec::SLOT_LENGTH;
 use slot_spec::Slot;

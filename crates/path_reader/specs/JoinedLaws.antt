@@ -1,14 +1,14 @@
 -- How joining went, case by case, and turn by turn.
 use mathlib.Core.Path.{_≡_, refl, sym, _∙_, ap}
 use mathlib.Core.Bool.{Bool, true, false}
-use mathlib.Core.List.{List, [], _∷_, _++_}
+use mathlib.Core.List.{List, [], _∷_, _++_, map}
 use mathlib.Core.Option.{none, some}
-use Prim.Native.Nat.{ℕ, _+_, _*_, _≤_}
+use Prim.Native.Nat.{ℕ, _+_, _*_, _^_, _≤_, _<_}
 use native.Mathlib.Numerals.{add-one}
 use native.Mathlib.Omega.{arith}
-use lib.ListN.{length, take, length-append}
+use lib.ListN.{length, take, length-append, length-map}
 use Rattle.list_spec.specs.Choice.{pick}
-use Rattle.slot_spec.specs.Tree.{leafBucket, path}
+use Rattle.slot_spec.specs.Tree.{leafBucket, path, treeLength}
 use Rattle.slot_laws.specs.TreeLaws.{halvings-length}
 use Rattle.slot_spec.specs.declared.Slot.{Slot}
 use Rattle.round_spec.specs.Format.{Read}
@@ -20,6 +20,8 @@ use Rattle.list_spec.specs.Ascending.{ascending}
 use Rattle.word_round_laws.specs.Stash.{joinReadings}
 use Rattle.word_round_laws.specs.StashLaws.{Ascending, ascending-holds}
 use Rattle.word_round_laws.specs.JoinLaws.{readings-then, readings-stop, readings-ascending}
+use Rattle.word_round_laws.specs.Gather.{slotStarts, fullStarts, readFrom}
+use Rattle.word_round_laws.specs.GatherLaws.{full-length, starts-length, path-joined}
 use Rattle.path_reader.specs.Joined.{outcome, ReadingsJoined}
 use Rattle.path_reader.specs.declared.Joined.{Joined}
 
@@ -108,3 +110,26 @@ pub path-readings : (k : ℕ) (tree : List ℕ) (t : ℕ) → length (readBucket
 path-readings k tree t =
     buckets-length k tree (path k t)
     ∙ ap (λ (n : ℕ). 4 * n) (halvings-length k (leafBucket k t) ∙ sym (add-one k))
+
+-- What joined of the readings of a path's full slots joined of the path's.
+module _ (k t : ℕ) (tree : List ℕ) (leaf : t < 2 ^ k) (is : length tree ≡ treeLength k) where
+  abbrev starts : List ℕ
+  starts = fullStarts tree (slotStarts (path k t))
+
+  fewer : length (map (readFrom k tree) starts) ≤ length (readBuckets wordsFormat k tree (path k t))
+  fewer =
+      let n = starts-length k (leafBucket k t) in
+      let m = path-readings k tree t in
+      let f = full-length tree (slotStarts (path k t)) in
+      let l = length-map starts (readFrom k tree) in
+      omega arith
+
+  pub full-joined : (held : List ℕ) (m : ℕ) (before after : List ℕ) (r : Joined)
+      → ReadingsJoined k held (map (readFrom k tree) starts) m before after r → ReadingsJoined k held (readBuckets wordsFormat k tree (path k t)) m before after r
+  full-joined held m before after r j =
+      record {
+        sized = j .sized;
+        within = let f = fewer in omega (arith, j .within);
+        joined = sym (path-joined k t tree leaf is held (take m (slotsOf before))) ∙ j .joined;
+        leaves = j .leaves;
+      }

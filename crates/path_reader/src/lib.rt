@@ -1,16 +1,14 @@
 // The read half of a round: the path's nodes join those waiting, and the wanted one is found. Nothing of the tree or of the
 // waiting nodes is written, so damage leaves both as they were.
-use path_levels::BUCKET_SLOTS;
-use path_levels::LEVELS;
-use path_levels::start_at;
-use slot_fields::is_zero;
+use held_keys::is_held;
+use path_slots::PATH_SLOTS;
+use path_slots::gather_path;
 use slot_fields::no_node;
 use slot_fields::node_of;
 use slot_fields::tag_of;
 use slot_spec::BUCKET_LENGTH;
 use slot_spec::Node;
 use slot_spec::Reading;
-use slot_spec::SLOT_LENGTH;
 use slot_spec::Slot;
 use slot_words::load;
 use slots::reading;
@@ -35,9 +33,6 @@ ghost use Rattle.list_spec.specs.Ascending.{ascending};
 ghost use Rattle.path_reader.specs.Joined.{joinedOf, ReadingsJoined};
 ghost use Rattle.word_round_laws.specs.Gather.{fourFrom, fullStarts, PathGathered};
 ghost use Rattle.path_reader.specs.Look.{Fit, LookedFor};
-
-// The slots of the longest path.
-pub const PATH_SLOTS: usize = BUCKET_SLOTS * LEVELS;
 
 // How joining what was read went: ok or damage, and how many slots wait then.
 pub struct Joined {
@@ -66,20 +61,6 @@ pub struct Looked {
     pub at: usize,
     pub node: Node,
     pub full: usize,
-}
-
-// Whether the call holds a node with a key.
-fn is_held(held: &[u32], key: u32) -> bool
-    ensures { λ r. ⌜ r ≡ among key (now (held .entry)) ⌝ }
-{
-    let mut i = 0;
-    while i < held.len() {
-        if held[i] == key {
-            return true;
-        }
-        i += 1;
-    }
-    false
 }
 
 // One slot of the path joins the first m.
@@ -120,47 +101,6 @@ fn join_reading(
         ok: true,
         count: m + 1,
     }
-}
-
-// A full slot counts one, an empty one none. It is a number to add, so that a path is gathered with no branch that the slots decide.
-fn full(x: Slot) -> usize
-    ensures { λ r. ⌜ r ≡ pick (allZero (slotBytes x)) 0 1 ⌝ }
-{
-    if is_zero(x) {
-        return 0;
-    }
-    1
-}
-
-// Where the full slots of the bucket that starts at a byte start, after the first m. Each slot's start is written to the next
-// place, and stays there if the slot is full.
-fn gather_bucket(tree: &[u8], start: usize, m: usize, from: &mut [u32; PATH_SLOTS]) -> usize
-    requires { ⌜ (start + bucketLength ≤ length (now tree)) × (start < 2 ^ 24) × (length (now from) ≡ pathSlots) × (m + 4 ≤ pathSlots) ⌝ }
-    ensures { λ r. ⌜ (length (now (from .exit)) ≡ pathSlots) × (r ≤ m + 4) × (take r (now (from .exit)) ≡ take m (now (from .entry)) ++ fullStarts (now (tree .entry)) (fourFrom start)) ⌝ }
-{
-    let mut count = m;
-    let mut j = 0;
-    while j < BUCKET_SLOTS {
-        let at = start + SLOT_LENGTH * j;
-        from[count] = at as u32;
-        count += full(load(tree, at));
-        j += 1;
-    }
-    count
-}
-
-// Where the full slots of a leaf's path start, from the leaf's bucket up.
-fn gather_path(tree: &[u8], size: usize, leaf: usize, from: &mut [u32; PATH_SLOTS]) -> usize
-    requires { ⌜ (size ≤ 15) × (leaf < 2 ^ size) × (length (now tree) ≡ treeLength size) × (length (now from) ≡ pathSlots) ⌝ }
-    ensures { λ r. ⌜ PathGathered size leaf (now (tree .entry)) (now (from .exit)) r ⌝ }
-{
-    let mut count = 0;
-    let mut level = 0;
-    while level <= size {
-        count = gather_bucket(tree, start_at(size, leaf, level), count, from);
-        level += 1;
-    }
-    count
 }
 
 // The path of a leaf, from the leaf's bucket up, joins the first n. Only its full slots are asked; where they start stays in `from`.

@@ -1,9 +1,9 @@
 // A round of a bucket store by itself, with no call around it and nothing held, and a node that comes to wait: for programs that
 // show rounds or time them.
 use eviction::settle;
-use path_reader::PATH_SLOTS;
 use path_reader::Wish;
 use path_reader::look;
+use path_slots::PATH_SLOTS;
 use round_close::LIMIT;
 use round_close::mark_at_close;
 use slot_fields::slot_of;

@@ -9,6 +9,7 @@ pub mod ReadingLaws
 pub mod Level
 pub mod PathLaws
 pub mod Gather
+pub mod GatherLaws
 pub mod LookLaws
 pub mod ChooseLaws
 pub mod Fill

@@ -6,7 +6,7 @@ use lib.Seq.{length-sets}
 use Rattle.slot_spec.specs.Slot.{slotBytes}
 use Rattle.slot_spec.specs.Row.{zeroSlot}
 use Rattle.word_round_laws.specs.Fill.{emptied}
-use Rattle.path_reader.specs.GatherLaws.{start-within, start-small}
+use Rattle.word_round_laws.specs.GatherLaws.{start-within, start-small}
 use Rattle.path_clearing.specs.ClearLaws.{emptied-turn, emptied-end, path-cleared, start-aligned}
 use borrow.Author.Needs.{needs}
 use native.Mathlib.Omega.{arith}

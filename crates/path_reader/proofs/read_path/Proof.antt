@@ -13,9 +13,9 @@ use Rattle.round_spec.specs.Round.{keysOf}
 use Rattle.round_spec.specs.Nodes.{wordsFormat}
 use Rattle.slot_spec.specs.Row.{slotsOf}
 use Rattle.word_round_laws.specs.StashLaws.{ascending-test}
-use Rattle.path_reader.specs.JoinedLaws.{Joining, joining-start, joining-turn, joining-damage, joining-end}
+use Rattle.path_reader.specs.JoinedLaws.{Joining, joining-start, joining-turn, joining-damage, joining-end, full-joined}
 use Rattle.word_round_laws.specs.Gather.{bucketOf, readFrom}
-use Rattle.path_reader.specs.GatherLaws.{start-within, start-small, loaded-from, full-joined}
+use Rattle.word_round_laws.specs.GatherLaws.{start-within, start-small, loaded-from}
 use borrow.Author.Needs.{needs}
 use native.Mathlib.Omega.{arith}
 use Rattle.path_reader.proofs.read_path.Statement.{statement}

@@ -6,11 +6,11 @@ use lib.ListN.{length, take, drop}
 use Rattle.slot_spec.specs.Tree.{path}
 use Rattle.word_round_laws.specs.Words.{pathSlots}
 use Rattle.word_round_laws.specs.Gather.{slotStarts, fullStarts}
-use Rattle.path_reader.specs.GatherLaws.{gather-level, gather-end}
+use Rattle.word_round_laws.specs.GatherLaws.{gather-level, gather-end}
 use borrow.Author.Needs.{needs}
 use native.Mathlib.Omega.{arith}
-use Rattle.path_reader.proofs.gather_path.Statement.{statement}
-use Rattle.path_reader.proofs.gather_path.Tie as tie
+use Rattle.path_slots.proofs.gather_path.Statement.{statement}
+use Rattle.path_slots.proofs.gather_path.Tie as tie
 
 abbrev Inv-loop : tie.InvT-loop
 Inv-loop tree size leaf from₀ count₀ level₀ from count level =

@@ -6,8 +6,8 @@ use Rattle.slot_spec.specs.Tree.{among}
 use Rattle.word_round_laws.specs.JoinLaws.{among-here, among-later, among-end}
 use borrow.Author.Needs.{needs}
 use native.Mathlib.Omega.{arith}
-use Rattle.path_reader.proofs.is_held.Statement.{statement}
-use Rattle.path_reader.proofs.is_held.Tie as tie
+use Rattle.held_keys.proofs.is_held.Statement.{statement}
+use Rattle.held_keys.proofs.is_held.Tie as tie
 
 abbrev Inv-loop : tie.InvT-loop
 Inv-loop held key i₀ i = (i ≤ length held) × (among key held ≡ among key (drop i held))

@@ -6,11 +6,11 @@ use lib.ListN.{length, take, drop, length-set}
 use Rattle.slot_spec.specs.Slot.{allZero, slotBytes}
 use Rattle.word_round_laws.specs.Words.{pathSlots}
 use Rattle.word_round_laws.specs.Gather.{fourFrom, fullStarts}
-use Rattle.path_reader.specs.GatherLaws.{full-one, gather-four, gather-four-end}
+use Rattle.word_round_laws.specs.GatherLaws.{full-one, gather-four, gather-four-end}
 use borrow.Author.Needs.{needs}
 use native.Mathlib.Omega.{arith}
-use Rattle.path_reader.proofs.gather_bucket.Statement.{statement}
-use Rattle.path_reader.proofs.gather_bucket.Tie as tie
+use Rattle.path_slots.proofs.gather_bucket.Statement.{statement}
+use Rattle.path_slots.proofs.gather_bucket.Tie as tie
 
 abbrev Inv-loop : tie.InvT-loop
 Inv-loop tree start m from₀ count₀ j₀ from count j =

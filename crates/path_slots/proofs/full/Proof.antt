@@ -1,7 +1,7 @@
 -- `path_reader::full` meets its contract.
 use borrow.Author.Needs.{needs}
-use Rattle.path_reader.proofs.full.Statement.{statement}
-use Rattle.path_reader.proofs.full.Tie as tie
+use Rattle.path_slots.proofs.full.Statement.{statement}
+use Rattle.path_slots.proofs.full.Tie as tie
 
 is-zero-requires : tie.Need-is-zero-requires
 is-zero-requires c κs = search needs

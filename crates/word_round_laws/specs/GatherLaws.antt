@@ -6,7 +6,7 @@ use mathlib.Core.Option.{Option, none}
 use Prim.Native.Nat.{ℕ, zero, suc, _+_, _-_, _*_, _/_, _^_, _≤_, _<_}
 use native.Mathlib.Numerals.{add-one}
 use native.Mathlib.Omega.{arith}
-use lib.ListN.{length, getD, take, drop, set, length-take, length-drop, length-map}
+use lib.ListN.{length, getD, take, drop, set, length-take, length-drop}
 use lib.Pow.{pow-pos, pow-mono}
 use lib.Seq.{getD-take, take-suc-set, take-set-le}
 use Rattle.list_spec.specs.Choice.{pick}
@@ -20,12 +20,9 @@ use Rattle.round_spec.specs.Format.{Read, full, empty, bad}
 use Rattle.round_spec.specs.Round.{keysOf, insert, readBucket, readBuckets}
 use Rattle.round_spec.specs.Nodes.{wordsFormat, wordsOf, readingOf}
 use Rattle.slot_spec.specs.Row.{slotsOf}
 use Rattle.word_round_laws.specs.Stash.{joinReadings}
 use Rattle.word_round_laws.specs.PathLaws.{path-level, path-end}
-use Rattle.path_reader.specs.Joined.{ReadingsJoined}
-use Rattle.path_reader.specs.JoinedLaws.{path-readings}
-use Rattle.path_reader.specs.declared.Joined.{Joined}
 use Rattle.word_round_laws.specs.Gather.{slotFrom, fourFrom, slotStarts, fullStarts, bucketOf, readFrom}
 
 -- ---- the full ones of some slots
 pub full-none : (tree : List ℕ) → fullStarts tree [] ≡ []
@@ -221,25 +218,6 @@ module _ (k t : ℕ) (tree : List ℕ) (leaf : t < 2 ^ k) (is : length tree ≡ 
   path-joined held ws =
       join-full k held tree (slotStarts (path k t)) (starts-within k (leafBucket k t) tree inside) ws
       ∙ ap (λ (rs : List (Read Slot)). joinReadings wordsFormat held rs ws) (sym (path-readings-from k k (leafBucket k t) tree (omega arith)))
-
-  pub path-fewer : length (map (readFrom k tree) pathStarts) ≤ length (readBuckets wordsFormat k tree (path k t))
-  path-fewer =
-      let n = starts-length k (leafBucket k t) in
-      let m = path-readings k tree t in
-      let f = full-length tree (slotStarts (path k t)) in
-      let l = length-map pathStarts (readFrom k tree) in
-      omega arith
-
-  -- What joined of the full slots' readings joined of the path's.
-  pub full-joined : (held : List ℕ) (m : ℕ) (before after : List ℕ) (r : Joined)
-      → ReadingsJoined k held (map (readFrom k tree) pathStarts) m before after r → ReadingsJoined k held (readBuckets wordsFormat k tree (path k t)) m before after r
-  full-joined held m before after r j =
-      record {
-        sized = j .sized;
-        within = let f = path-fewer in omega (arith, j .within);
-        joined = sym (path-joined held (take m (slotsOf before))) ∙ j .joined;
-        leaves = j .leaves;
-      }
 
 -- The reading of a full slot that was loaded.
 pub loaded-from : (k : ℕ) (tree starts : List ℕ) (i at : ℕ) (x : Slot) → i < length starts → at ≡ getD starts i 0 → slotBytes x ≡ slotFrom tree at

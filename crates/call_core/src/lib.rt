@@ -3,6 +3,8 @@
 use call_draws::draws_of;
 use call_draws::rounds_of;
 use call_ending::Ran;
+use call_rounds::job_for;
+use call_rounds::run;
 use call_spec::Reply;
 use slot_spec::Link;
 use stash_words::WORDS;
@@ -14,8 +16,6 @@ ghost use mathlib.Core.Path.{_≡_};
 ghost use mathlib.Core.Bool.{false};
 ghost use Rattle.call_spec.specs.declared.Reply.the-variants.{Refused};
 ghost use Rattle.call_core.specs.Run.{Stands, CallsAs};
-
-pub mod run;
 
 // The head of an open state that fits; its waiting nodes are in words.
 pub struct Head {
@@ -73,6 +73,6 @@ pub fn call_words(
         return refused(head, 7);
     }
     let root = head.root;
-    let job = run::job_for(head.structure, size, head.entries, root, op, rounds, tape);
-    run::run(job, w, head.waiting as usize, tree, tape, trace)
+    let job = job_for(head.structure, size, head.entries, root, op, rounds, tape);
+    run(job, w, head.waiting as usize, tree, tape, trace)
 }

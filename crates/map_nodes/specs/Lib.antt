@@ -2,6 +2,4 @@ pub mod Method
 pub mod Upward
 pub mod Heights
 pub mod HeightLaws
-pub mod Balance
-pub mod BalanceLaws
 pub mod FetchTestLaws

@@ -1,6 +1,6 @@
 // What a fetched node of the map is asked.
-use super::lean::is_tall;
 use super::sides::taller;
+use map_balance::is_tall;
 use operation_spec::Bound;
 use operation_spec::Want;
 use slot_spec::Node;

@@ -1,4 +1,4 @@
-// Nodes of the map: their sides and balance, the steps of a walk over them, subtrees as they are at hand, and the fetch test.
+// Nodes of the map: their sides, the steps of a walk over them, subtrees as they are at hand, and the fetch test.
 use operation_spec::Bound;
 use slot_spec::Link;
 use slot_spec::Node;
@@ -26,7 +26,6 @@ pub struct Step {
 }
 
 pub mod fetch_test;
-pub mod lean;
 pub mod sides;
 pub mod subtree;
 pub mod wants;

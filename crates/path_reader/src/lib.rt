@@ -19,19 +19,18 @@ use stash_words::get;
 use stash_words::join_slot;
 ghost use mathlib.Core.Path.{_≡_};
 ghost use mathlib.Core.Bool.{true, false};
-ghost use mathlib.Core.List.{[], _∷_, _++_};
+ghost use mathlib.Core.List.{[], _∷_};
 ghost use Prim.Native.Nat.{_+_, _*_, _^_, _<_, _≤_};
 ghost use lib.ListN.{length, take};
-ghost use Rattle.list_spec.specs.Choice.{pick};
-ghost use Rattle.slot_spec.specs.Tree.{among, path, bucketLength, treeLength};
-ghost use Rattle.slot_spec.specs.Slot.{allZero, slotBytes};
+ghost use Rattle.slot_spec.specs.Tree.{path, treeLength};
+ghost use Rattle.slot_spec.specs.Slot.{slotBytes};
 ghost use Rattle.round_spec.specs.Round.{keysOf, readBuckets};
 ghost use Rattle.round_spec.specs.Nodes.{wordsFormat};
 ghost use Rattle.word_round_laws.specs.Words.{places, wordCount, pathSlots};
 ghost use Rattle.slot_spec.specs.Row.{slotsOf};
 ghost use Rattle.list_spec.specs.Ascending.{ascending};
 ghost use Rattle.path_reader.specs.Joined.{joinedOf, ReadingsJoined};
-ghost use Rattle.word_round_laws.specs.Gather.{fourFrom, fullStarts, PathGathered};
+ghost use Rattle.word_round_laws.specs.Gather.{PathGathered};
 ghost use Rattle.path_reader.specs.Look.{Fit, LookedFor};
 
 // How joining what was read went: ok or damage, and how many slots wait then.

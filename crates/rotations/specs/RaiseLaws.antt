@@ -28,7 +28,7 @@ use Rattle.node_rows.specs.Heights.{Low}
 use Rattle.node_rows.specs.HeldLaws.{held-next, held-none, held-low}
 use Rattle.map_nodes.specs.Heights.{LowSub}
 use Rattle.map_nodes.specs.HeightLaws.{low-more, low-placed, low-near}
-use Rattle.map_nodes.specs.Balance.{leansOut}
+use Rattle.map_balance.specs.Balance.{leansOut}
 use Rattle.operation_spec.specs.Resume.{resume, finished, follow}
 use Rattle.operations.specs.ResumeLaws.{resume-done, resume-want, resume-missing, resume-bind, resume-map}
 use Rattle.rotations.specs.Raise.{Opens, openedAs, listOf, builtOf, Raises, turnOver}

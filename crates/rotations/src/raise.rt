@@ -3,11 +3,11 @@
 use super::rotation::double;
 use super::rotation::seated;
 use super::rotation::single;
+use map_balance::is_tall;
+use map_balance::leans_out;
 use map_nodes::Kid;
 use map_nodes::Step;
 use map_nodes::Sub;
-use map_nodes::lean::is_tall;
-use map_nodes::lean::leans_out;
 use map_nodes::sides::child_link;
 use map_nodes::subtree::kid_of;
 use map_nodes::subtree::near_on;

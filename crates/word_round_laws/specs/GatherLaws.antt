@@ -3,7 +3,7 @@ use mathlib.Core.Path.{_≡_, refl, sym, _∙_, ap}
 use mathlib.Core.Bool.{Bool, true, false, _||_}
 use mathlib.Core.List.{List, [], _∷_, _++_, map, append-assoc, append-nil, List·Memᴰ·tail, List·Memᴰ·head}
 use mathlib.Core.Option.{Option, none}
-use Prim.Native.Nat.{ℕ, zero, suc, _+_, _-_, _*_, _/_, _^_, _≤_, _<_}
+use Prim.Native.Nat.{ℕ, zero, suc, _+_, _*_, _/_, _^_, _≤_, _<_}
 use native.Mathlib.Numerals.{add-one}
 use native.Mathlib.Omega.{arith}
 use lib.ListN.{length, getD, take, drop, set, length-take, length-drop}
@@ -19,7 +19,6 @@ use Rattle.slot_spec.specs.declared.Slot.{Slot}
 use Rattle.round_spec.specs.Format.{Read, full, empty, bad}
 use Rattle.round_spec.specs.Round.{keysOf, insert, readBucket, readBuckets}
 use Rattle.round_spec.specs.Nodes.{wordsFormat, wordsOf, readingOf}
-use Rattle.slot_spec.specs.Row.{slotsOf}
 use Rattle.word_round_laws.specs.Stash.{joinReadings}
 use Rattle.word_round_laws.specs.PathLaws.{path-level, path-end}
 use Rattle.word_round_laws.specs.Gather.{slotFrom, fourFrom, slotStarts, fullStarts, bucketOf, readFrom}

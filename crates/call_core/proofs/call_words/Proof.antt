@@ -10,8 +10,8 @@ use Rattle.call_core.proofs.call_words.Tie as tie
 use Rattle.call_core.proofs.call_words.Reads as reads
 use Rattle.call_core.proofs.call_words.Lts as lts
 use Rattle.call_core.proofs.refused.Reads as refused-reads
-use Rattle.call_core.proofs.run.job_for.Reads as job-for-reads
-use Rattle.call_core.proofs.run.run.Reads as run-reads
+use Rattle.call_rounds.proofs.job_for.Reads as job-for-reads
+use Rattle.call_rounds.proofs.run.Reads as run-reads
 use Rattle.tree_paths.proofs.tree_length.Reads as tree-length-reads
 use Rattle.call_draws.proofs.draws_of.Reads as draws-of-reads
 use Rattle.call_draws.proofs.rounds_of.Reads as rounds-of-reads

@@ -8,7 +8,7 @@ use Rattle.map_nodes.proofs.fetch_test.map_test.Statement.{statement}
 use Rattle.map_nodes.proofs.fetch_test.map_test.Tie as tie
 use Rattle.map_nodes.proofs.fetch_test.map_test.Reads as reads
 use Rattle.map_nodes.proofs.fetch_test.map_test.Lts as lts
-use Rattle.map_nodes.proofs.lean.is_tall.Reads as is-tall-reads
+use Rattle.map_balance.proofs.is_tall.Reads as is-tall-reads
 use Rattle.map_nodes.proofs.fetch_test.is_between.Reads as is-between-reads
 use Rattle.map_nodes.proofs.sides.taller.Reads as taller-reads
 

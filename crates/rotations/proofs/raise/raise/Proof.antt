@@ -10,7 +10,7 @@ use Rattle.rotations.proofs.raise.raise.Statement.{statement}
 use Rattle.rotations.proofs.raise.raise.Tie as tie
 use Rattle.rotations.proofs.raise.raise.Reads as reads
 use Rattle.rotations.proofs.raise.raise.Lts as lts
-use Rattle.map_nodes.proofs.lean.is_tall.Reads as is-tall-reads
+use Rattle.map_balance.proofs.is_tall.Reads as is-tall-reads
 use Rattle.rotations.proofs.raise.others_of.Reads as others-of-reads
 use Rattle.rotations.proofs.raise.rest.Reads as rest-reads
 use Rattle.rotations.proofs.raise.turn.Reads as turn-reads

@@ -13,7 +13,7 @@ use Rattle.rotations.proofs.raise.turn_over.Statement.{statement}
 use Rattle.rotations.proofs.raise.turn_over.Tie as tie
 use Rattle.rotations.proofs.raise.turn_over.Reads as reads
 use Rattle.rotations.proofs.raise.turn_over.Lts as lts
-use Rattle.map_nodes.proofs.lean.leans_out.Reads as leans-out-reads
+use Rattle.map_balance.proofs.leans_out.Reads as leans-out-reads
 use Rattle.rotations.proofs.raise.inner_want.Reads as inner-want-reads
 use Rattle.rotations.proofs.raise.missing.Reads as missing-reads
 use Rattle.rotations.proofs.raise.open_kid.Reads as open-kid-reads

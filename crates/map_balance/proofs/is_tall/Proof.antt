@@ -1,11 +1,11 @@
 use Rattle.leaf_spec.specs.Convert.{toNode}
-use Rattle.map_nodes.specs.BalanceLaws.{tall-test}
+use Rattle.map_balance.specs.BalanceLaws.{tall-test}
 use borrow.Author.Needs.{needs}
-use Rattle.map_nodes.proofs.lean.is_tall.Statement.{statement}
-use Rattle.map_nodes.proofs.lean.is_tall.Tie as tie
-use Rattle.map_nodes.proofs.lean.is_tall.Reads as reads
-use Rattle.map_nodes.proofs.lean.is_tall.Lts as lts
-use Rattle.map_nodes.proofs.lean.lean.Reads as lean-reads
+use Rattle.map_balance.proofs.is_tall.Statement.{statement}
+use Rattle.map_balance.proofs.is_tall.Tie as tie
+use Rattle.map_balance.proofs.is_tall.Reads as reads
+use Rattle.map_balance.proofs.is_tall.Lts as lts
+use Rattle.map_balance.proofs.lean.Reads as lean-reads
 
 lean-requires : tie.Need-lean-requires
 lean-requires c κs = search needs

@@ -3,7 +3,7 @@ use slot_spec::Node;
 ghost use mathlib.Core.Path.{_≡_};
 ghost use Rattle.method_spec.specs.Map.{tall};
 ghost use Rattle.leaf_spec.specs.Convert.{toNode};
-ghost use Rattle.map_nodes.specs.Balance.{balanceOf, towards, leansOut};
+ghost use Rattle.map_balance.specs.Balance.{balanceOf, towards, leansOut};
 
 // Document 01's balance: "left height minus right height, from -2 to 2".
 pub fn balance(n: Node) -> i8

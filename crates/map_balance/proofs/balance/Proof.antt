@@ -1,12 +1,12 @@
 use mathlib.Core.Path.{sym}
 use Rattle.leaf_spec.specs.Convert.{toNode}
-use Rattle.map_nodes.specs.BalanceLaws.{balance-two, balance-one, balance-zero, balance-minus-one, balance-minus-two}
+use Rattle.map_balance.specs.BalanceLaws.{balance-two, balance-one, balance-zero, balance-minus-one, balance-minus-two}
 use native.Mathlib.Omega.{arith}
 use borrow.Author.Needs.{needs}
-use Rattle.map_nodes.proofs.lean.balance.Statement.{statement}
-use Rattle.map_nodes.proofs.lean.balance.Tie as tie
-use Rattle.map_nodes.proofs.lean.balance.Reads as reads
-use Rattle.map_nodes.proofs.lean.balance.Lts as lts
+use Rattle.map_balance.proofs.balance.Statement.{statement}
+use Rattle.map_balance.proofs.balance.Tie as tie
+use Rattle.map_balance.proofs.balance.Reads as reads
+use Rattle.map_balance.proofs.balance.Lts as lts
 
 sub-if2 : tie.Need-sub-if2
 sub-if2 c = search needs

@@ -1,11 +1,11 @@
 use Rattle.leaf_spec.specs.Convert.{toNode}
-use Rattle.map_nodes.specs.BalanceLaws.{balance-kept, balance-fits, balance-negated}
+use Rattle.map_balance.specs.BalanceLaws.{balance-kept, balance-fits, balance-negated}
 use borrow.Author.Needs.{needs}
-use Rattle.map_nodes.proofs.lean.lean.Statement.{statement}
-use Rattle.map_nodes.proofs.lean.lean.Tie as tie
-use Rattle.map_nodes.proofs.lean.lean.Reads as reads
-use Rattle.map_nodes.proofs.lean.lean.Lts as lts
-use Rattle.map_nodes.proofs.lean.balance.Reads as balance-reads
+use Rattle.map_balance.proofs.lean.Statement.{statement}
+use Rattle.map_balance.proofs.lean.Tie as tie
+use Rattle.map_balance.proofs.lean.Reads as reads
+use Rattle.map_balance.proofs.lean.Lts as lts
+use Rattle.map_balance.proofs.balance.Reads as balance-reads
 
 balance-requires : tie.Need-balance-requires
 balance-requires c κs = search needs

@@ -12,7 +12,7 @@ use mir.Val.{SFits, ofZ, toZ}
 use borrow.Author.Tests.{lt-ltb, le-ltb, le-leb, lt-leb}
 use Rattle.method_spec.specs.Node.{Node}
 use Rattle.method_spec.specs.Map.{tall}
-use Rattle.map_nodes.specs.Balance.{balanceOf, towards, leansOut}
+use Rattle.map_balance.specs.Balance.{balanceOf, towards, leansOut}
 
 -- ---- the five balances
 

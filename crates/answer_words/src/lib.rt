@@ -1,11 +1,10 @@
-// The words and the values of answers and replies.
+// The words of answers and replies.
 use call_spec::Reply;
 use operation_spec::Answer;
 use text_writer::put_text;
-ghost use mathlib.Core.Path.{_≡_};
 ghost use Prim.Native.Nat.{_≤_};
 ghost use lib.ListN.{length};
-ghost use Rattle.walk_spec.specs.Lines.{answerWord, answerValue, replyWord, replyValue, Put};
+ghost use Rattle.walk_spec.specs.Lines.{answerWord, replyWord, Put};
 
 fn answer_word(answer: Answer, out: &mut [u8]) -> usize
     requires { ⌜ 8 ≤ length (now out) ⌝ }
@@ -31,30 +30,5 @@ pub fn reply_word(reply: Reply, out: &mut [u8]) -> usize
     match reply {
         Reply::Answered(answer) => answer_word(answer, out),
         Reply::Refused(_) => put_text(b"refused", out, 0),
-    }
-}
-
-fn answer_value(answer: Answer) -> u64
-    ensures { λ r. ⌜ r ≡ answerValue answer ⌝ }
-{
-    match answer {
-        Answer::Found(v) => v,
-        Answer::Absent => 0,
-        Answer::Replaced(v) => v,
-        Answer::New => 0,
-        Answer::Removed(v) => v,
-        Answer::Pushed => 0,
-        Answer::Popped(v) => v,
-        Answer::Empty => 0,
-        Answer::Full => 10,
-    }
-}
-
-pub fn reply_value(reply: Reply) -> u64
-    ensures { λ r. ⌜ r ≡ replyValue reply ⌝ }
-{
-    match reply {
-        Reply::Answered(answer) => answer_value(answer),
-        Reply::Refused(number) => number as u64,
     }
 }

@@ -46,8 +46,7 @@ use Rattle.call_spec.specs.declared.Reply.the-variants.{Refused}
 use Rattle.call_core.specs.declared.Head.{Head}
 use Rattle.call_ending.specs.declared.Ran.{Ran}
 use Rattle.call_ending.specs.Ending.{leftBy, endingWith}
-use Rattle.call_rounds.specs.Runs.{jobFor, Runs}
-use Rattle.call_core.specs.Run.{StandsFor, Stands, leftOf, CallsAs}
+use Rattle.call_core.specs.Run.{StandsFor, Stands, leftOf, CallsAs, jobFor, Runs}
 
 -- Numbers each of which is below 256 are bytes.
 pub bytes-of : (l : List ℕ) → ((i : ℕ) → getD l i 0 < 256) → Bytes l

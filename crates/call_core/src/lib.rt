@@ -3,19 +3,19 @@
 use call_draws::draws_of;
 use call_draws::rounds_of;
 use call_ending::Ran;
-use call_rounds::job_for;
-use call_rounds::run;
 use call_spec::Reply;
 use slot_spec::Link;
 use stash_words::WORDS;
 use tickets::Asked;
-use tickets::TICKET_LENGTH;
+use tickets::is_whole;
 use tickets::read_ticket;
 use tree_paths::tree_length;
 ghost use mathlib.Core.Path.{_≡_};
 ghost use mathlib.Core.Bool.{false};
 ghost use Rattle.call_spec.specs.declared.Reply.the-variants.{Refused};
 ghost use Rattle.call_core.specs.Run.{Stands, CallsAs};
+
+pub mod run;
 
 // The head of an open state that fits; its waiting nodes are in words.
 pub struct Head {
@@ -58,7 +58,7 @@ pub fn call_words(
     if tree.len() != tree_length(size) {
         return refused(head, 3);
     }
-    if ticket.len() != TICKET_LENGTH {
+    if !is_whole(ticket) {
         return refused(head, 4);
     }
     let asked = read_ticket(head.structure, ticket);
@@ -73,6 +73,6 @@ pub fn call_words(
         return refused(head, 7);
     }
     let root = head.root;
-    let job = job_for(head.structure, size, head.entries, root, op, rounds, tape);
-    run(job, w, head.waiting as usize, tree, tape, trace)
+    let job = run::job_for(head.structure, size, head.entries, root, op, rounds, tape);
+    run::run(job, w, head.waiting as usize, tree, tape, trace)
 }

@@ -2,8 +2,10 @@
 use operation_spec::Op;
 ghost use mathlib.Core.Path.{_≡_};
 ghost use Prim.Native.Nat.{_+_, _≤_, _^_, _<_};
+ghost use lib.Dec.{eqb};
 ghost use lib.ListN.{length, take, drop};
 ghost use Rattle.slot_spec.specs.LittleEndian.{value};
+ghost use Rattle.state_spec.specs.Ticket.{ticketLength};
 ghost use Rattle.tickets.specs.Asked.{asked, mapOp, stackOp};
 
 // A ticket's length in bytes: kind, key (4), value (8).
@@ -13,6 +15,13 @@ pub const TICKET_LENGTH: usize = 13;
 pub enum Asked {
     Call(Op),
     Unknown,
+}
+
+// Whether a ticket has its length.
+pub fn is_whole(ticket: &[u8]) -> bool
+    ensures { λ r. ⌜ r ≡ eqb (length (now (ticket .entry))) ticketLength ⌝ }
+{
+    ticket.len() == TICKET_LENGTH
 }
 
 fn wide(x: u8) -> u64

@@ -1,5 +1,5 @@
 // The lines that the walk program prints, each with its newline. They return the line's length.
-use answer_words::reply_value;
+use answer_values::reply_value;
 use answer_words::reply_word;
 use call_spec::Reply;
 use text_writer::put_leaves;

@@ -1,4 +1,6 @@
-use mathlib.Core.Path.{refl, sym, _∙_}
+use mathlib.Core.Path.{_≡_, refl, sym, _∙_}
+use lib.ListN.{length}
+use borrow.Author.Tests.{eqb-true, eqb-false, not-true, not-false}
 use Rattle.operation_spec.specs.declared.Op.{Op}
 use Rattle.state_spec.specs.declared.State.{State}
 use Rattle.call_core.specs.Run.{StandsFor}
@@ -10,17 +12,24 @@ use Rattle.call_core.proofs.call_words.Tie as tie
 use Rattle.call_core.proofs.call_words.Reads as reads
 use Rattle.call_core.proofs.call_words.Lts as lts
 use Rattle.call_core.proofs.refused.Reads as refused-reads
-use Rattle.call_rounds.proofs.job_for.Reads as job-for-reads
-use Rattle.call_rounds.proofs.run.Reads as run-reads
+use Rattle.call_core.proofs.run.job_for.Reads as job-for-reads
+use Rattle.call_core.proofs.run.run.Reads as run-reads
 use Rattle.tree_paths.proofs.tree_length.Reads as tree-length-reads
 use Rattle.call_draws.proofs.draws_of.Reads as draws-of-reads
 use Rattle.call_draws.proofs.rounds_of.Reads as rounds-of-reads
+use Rattle.tickets.proofs.is_whole.Reads as is-whole-reads
 use Rattle.tickets.proofs.read_ticket.Reads as read-ticket-reads
+
+-- The ticket is whole.
+whole : (c : tie.Else2) → length (c .before .before .before .before .before .before .before .before .before .args .ticket .now) ≡ 13
+whole c =
+    let w = c .before .is-whole in
+    eqb-true _ 13 (sym (w .ensures) ∙ not-false (w .result) (c .if2 .left))
 
 -- ---- where all checks were passed
 module _ (c : tie.Else4) where
   abbrev start : tie.Start
-  start = c .before .before .before .before .before .before .before .before .before .before .before .before .before .before .before .before
+  start = c .before .before .before .before .before .before .before .before .before .before .before .before .before .before .before .before .before
 
   abbrev op : Op
   op = c .before .before .before .before .before .asked .given .0 .0
@@ -28,11 +37,11 @@ module _ (c : tie.Else4) where
   ok : (s : State) → StandsFor s (start .args .head) (start .args .w .now) → Checked s op (c .before .rounds-of .result) (start .args .tree .now) (start .args .ticket .now) (start .args .tape .now) (start .args .trace .now)
   ok s st =
       let a = start .args in
-      let widths = c .before .before .before .before .before .before .before .before .before .before .before .struct-known .given .1 .1 .1 .0 in
-      all-checked st (a .tree .now) (a .ticket .now) (a .tape .now) (a .trace .now) (omega (arith, c .before .before .before .before .before .before .before .before .before .if1 .left, c .before .before .before .before .before .before .before .before .before .before .tree-length .ensures)) (omega (arith, c .before .before .before .before .before .before .before .before .if2 .left)) op
+      let widths = c .before .before .before .before .before .before .before .before .before .before .before .before .struct-known .given .1 .1 .1 .0 in
+      all-checked st (a .tree .now) (a .ticket .now) (a .tape .now) (a .trace .now) (omega (arith, c .before .before .before .before .before .before .before .before .before .before .if1 .left, c .before .before .before .before .before .before .before .before .before .before .before .tree-length .ensures)) (whole (c .before .before .before .before .before .before .before .before)) op
       (sym (c .before .before .before .before .before .before .before .read-ticket .ensures) ∙ c .before .before .before .before .before .asked .given .1) (c .before .rounds-of .result) (c .before .rounds-of .ensures .0)
       (omega (arith, c .before .before .if3 .left, c .before .before .before .draws-of .ensures .0, c .before .rounds-of .ensures .0)) (omega (arith, c .if4 .left))
-      (bytes-of (a .tree .now) (λ i. omega (arith, c .before .before .before .before .before .before .before .before .before .before .before .before .before .before .before .slice-known .given i))) (bytes-of (a .ticket .now) (λ i. omega (arith, c .before .before .before .before .before .before .before .before .before .before .before .before .before .before .shared-slice-known .given i)))
+      (bytes-of (a .tree .now) (λ i. omega (arith, c .before .before .before .before .before .before .before .before .before .before .before .before .before .before .before .before .slice-known .given i))) (bytes-of (a .ticket .now) (λ i. omega (arith, c .before .before .before .before .before .before .before .before .before .before .before .before .before .before .before .shared-slice-known .given i)))
       (omega (arith, widths), (omega (arith, widths), omega (arith, widths)))
 
 cast-size : tie.Need-cast-size
@@ -50,18 +59,22 @@ returns c =
     let a = s .args in
     core-refuses (s .pre) 3 (c .refused .ensures) (λ x st. gives-3 st (a .tree .now) (a .ticket .now) (a .tape .now) (a .trace .now) (λ e. omega (arith, e, c .before .if1 .taken, c .before .before .tree-length .ensures)))
 
+is-whole-requires : tie.Need-is-whole-requires
+is-whole-requires c κs = search needs
+
 refused-requires-2 : tie.Need-refused-requires-2
 refused-requires-2 c κs = search needs
 
 returns-2 : tie.Need-returns-2
 returns-2 c =
-    let s = c .before .before .before .before .before .before .before .before .before in
+    let s = c .before .before .before .before .before .before .before .before .before .before in
     let a = s .args in
+    let w = c .before .before .is-whole in
     core-refuses (s .pre) 4 (c .refused2 .ensures)
-    (λ x st. gives-4 st (a .tree .now) (a .ticket .now) (a .tape .now) (a .trace .now) (omega (arith, c .before .before .if1 .left, c .before .before .before .tree-length .ensures)) (λ e. omega (arith, e, c .before .if2 .taken)))
+    (λ x st. gives-4 st (a .tree .now) (a .ticket .now) (a .tape .now) (a .trace .now) (omega (arith, c .before .before .before .if1 .left, c .before .before .before .before .tree-length .ensures)) (eqb-false (length (a .ticket .now)) 13 (sym (w .ensures) ∙ not-true (w .result) (c .before .if2 .taken))))
 
 read-ticket-requires : tie.Need-read-ticket-requires
-read-ticket-requires c κs = search needs
+read-ticket-requires c κs = whole c
 
 enum-known-asked : tie.Need-enum-known-asked
 enum-known-asked c = search needs
@@ -74,27 +87,27 @@ refused-requires-3 c κs = search needs
 
 returns-3 : tie.Need-returns-3
 returns-3 c =
-    let s = c .before .before .before .before .before .before .before .before .before .before .before .before in
+    let s = c .before .before .before .before .before .before .before .before .before .before .before .before .before in
     let a = s .args in
     core-refuses (s .pre) 5 (c .refused3 .ensures)
-    (λ x st. gives-5 st (a .tree .now) (a .ticket .now) (a .tape .now) (a .trace .now) (omega (arith, c .before .before .before .before .before .if1 .left, c .before .before .before .before .before .before .tree-length .ensures)) (omega (arith, c .before .before .before .before .if2 .left)) (sym (c .before .before .before .read-ticket .ensures) ∙ c .before .enum-told .given .1))
+    (λ x st. gives-5 st (a .tree .now) (a .ticket .now) (a .tape .now) (a .trace .now) (omega (arith, c .before .before .before .before .before .before .if1 .left, c .before .before .before .before .before .before .before .tree-length .ensures)) (whole (c .before .before .before .before)) (sym (c .before .before .before .read-ticket .ensures) ∙ c .before .enum-told .given .1))
 
 draws-of-requires : tie.Need-draws-of-requires
-draws-of-requires c κs = head-sizes (c .before .before .before .before .before .before .before .before .before .before .before .before .pre .for)
+draws-of-requires c κs = head-sizes (c .before .before .before .before .before .before .before .before .before .before .before .before .before .pre .for)
 
 refused-requires-4 : tie.Need-refused-requires-4
 refused-requires-4 c κs = search needs
 
 returns-4 : tie.Need-returns-4
 returns-4 c =
-    let s = c .before .before .before .before .before .before .before .before .before .before .before .before .before .before .before in
+    let s = c .before .before .before .before .before .before .before .before .before .before .before .before .before .before .before .before in
     let a = s .args in
     core-refuses (s .pre) 6 (c .refused4 .ensures)
-    (λ x st. gives-6 st (a .tree .now) (a .ticket .now) (a .tape .now) (a .trace .now) (omega (arith, c .before .before .before .before .before .before .before .before .if1 .left, c .before .before .before .before .before .before .before .before .before .tree-length .ensures)) (omega (arith, c .before .before .before .before .before .before .before .if2 .left)) (c .before .before .before .before .asked .given .0 .0)
+    (λ x st. gives-6 st (a .tree .now) (a .ticket .now) (a .tape .now) (a .trace .now) (omega (arith, c .before .before .before .before .before .before .before .before .before .if1 .left, c .before .before .before .before .before .before .before .before .before .before .tree-length .ensures)) (whole (c .before .before .before .before .before .before .before)) (c .before .before .before .before .asked .given .0 .0)
     (sym (c .before .before .before .before .before .before .read-ticket .ensures) ∙ c .before .before .before .before .asked .given .1) _ refl (omega (arith, c .before .if3 .taken, c .before .before .draws-of .ensures .0)))
 
 rounds-of-requires : tie.Need-rounds-of-requires
-rounds-of-requires c κs = head-sizes (c .before .before .before .before .before .before .before .before .before .before .before .before .before .before .pre .for)
+rounds-of-requires c κs = head-sizes (c .before .before .before .before .before .before .before .before .before .before .before .before .before .before .before .pre .for)
 
 mul-if4 : tie.Need-mul-if4
 mul-if4 c = search needs
@@ -104,10 +117,10 @@ refused-requires-5 c κs = search needs
 
 returns-5 : tie.Need-returns-5
 returns-5 c =
-    let s = c .before .before .before .before .before .before .before .before .before .before .before .before .before .before .before .before .before in
+    let s = c .before .before .before .before .before .before .before .before .before .before .before .before .before .before .before .before .before .before in
     let a = s .args in
     core-refuses (s .pre) 7 (c .refused5 .ensures)
-    (λ x st. gives-7 st (a .tree .now) (a .ticket .now) (a .tape .now) (a .trace .now) (omega (arith, c .before .before .before .before .before .before .before .before .before .before .if1 .left, c .before .before .before .before .before .before .before .before .before .before .before .tree-length .ensures)) (omega (arith, c .before .before .before .before .before .before .before .before .before .if2 .left)) (c .before .before .before .before .before .before .asked .given .0 .0)
+    (λ x st. gives-7 st (a .tree .now) (a .ticket .now) (a .tape .now) (a .trace .now) (omega (arith, c .before .before .before .before .before .before .before .before .before .before .before .if1 .left, c .before .before .before .before .before .before .before .before .before .before .before .before .tree-length .ensures)) (whole (c .before .before .before .before .before .before .before .before .before)) (c .before .before .before .before .before .before .asked .given .0 .0)
     (sym (c .before .before .before .before .before .before .before .before .read-ticket .ensures) ∙ c .before .before .before .before .before .before .asked .given .1) (c .before .before .rounds-of .result) (c .before .before .rounds-of .ensures .0)
     (omega (arith, c .before .before .before .if3 .left, c .before .before .before .before .draws-of .ensures .0, c .before .before .rounds-of .ensures .0)) (omega (arith, c .before .if4 .taken)))
 
@@ -150,6 +163,7 @@ call-words-spec =
     tree-length-requires
     refused-requires
     returns
+    is-whole-requires
     refused-requires-2
     returns-2
     read-ticket-requires

@@ -1,11 +1,11 @@
 use mathlib.Core.Path.{refl}
-use Rattle.call_rounds.specs.RunLaws.{run-shuts, run-ends-shut, run-finishes, run-ends-finished}
+use Rattle.call_core.specs.RunLaws.{run-shuts, run-ends-shut, run-finishes, run-ends-finished}
 use borrow.Author.Needs.{needs}
 use native.Mathlib.Omega.{arith}
-use Rattle.call_rounds.proofs.run.Statement.{statement}
-use Rattle.call_rounds.proofs.run.Tie as tie
-use Rattle.call_rounds.proofs.run.Reads as reads
-use Rattle.call_rounds.proofs.run.Lts as lts
+use Rattle.call_core.proofs.run.run.Statement.{statement}
+use Rattle.call_core.proofs.run.run.Tie as tie
+use Rattle.call_core.proofs.run.run.Reads as reads
+use Rattle.call_core.proofs.run.run.Lts as lts
 use Rattle.call_ending.proofs.finish.Reads as finish-reads
 use Rattle.call_ending.proofs.shut.Reads as shut-reads
 use Rattle.fetch_rounds.proofs.fetch_rounds.Reads as fetch-rounds-reads

@@ -21,7 +21,7 @@ ghost use Rattle.bucket_call_spec.specs.Call.{drawOf, bucketCall};
 ghost use Rattle.stash_laws.specs.Waiting.{Holds};
 ghost use Rattle.want_rounds.specs.Wanting.{storeAt};
 ghost use Rattle.call_ending.specs.Ending.{leftBy, endingWith};
-ghost use Rattle.call_rounds.specs.Runs.{jobFor, Runs};
+ghost use Rattle.call_core.specs.Run.{jobFor, Runs};
 
 // What the rounds of a call are for: a new node would get the draw after those of the fetch rounds as its tag.
 pub fn job_for(

@@ -2,10 +2,10 @@ use Prim.Native.Nat.{_^_, _≤_}
 use lib.Pow.{pow-mono}
 use native.Mathlib.Omega.{arith}
 use borrow.Author.Needs.{needs}
-use Rattle.call_rounds.proofs.job_for.Statement.{statement}
-use Rattle.call_rounds.proofs.job_for.Tie as tie
-use Rattle.call_rounds.proofs.job_for.Reads as reads
-use Rattle.call_rounds.proofs.job_for.Lts as lts
+use Rattle.call_core.proofs.run.job_for.Statement.{statement}
+use Rattle.call_core.proofs.run.job_for.Tie as tie
+use Rattle.call_core.proofs.run.job_for.Reads as reads
+use Rattle.call_core.proofs.run.job_for.Lts as lts
 use Rattle.idle_rounds.proofs.idle.draw_at.Reads as draw-at-reads
 use Rattle.tree_paths.proofs.leaves.Reads as leaves-reads
 use Rattle.call_draws.proofs.spare_of.Reads as spare-of-reads

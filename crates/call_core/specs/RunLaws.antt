@@ -34,7 +34,7 @@ use Rattle.want_rounds.specs.WantingLaws.{at-most, root-low, same-program, held
 use Rattle.fetch_rounds.specs.FetchLaws.{Done, is-done, drop-on}
 use Rattle.call_ending.specs.declared.Ran.{Ran}
 use Rattle.call_ending.specs.Ending.{leftBy, endingWith, goingBy, outcomeOf, Shuts, ShutAs, Finishes, finishedBy, FinishedAs}
-use Rattle.call_rounds.specs.Runs.{Runs}
+use Rattle.call_core.specs.Run.{Runs}
 use Rattle.call_ending.specs.EndingLaws.{joined-length, numbers-first}
 
 -- What follows the leaves in the trace buffer is all that an end takes from it.

@@ -1,4 +1,4 @@
-// Whether a state fits: each cause of document 01's list.
+// Whether the head of a state fits: each cause of document 01's list but those of its places.
 use heights::shape_exists;
 use slot_spec::Link;
 use tree_paths::leaves;

@@ -6,7 +6,7 @@ ghost use Rattle.leaf_spec.specs.Convert.{toNode};
 ghost use Rattle.map_balance.specs.Balance.{balanceOf, towards, leansOut};
 
 // Document 01's balance: "left height minus right height, from -2 to 2".
-pub fn balance(n: Node) -> i8
+fn balance(n: Node) -> i8
     ensures { λ r. ⌜ r ≡ balanceOf (toNode n) ⌝ }
 {
     let left = n.left.height;

@@ -49,7 +49,7 @@ pub fn unfinished(want: Want) -> Bottom
 }
 
 // A subtree at the end of a path of that length.
-pub fn bottom_at(
+fn bottom_at(
     rotating: bool,
     sub: Sub,
     length: usize,

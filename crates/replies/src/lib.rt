@@ -7,7 +7,7 @@ ghost use Rattle.call_spec.specs.Store.{replyOf};
 ghost use Rattle.replies.specs.Answered.{answered};
 
 // The paper's answer, or for a full store its number.
-pub fn reply_of(answer: Answer) -> Reply
+fn reply_of(answer: Answer) -> Reply
     ensures { λ r. ⌜ r ≡ replyOf (toAnswer answer) ⌝ }
 {
     match answer {

@@ -42,7 +42,7 @@ pub struct Opened {
     pub next: usize,
 }
 
-pub fn open_kid(kid: Kid, held: &[u64; ROW], count: usize, next: usize) -> Opened
+fn open_kid(kid: Kid, held: &[u64; ROW], count: usize, next: usize) -> Opened
     requires { ⌜ (length (now held) ≡ words) × (HeldFrom 250 (heldIn (now held) count) next × LowKid 250 (toKid kid)) ⌝ }
     ensures { λ r. ⌜ Opens (toKid kid) (heldIn (now (held .entry)) count) next r ⌝ }
 {
@@ -93,7 +93,7 @@ fn no_others() -> Others
 }
 
 // What is at hand in the subtree, where that stands on the other side of the place than the one asked about.
-pub fn others_of(p: Step, b: Sub, left: bool) -> Others
+fn others_of(p: Step, b: Sub, left: bool) -> Others
     ensures { λ r. ⌜ listOf r ≡ map.othersOf (toStep p) (toSub b) left ⌝ }
 {
     if left == p.left {
@@ -139,7 +139,7 @@ fn inner_want(p: Step, left: bool, n: Node, c: Node) -> Want
 
 // A rotation where the child on the tall side is at hand: single where that does not lean inward, else double, for which
 // the inner child is opened.
-pub fn turn_over(
+fn turn_over(
     p: Step,
     left: bool,
     n: Node,
@@ -183,7 +183,7 @@ pub fn turn_over(
 }
 
 // A rotation of a node that is too tall on a side: the child on that side is opened first.
-pub fn turn(
+fn turn(
     p: Step,
     left: bool,
     n: Node,

@@ -8,7 +8,7 @@ ghost use Rattle.round_spec.specs.Round.{overflows};
 pub const LIMIT: usize = 64;
 
 // Whether more nodes wait and are held at a round's close than may.
-pub fn overflows(waiting: usize, held: usize) -> bool
+fn overflows(waiting: usize, held: usize) -> bool
     requires { ⌜ waiting + held < 2 ^ 64 ⌝ }
     ensures { λ r. ⌜ r ≡ overflows waiting held ⌝ }
 {

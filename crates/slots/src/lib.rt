@@ -12,7 +12,7 @@ ghost use Prim.Native.Nat.{_≤_};
 ghost use Rattle.slot_spec.specs.Slot.{slotBytes, linkGood, wellFormed, readSlot};
 
 // A link that no slot is bad for: an absent one has no key or tag, and the tag is a leaf of a tree of that size.
-pub fn link_good(size: usize, link: Link) -> bool
+fn link_good(size: usize, link: Link) -> bool
     requires { ⌜ size ≤ 16 ⌝ }
     ensures { λ r. ⌜ r ≡ linkGood size link ⌝ }
 {

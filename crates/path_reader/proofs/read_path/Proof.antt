@@ -2,7 +2,7 @@
 use mathlib.Core.Path.{_≡_, sym, subst}
 use mathlib.Core.Bool.{true, false}
 use mathlib.Core.List.{List, [], _∷_, _++_, map}
-use Prim.Native.Nat.{_+_, _-_, _≤_}
+use Prim.Native.Nat.{ℕ, _+_, _-_, _≤_}
 use lib.ListN.{length, take, drop, getD, length-take, length-map, drop-of-length-le}
 use lib.Seq.{getD-take}
 use borrow.Author.Tests.{not-true, not-false}
@@ -75,24 +75,50 @@ join-reading-requires c κs =
     let g = c .before .before .before .before .before .gather-path in
     (l .inv .2 .sized, omega (arith, l .inv .1, g .ensures .fewer, b .pre .1, c .before .before .before .loop-test .taken), ascending-test (keysOf wordsFormat (take (l .count) (slotsOf (l .s)))) (l .inv .2 .order), b .pre .3)
 
+-- One more slot was read.
+module _ (c : tie.After-struct-known Inv-loop μ-loop) where
+  abbrev start : tie.Start Inv-loop μ-loop
+  start = c .before .before .before .before .before .before .before .before .before .before .before
+
+  abbrev gathered : tie.After-gather-path Inv-loop μ-loop
+  gathered = c .before .before .before .before .before .before .before
+
+  abbrev turn : tie.At-loop Inv-loop μ-loop
+  turn = c .before .before .before .before .before .before
+
+  -- The starts and the readings of the full slots, and the reading of this one.
+  abbrev starts : List ℕ
+  starts = take (gathered .gather-path .result) (gathered .gather-path .last .1 .1 .1 .0)
+
+  abbrev readings : List (Read Slot)
+  readings = map (readFrom (start .args .size) (start .args .tree .now)) starts
+
+  abbrev next : List (Read Slot)
+  next = wordsFormat .read (start .args .size) (bucketOf (getD (gathered .gather-path .last .1 .1 .1 .0) (turn .loop .i) 0)) (slotBytes (c .before .before .before .load .result)) ∷ []
+
+  -- What is left to join begins with it.
+  left : Joining (start .args .size) (start .args .held .now) readings (next ++ drop (turn .loop .i + 1) readings) (start .args .n) (start .args .s .now) (turn .loop .s) (turn .loop .count)
+  left =
+      let a = start .args in
+      let l = turn .loop in
+      let g = gathered .gather-path in
+      let from = g .last .1 .1 .1 .0 in
+      let x = c .before .before .before .load in
+      let t = c .before .before .before .before .before .loop-test .taken in
+      let n : length starts ≡ g .result = simp length-take (omega (arith, g .ensures .sized, g .ensures .fewer, start .pre .3)) in
+      let d = loaded-from (a .size) (a .tree .now) starts (l .i) (getD from (l .i) 0) (x .result) (omega arith) (sym (getD-take (g .result) from (l .i) 0 t)) (x .ensures) in
+      subst (λ (r : List (Read Slot)). Joining (a .size) (a .held .now) readings r (a .n) (a .s .now) (l .s) (l .count)) d (l .inv .2)
+
 returns : tie.Need-returns Inv-loop μ-loop
 returns c =
-    let b = c .before .before .before .before .before .before .before .before .before .before .before .before in
+    let b = start (c .before) in
     let a = b .args in
-    let l = c .before .before .before .before .before .before .before .loop in
-    let g = c .before .before .before .before .before .before .before .before .gather-path in
-    let from = g .last .1 .1 .1 .0 in
-    let x = c .before .before .before .before .load in
+    let l = turn (c .before) .loop in
+    let g = gathered (c .before) .gather-path in
     let k = c .before .before .join-reading in
-    let t = c .before .before .before .before .before .before .loop-test .taken in
-    let starts = take (g .result) from in
-    let rs = map (readFrom (a .size) (a .tree .now)) starts in
-    let n : length starts ≡ g .result = simp length-take (omega (arith, g .ensures .sized, g .ensures .fewer, b .pre .3)) in
-    let q = wordsFormat .read (a .size) (bucketOf (getD from (l .i) 0)) (slotBytes (x .result)) ∷ [] in
-    let d = loaded-from (a .size) (a .tree .now) starts (l .i) (getD from (l .i) 0) (x .result) (omega arith) (sym (getD-take (g .result) from (l .i) 0 t)) (x .ensures) in
-    let j : Joining (a .size) (a .held .now) rs (q ++ drop (l .i + 1) rs) (a .n) (a .s .now) (l .s) (l .count) = subst (λ (r : List (Read Slot)). Joining (a .size) (a .held .now) rs r (a .n) (a .s .now) (l .s) (l .count)) d (l .inv .2) in (
+    let rs = readings (c .before) in (
       full-joined (a .size) (a .leaf) (a .tree .now) (b .pre .4) (b .pre .5) (a .held .now) (a .n) (a .s .now) (k .last .0) (record { ok = false; count = a .n })
-          (rw (g .ensures .starts) at (joining-damage (a .size) (a .held .now) rs q (drop (l .i + 1) rs) (a .n) (a .s .now) (l .s) (k .last .0) (l .count) (k .result) j (k .ensures) (not-true (k .result .ok) (c .if1 .taken)))),
+          (rw (g .ensures .starts) at (joining-damage (a .size) (a .held .now) rs (next (c .before)) (drop (l .i + 1) rs) (a .n) (a .s .now) (l .s) (k .last .0) (l .count) (k .result) (left (c .before)) (k .ensures) (not-true (k .result .ok) (c .if1 .taken)))),
       g .ensures,
     )
 
@@ -104,23 +130,13 @@ loop-less c = search needs
 
 loop-again : tie.Need-loop-again Inv-loop μ-loop
 loop-again c =
-    let b = c .before .before .before .before .before .before .before .before .before .before .before .before in
-    let a = b .args in
-    let l = c .before .before .before .before .before .before .before .loop in
-    let g = c .before .before .before .before .before .before .before .before .gather-path in
-    let from = g .last .1 .1 .1 .0 in
-    let x = c .before .before .before .before .load in
+    let a = start (c .before) .args in
+    let l = turn (c .before) .loop in
     let k = c .before .before .join-reading in
-    let t = c .before .before .before .before .before .before .loop-test .taken in
-    let starts = take (g .result) from in
-    let rs = map (readFrom (a .size) (a .tree .now)) starts in
-    let n : length starts ≡ g .result = simp length-take (omega (arith, g .ensures .sized, g .ensures .fewer, b .pre .3)) in
-    let q = wordsFormat .read (a .size) (bucketOf (getD from (l .i) 0)) (slotBytes (x .result)) ∷ [] in
-    let d = loaded-from (a .size) (a .tree .now) starts (l .i) (getD from (l .i) 0) (x .result) (omega arith) (sym (getD-take (g .result) from (l .i) 0 t)) (x .ensures) in
-    let j : Joining (a .size) (a .held .now) rs (q ++ drop (l .i + 1) rs) (a .n) (a .s .now) (l .s) (l .count) = subst (λ (r : List (Read Slot)). Joining (a .size) (a .held .now) rs r (a .n) (a .s .now) (l .s) (l .count)) d (l .inv .2) in (
+    let rs = readings (c .before) in (
       omega arith,
       omega (arith, k .ensures .within, l .inv .1),
-      joining-turn (a .size) (a .held .now) rs q (drop (l .i + 1) rs) (a .n) (a .s .now) (l .s) (k .last .0) (l .count) (k .result) j (k .ensures) (not-false (k .result .ok) (c .if1 .left)),
+      joining-turn (a .size) (a .held .now) rs (next (c .before)) (drop (l .i + 1) rs) (a .n) (a .s .now) (l .s) (k .last .0) (l .count) (k .result) (left (c .before)) (k .ensures) (not-false (k .result .ok) (c .if1 .left)),
     )
 
 returns-2 : tie.Need-returns-2 Inv-loop μ-loop

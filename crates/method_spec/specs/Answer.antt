@@ -5,6 +5,7 @@ use mathlib.Core.Option.{Option, none, some}
 pub data Structure : Type 0 where
   map : Structure
   stack : Structure
+  heap : Structure
 
 -- What a ticket of a structure's own kinds asks; fields that its kind does not use are not here.
 pub data Op : Structure → Type 0 where
@@ -13,6 +14,8 @@ pub data Op : Structure → Type 0 where
   remove : (key : ℕ) → Op map
   push : (value : ℕ) → Op stack
   pop : Op stack
+  add : (value : ℕ) → Op heap
+  take : Op heap
 
 pub data Answer : Type 0 where
   found : ℕ → Answer
@@ -22,6 +25,8 @@ pub data Answer : Type 0 where
   removed : ℕ → Answer
   pushed : Answer
   popped : ℕ → Answer
+  added : Answer
+  taken : ℕ → Answer
   empty : Answer
   full : Answer
 
@@ -34,6 +39,8 @@ numberOf new = 0
 numberOf (removed v) = 0
 numberOf pushed = 0
 numberOf (popped v) = 0
+numberOf added = 0
+numberOf (taken v) = 0
 numberOf empty = 0
 numberOf full = 10
 
@@ -46,5 +53,7 @@ valueOf new = none
 valueOf (removed v) = some v
 valueOf pushed = none
 valueOf (popped v) = some v
+valueOf added = none
+valueOf (taken v) = some v
 valueOf empty = none
 valueOf full = none

@@ -8,10 +8,11 @@ use lib.Dec.{eqb}
 use Rattle.list_spec.specs.Choice.{pick}
 use Rattle.method_spec.specs.Node.{Link, Node, absent, retag}
 use Rattle.method_spec.specs.Prog.{Want, Prog, done, want}
-use Rattle.method_spec.specs.Answer.{Structure, map, stack, Op, get, put, remove, push, pop, Answer}
+use Rattle.method_spec.specs.Answer.{Structure, map, stack, heap, Op, get, put, remove, push, pop, add, take, Answer}
 use Rattle.method_spec.specs.Rounds.{spareDraw, putDraw}
 use Rattle.method_spec.specs.Map.{Outcome, getProg, putProg, removeProg, mapTest}
 use Rattle.method_spec.specs.Stack.{pushProg, popProg, stackTest}
+use Rattle.method_spec.specs.Heap.{addProg, takeProg, heapTest}
 
 -- At most 2^k - 1 entries.
 abbrev pub capacity : ℕ → ℕ
@@ -26,11 +27,14 @@ module _ {T : Type 0} where
   program nil (remove key) spares limit entries l = removeProg key entries l
   program nil (push value) spares limit entries l = pushProg nil value (spares 0) entries limit l
   program nil pop spares limit entries l = popProg entries l
+  program nil (add value) spares limit entries l = addProg nil value (spares 0) entries limit l
+  program nil take spares limit entries l = takeProg nil entries l
 
   -- The fetch tests of a structure, for a store that has so many entries as the call starts.
   unfoldable pub test : Structure → (entries : ℕ) → Want T → Node T → Bool
   test map entries w n = mapTest w n
   test stack entries w n = stackTest w n
+  test heap entries w n = heapTest entries w n
 
 -- The entries, the root link and the nodes.
 pub record Memory (T : Type 0) : Type 0 where

@@ -3,6 +3,7 @@ use mathlib.Core.Path.{_≡_, refl}
 use Prim.Native.Nat.{ℕ, zero, suc, _%_}
 use mathlib.Core.List.{List, [], _∷_, _++_}
 use mathlib.Core.List as list
+use mathlib.Core.Bool.{true, false}
 use mathlib.Core.Option.{none, some}
 use Rattle.balance_spec.specs.Tree.{Tree, leaf, node}
 use Rattle.balance_spec.specs.Least.{least}
@@ -10,16 +11,17 @@ use Rattle.balance_spec.specs.Shape.{shaped}
 use Rattle.balance_spec.specs.Greatest.{tallest, greatest}
 use Rattle.method_spec.specs.Node.{Link, Node}
 use Rattle.method_spec.specs.Prog.{bind}
-use Rattle.method_spec.specs.Answer.{Structure, map, stack, Op, get, put, remove, push, pop, absent, new, full, pushed, popped, empty}
+use Rattle.method_spec.specs.Answer.{Structure, map, stack, heap, Op, get, put, remove, push, pop, add, take, absent, new, full, pushed, popped, added, taken, empty}
 use Rattle.method_spec.specs.Map.{walk, single, double, turn, raise, climb, unwind, unwound, getStep, getProg, putStep, putProg, lowest, takeOut, removeStep, removeProg}
 use Rattle.method_spec.specs.Stack.{pushProg, popProg}
+use Rattle.method_spec.specs.Heap.{turnsTo, wayTo, descend, settled, rise, topmost, addProg, downward, childOf, sink, replaceRoot, takeProg}
 use Rattle.method_spec.specs.Rounds.{rounds, spare, putDraw, draws}
 use Rattle.method_spec.specs.Call.{capacity, program, emptyMemory, takeKey, fetches, drawsFrom, stepped, answered, call, run, Ran}
 use Rattle.method_spec.specs.Origin.{drawn, origins, names, leafOf, leafRun}
 
 -- A store of a size after some calls that each bring that tape. Where this unfolds, so does all that a call computes with.
 unfoldable pub after : {s : Structure} → (size : ℕ) → (tape : ℕ → ℕ) → List (Op s) → Ran ℕ
-unfolding walk single double turn raise climb unwind unwound getStep getProg putStep putProg lowest takeOut removeStep removeProg pushProg popProg program emptyMemory takeKey fetches drawsFrom stepped answered call run bind least shaped tallest greatest rounds spare origins leafOf leafRun
+unfolding walk single double turn raise climb unwind unwound getStep getProg putStep putProg lowest takeOut removeStep removeProg pushProg popProg turnsTo descend settled rise topmost addProg downward childOf sink replaceRoot takeProg program emptyMemory takeKey fetches drawsFrom stepped answered call run bind least shaped tallest greatest rounds spare origins leafOf leafRun
 after {s} size tape ops = run 0 (rounds s size) (capacity size) (λ c. tape) 1 ops (emptyMemory 0)
 
 abbrev zeros : ℕ → ℕ
@@ -47,10 +49,10 @@ map-rounds : list.map (rounds map) (1 ∷ 2 ∷ 3 ∷ 4 ∷ 5 ∷ 6 ∷ 7 ∷ 8 
 unfolding after
 map-rounds = refl
 
--- The draws of a call, and that of the first put round: for a map of size 2 (F = 6) and a stack.
-worked-draws : (draws map 2 ≡ 13) × (putDraw map 6 0 ≡ 7) × (draws stack 2 ≡ 3) × (putDraw stack 1 0 ≡ 2)
+-- The draws of a call, and that of the first put round: for a map of size 2 (F = 6), a stack, and a heap of size 2 (F = 6).
+worked-draws : (draws map 2 ≡ 13) × (putDraw map 6 0 ≡ 7) × (draws stack 2 ≡ 3) × (putDraw stack 1 0 ≡ 2) × (draws heap 2 ≡ 13)
 unfolding after
-worked-draws = (refl, refl, refl, refl)
+worked-draws = (refl, refl, refl, refl, refl)
 
 -- A fresh map of size 2, get 7, tape 0 to 12.
 get-absent : after 2 (λ d. d % 4) (get 7 ∷ []) .answers ≡ some absent ∷ []
@@ -150,7 +152,106 @@ push-pop : after 2 zeros (push 50 ∷ pop ∷ pop ∷ []) .answers ≡ some push
 unfolding after
 push-pop = refl
 
+-- ---- the heap
+
+-- The ways to positions 1, 2, 5 and 6: from the root, left, left and right, right and left.
+ways : list.map wayTo (1 ∷ 2 ∷ 5 ∷ 6 ∷ []) ≡ [] ∷ (true ∷ []) ∷ (true ∷ false ∷ []) ∷ (false ∷ true ∷ []) ∷ []
+unfolding after
+ways = refl
+
+-- The numbers at positions 1 to n.
+standing : (size : ℕ) → List (Op heap) → List ℕ
+unfolding after
+standing size ops = let m = after size zeros ops .memory in numbers (m .entries) 1 (m .nodes)
+  where
+    numbers : (n i : ℕ) → List (Node ℕ) → List ℕ
+    numbers zero i ns = []
+    numbers (suc n) i ns = elim (takeKey i ns) [ none ↦ [] | some t ↦ t .node .value ∷ numbers n (suc i) ns ]
+
+-- An add that rises to the root, and one that rises part of the way.
+rises : standing 2 (add 5 ∷ add 3 ∷ add 1 ∷ []) ≡ 1 ∷ 5 ∷ 3 ∷ []
+unfolding standing
+rises = refl
+
+rises-some : standing 3 (add 1 ∷ add 5 ∷ add 3 ∷ add 4 ∷ []) ≡ 1 ∷ 4 ∷ 3 ∷ 5 ∷ []
+unfolding standing
+rises-some = refl
+
+-- A take at one, two and three entries.
+takes-one : after 2 zeros (add 7 ∷ take ∷ take ∷ []) .answers ≡ some added ∷ some (taken 7) ∷ some empty ∷ []
+unfolding after
+takes-one = refl
+
+takes-two : standing 2 (add 5 ∷ add 3 ∷ take ∷ []) ≡ 5 ∷ []
+unfolding standing
+takes-two = refl
+
+takes-three : standing 2 (add 5 ∷ add 3 ∷ add 1 ∷ take ∷ []) ≡ 3 ∷ 5 ∷ []
+unfolding standing
+takes-three = refl
+
+-- Equal children: 9 sinks to the left.
+sinks-left : standing 3 (add 1 ∷ add 2 ∷ add 2 ∷ add 9 ∷ take ∷ []) ≡ 2 ∷ 9 ∷ 2 ∷ []
+unfolding standing
+sinks-left = refl
+
+-- To the right, where the left child is larger.
+sinks-right : standing 3 (add 1 ∷ add 3 ∷ add 2 ∷ add 9 ∷ take ∷ []) ≡ 2 ∷ 3 ∷ 9 ∷ []
+unfolding standing
+sinks-right = refl
+
+-- Two levels down, on the left; the right child of the root is on the way to the last position, and is held already.
+sinks-two : standing 3 (add 1 ∷ add 2 ∷ add 5 ∷ add 3 ∷ add 4 ∷ add 6 ∷ take ∷ []) ≡ 2 ∷ 3 ∷ 5 ∷ 6 ∷ 4 ∷ []
+unfolding standing
+sinks-two = refl
+
+-- A full heap's add: 10, and it fetches none.
+full-heap : after 1 zeros (add 5 ∷ add 6 ∷ take ∷ []) .answers ≡ some added ∷ some full ∷ some (taken 5) ∷ []
+unfolding after
+full-heap = refl
+
+full-heap-names : names (rounds heap 1) 1 (add 5 ∷ add 6 ∷ [])
+    ≡ drawn 1 0 ∷ drawn 1 1 ∷ drawn 1 2 ∷ drawn 1 4 ∷ drawn 1 5 ∷ drawn 1 6
+    ∷ drawn 2 0 ∷ drawn 2 1 ∷ drawn 2 2 ∷ drawn 2 4 ∷ drawn 2 5 ∷ drawn 2 6 ∷ []
+unfolding after
+full-heap-names = refl
+
+-- Equal numbers stay: 4 is added below 4. Whole memory: the link to position 2 has its new node's tag, draw 6 of the second call.
+equal-numbers : after 2 (λ d. d) (add 4 ∷ add 4 ∷ []) .memory
+    ≡ record {
+      entries = 2;
+      root = record { height = 1; key = 1; tag = 0 };
+      nodes =
+          record {
+            key = 2;
+            value = 4;
+            tag = 6;
+            left = record { height = 0; key = 0; tag = 0 };
+            right = record { height = 0; key = 0; tag = 0 };
+          }
+          ∷ record {
+            key = 1;
+            value = 4;
+            tag = 0;
+            left = record { height = 1; key = 2; tag = 6 };
+            right = record { height = 0; key = 0; tag = 0 };
+          }
+          ∷ [];
+    }
+unfolding after
+equal-numbers = refl
+
 -- ---- the origin rule
+
+-- A take of three entries names the root, the last position, and then the left child: draws 6 of the calls that made them, but for
+-- the root, which the second and the third add fetched: draw 0 of the third.
+take-names : names (rounds heap 2) 2 (add 1 ∷ add 2 ∷ add 3 ∷ take ∷ [])
+    ≡ drawn 1 0 ∷ drawn 1 1 ∷ drawn 1 2 ∷ drawn 1 3 ∷ drawn 1 4 ∷ drawn 1 5 ∷ drawn 1 7 ∷ drawn 1 8 ∷ drawn 1 9 ∷ drawn 1 10 ∷ drawn 1 11 ∷ drawn 1 12
+    ∷ drawn 1 6 ∷ drawn 2 1 ∷ drawn 2 2 ∷ drawn 2 3 ∷ drawn 2 4 ∷ drawn 2 5 ∷ drawn 2 7 ∷ drawn 2 8 ∷ drawn 2 9 ∷ drawn 2 10 ∷ drawn 2 11 ∷ drawn 2 12
+    ∷ drawn 2 0 ∷ drawn 3 1 ∷ drawn 3 2 ∷ drawn 3 3 ∷ drawn 3 4 ∷ drawn 3 5 ∷ drawn 3 7 ∷ drawn 3 8 ∷ drawn 3 9 ∷ drawn 3 10 ∷ drawn 3 11 ∷ drawn 3 12
+    ∷ drawn 3 0 ∷ drawn 3 6 ∷ drawn 2 6 ∷ drawn 4 3 ∷ drawn 4 4 ∷ drawn 4 5 ∷ drawn 4 7 ∷ drawn 4 8 ∷ drawn 4 9 ∷ drawn 4 10 ∷ drawn 4 11 ∷ drawn 4 12 ∷ []
+unfolding after
+take-names = refl
 
 -- Stack of size 2, push and pop: the third place is named call 1, draw 1.
 pop-names : names (rounds stack 2) 2 (push 50 ∷ pop ∷ []) ≡ drawn 1 0 ∷ drawn 1 2 ∷ drawn 1 1 ∷ drawn 2 2 ∷ []

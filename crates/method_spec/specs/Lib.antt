@@ -4,6 +4,7 @@ pub mod Answer
 pub mod Plain
 pub mod Map
 pub mod Stack
+pub mod Heap
 pub mod Rounds
 pub mod Call
 pub mod Origin

@@ -44,3 +44,7 @@ module _ {T : Type 0} where
 
   abbrev pub linkTo : Node T → Link T
   linkTo n = record { height = heightOf n; key = n .key; tag = n .tag }
+
+  -- The link of height 1 to a node, as stack and heap have them.
+  abbrev pub linkOne : Node T → Link T
+  linkOne n = record { height = 1; key = n .key; tag = n .tag }

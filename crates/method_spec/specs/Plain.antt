@@ -1,11 +1,13 @@
--- The plain machines: a table with one value for each key, kept in ascending order of keys, and a stack that is a list.
+-- The plain machines: a table with one value for each key, kept in ascending order of keys; a stack that is a list; and a heap that
+-- is a collection of numbers with repeats, kept ascending, so that equal collections are equal lists.
 use Prim.Native.Nat.{suc, ℕ}
 use mathlib.Core.List.{List, [], _∷_}
 use mathlib.Core.Option.{Option, none, some}
-use lib.Dec.{eqb, ltb}
+use lib.Dec.{eqb, ltb, leb}
 use lib.ListN.{length}
 use Rattle.list_spec.specs.Choice.{pick}
-use Rattle.method_spec.specs.Answer.{Structure, map, stack, Op, get, put, remove, push, pop, Answer, found, absent, replaced, new, removed, pushed, popped, empty, full}
+use Rattle.list_spec.specs.Perm.{Perm}
+use Rattle.method_spec.specs.Answer.{Structure, map, stack, heap, Op, get, put, remove, push, pop, add, take, Answer, found, absent, replaced, new, removed, pushed, popped, added, taken, empty, full}
 
 pub record Pair : Type 0 where
   pub key : ℕ
@@ -28,13 +30,20 @@ unfoldable pub erase : ℕ → List Pair → List Pair
 erase k [] = []
 erase k (p ∷ ps) = pick (eqb k (p .key)) ps (p ∷ erase k ps)
 
+-- The collection with one number more.
+unfoldable pub enter : ℕ → List ℕ → List ℕ
+enter v [] = v ∷ []
+enter v (w ∷ ws) = pick (leb v w) (v ∷ w ∷ ws) (w ∷ enter v ws)
+
 abbrev pub Contents : Structure → Type 0
 Contents map = List Pair
 Contents stack = List ℕ
+Contents heap = List ℕ
 
 unfoldable pub nothing : (s : Structure) → Contents s
 nothing map = []
 nothing stack = []
+nothing heap = []
 
 pub record Said (s : Structure) : Type 0 where
   pub contents : Contents s
@@ -57,6 +66,11 @@ unfoldable pub popped-from : List ℕ → Said stack
 popped-from [] = record { contents = []; answer = empty }
 popped-from (v ∷ vs) = record { contents = vs; answer = popped v }
 
+-- The smallest is the first.
+unfoldable pub taken-from : List ℕ → Said heap
+taken-from [] = record { contents = []; answer = empty }
+taken-from (v ∷ vs) = record { contents = vs; answer = taken v }
+
 -- One call of the plain machine that holds at most `limit` entries. The full rule comes first.
 unfoldable pub plain : {s : Structure} → ℕ → Op s → Contents s → Said s
 plain limit (get k) t = record { contents = t; answer = getAnswer (lookup k t) }
@@ -68,6 +82,10 @@ plain limit (push v) vs =
     pick (ltb (length vs) limit) (record { contents = v ∷ vs; answer = pushed })
     (record { contents = vs; answer = full })
 plain limit pop vs = popped-from vs
+plain limit (add v) vs =
+    pick (ltb (length vs) limit) (record { contents = enter v vs; answer = added })
+    (record { contents = vs; answer = full })
+plain limit take vs = taken-from vs
 
 module _ {s : Structure} (limit : ℕ) where
   -- A list of calls of the plain machine: what it holds afterwards, and its answers.
@@ -85,6 +103,9 @@ unfoldable pub numbered : List ℕ → List Pair
 numbered [] = []
 numbered (v ∷ vs) = record { key = suc (length vs); value = v } ∷ numbered vs
 
-abbrev pub entriesOf : (s : Structure) → Contents s → List Pair
-entriesOf map t = t
-entriesOf stack vs = numbered vs
+-- The pairs are what the plain machine holds. A heap's positions are numbered from 1 on too; which number stands where is not the
+-- plain machine's to say.
+abbrev pub Entries : (s : Structure) → Contents s → List Pair → Type 0
+Entries map t ps = Perm t ps
+Entries stack vs ps = Perm (numbered vs) ps
+Entries heap vs ps = (ws : List ℕ) × (Perm vs ws × Perm (numbered ws) ps)

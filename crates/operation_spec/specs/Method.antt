@@ -4,9 +4,9 @@ use mathlib.Core.List.{List, []}
 use mathlib.Core.Option.{Option, none, some}
 use Rattle.leaf_spec.specs.Convert.{toLink}
 use Rattle.operation_spec.specs.declared.Op as op
-use Rattle.operation_spec.specs.declared.Op.the-variants.{Get, Put, Remove, Push, Pop}
+use Rattle.operation_spec.specs.declared.Op.the-variants.{Get, Put, Remove, Push, Pop, Add, Take}
 use Rattle.operation_spec.specs.declared.Answer as answer
-use Rattle.operation_spec.specs.declared.Answer.the-variants.{Found, Absent, Replaced, New, Removed, Pushed, Popped, Empty, Full}
+use Rattle.operation_spec.specs.declared.Answer.the-variants.{Found, Absent, Replaced, New, Removed, Pushed, Popped, Added, Taken, Empty, Full}
 use Rattle.operation_spec.specs.declared.From as from
 use Rattle.operation_spec.specs.declared.From.the-variants.{Root, Side}
 use Rattle.operation_spec.specs.declared.Bound.{Bound}
@@ -40,6 +40,8 @@ structureOf (Put k v) = method.map
 structureOf (Remove k) = method.map
 structureOf (Push v) = method.stack
 structureOf Pop = method.stack
+structureOf (Add v) = method.heap
+structureOf Take = method.heap
 
 abbrev pub toOp : (o : op.Op) → Op (structureOf o)
 toOp (Get k) = method.get k
@@ -47,6 +49,8 @@ toOp (Put k v) = method.put k v
 toOp (Remove k) = method.remove k
 toOp (Push v) = method.push v
 toOp Pop = method.pop
+toOp (Add v) = method.add v
+toOp Take = method.take
 
 abbrev pub toAnswer : answer.Answer → Answer
 toAnswer (Found v) = method.found v
@@ -56,6 +60,8 @@ toAnswer New = method.new
 toAnswer (Removed v) = method.removed v
 toAnswer Pushed = method.pushed
 toAnswer (Popped v) = method.popped v
+toAnswer Added = method.added
+toAnswer (Taken v) = method.taken v
 toAnswer Empty = method.empty
 toAnswer Full = method.full
 

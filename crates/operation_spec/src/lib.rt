@@ -8,6 +8,8 @@ pub enum Op {
     Remove(u32),
     Push(u64),
     Pop,
+    Add(u64),
+    Take,
 }
 
 pub enum Answer {
@@ -18,6 +20,8 @@ pub enum Answer {
     Removed(u64),
     Pushed,
     Popped(u64),
+    Added,
+    Taken(u64),
     Empty,
     Full,
 }

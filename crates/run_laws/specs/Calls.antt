@@ -84,6 +84,8 @@ module _ {T : Type 0} where
   program-same nil (answer.remove key) x y limit entries l e = refl
   program-same nil (answer.push value) x y limit entries l e = rw e
   program-same nil answer.pop x y limit entries l e = refl
+  program-same nil (answer.add value) x y limit entries l e = rw e
+  program-same nil answer.take x y limit entries l e = refl
 
   -- Any program depends on the spare draws of its structure alone.
   pub program-agrees : {s : Structure} (nil : T) (op : Op s) (x y : ℕ → T) (limit entries : ℕ) (l : Link T)
@@ -91,6 +93,7 @@ module _ {T : Type 0} where
   unfolding spare
   program-agrees {s = answer.map} nil op x y limit entries l e = program-same nil op x y limit entries l (e 0 (omega arith))
   program-agrees {s = answer.stack} nil op x y limit entries l e = program-same nil op x y limit entries l (e 0 (omega arith))
+  program-agrees {s = answer.heap} nil op x y limit entries l e = program-same nil op x y limit entries l (e 0 (omega arith))
 
   -- ---- a list of calls after another
 

@@ -1,5 +1,5 @@
 -- How many nodes a call wants, on any content whose nodes pass the fetch tests: for the map at most three for each level
--- of the height that the root link says, for the stack at most one.
+-- of the height that the root link says, for the stack at most one, for the heap three for each level of its entries.
 use Prim.Native.Nat.{ℕ, zero, suc, _+_, _*_, _≤_, _<_}
 use mathlib.Core.Path.{_≡_, refl}
 use mathlib.Core.Bool.{Bool, true, false, not}
@@ -19,12 +19,14 @@ use Rattle.method_spec.specs.Map.{Step, Sub, stub, Spot, gap, hit, start, stepA
 use Rattle.method_spec.specs.Stack.{pushProg, popProg, stackTest}
 use Rattle.method_spec.specs.Call.{program, test}
 use Rattle.method_spec.specs.Safe.{Within, stops, asks}
+use Rattle.run_laws.specs.HeapWithin.{mostInHeap, heap-within}
 use Rattle.run_laws.specs.SafeLaws.{within-more, within-pick, within-bind, WithinTo, stops-with, asks-with, withinTo-then, within-map}
 
--- How many nodes a call of a structure wants at most, by the height that the root link says.
-abbrev pub mostWanted : Structure → ℕ → ℕ
-mostWanted answer.map height = 3 * height
-mostWanted answer.stack height = 1
+-- How many nodes a call of a structure wants at most, by the entries and the height that the root link says.
+abbrev pub mostWanted : Structure → (entries height : ℕ) → ℕ
+mostWanted answer.map entries height = 3 * height
+mostWanted answer.stack entries height = 1
+mostWanted answer.heap entries height = mostInHeap entries
 
 module _ {T : Type 0} where
   -- ---- what the map's fetch tests say of heights
@@ -200,7 +202,8 @@ module _ {T : Type 0} where
   -- ---- any structure
 
   pub program-within : {s : Structure} (nil : T) (op : Op s) (spares : ℕ → T) (limit entries : ℕ) (l : Link T)
-      → Within (test s entries) (mostWanted s (l .height)) (program nil op spares limit entries l)
+      → Within (test s entries) (mostWanted s entries (l .height)) (program nil op spares limit entries l)
   unfolding test
   program-within {s = answer.map} nil op spares limit entries l = map-within nil op spares limit entries l
   program-within {s = answer.stack} nil op spares limit entries l = stack-within nil op spares limit entries l
+  program-within {s = answer.heap} nil op spares limit entries l = heap-within nil op spares limit entries l

@@ -3,8 +3,10 @@ pub mod Fetches
 pub mod Natural
 pub mod StackNatural
 pub mod MapNatural
+pub mod HeapNatural
 pub mod Leaves
 pub mod RoundsLaws
+pub mod HeapWithin
 pub mod EnoughRounds
 pub mod Calls
 pub mod Answers

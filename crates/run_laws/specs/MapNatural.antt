@@ -67,11 +67,11 @@ module _ {T S : Type 0} (f : T → S) where
 
   -- ---- subtrees at hand
 
-  child-natural : (s : Bool) (n : Node T) → child s (mapNode f n) ≡ mapLink f (child s n)
+  pub child-natural : (s : Bool) (n : Node T) → child s (mapNode f n) ≡ mapLink f (child s n)
   child-natural true n = refl
   child-natural false n = refl
 
-  withChild-natural : (s : Bool) (n : Node T) (l : Link T) → withChild s (mapNode f n) (mapLink f l) ≡ mapNode f (withChild s n l)
+  pub withChild-natural : (s : Bool) (n : Node T) (l : Link T) → withChild s (mapNode f n) (mapLink f l) ≡ mapNode f (withChild s n l)
   withChild-natural true n l = refl
   withChild-natural false n l = refl
 

@@ -13,3 +13,4 @@ pub some-rounds : (s : Structure) (k : ℕ) → 1 ≤ k → 1 ≤ rounds s k
 unfolding rounds least shaped tallest greatest
 some-rounds answer.map k h = let least-one : 1 ≤ greatest k = greatest-mono h in omega arith
 some-rounds answer.stack k h = omega arith
+some-rounds answer.heap k h = omega arith

@@ -1,0 +1,1 @@
+// Heaps: complete ordered trees of numbers, and the heap of the method over them; no code.

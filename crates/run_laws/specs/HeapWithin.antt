@@ -1,0 +1,111 @@
+-- How many nodes a call of the heap wants, on any content: one for each turn of its way, and for a take the last position and
+-- two for each level that its number may sink.
+use Prim.Native.Nat.{ℕ, zero, suc, _+_, _*_, _/_, _%_, _^_, _≤_, _<_, max}
+use mathlib.Core.Path.{_≡_, refl}
+use mathlib.Core.Bool.{Bool, true, false}
+use mathlib.Core.List.{List, [], _∷_, _++_}
+use native.Mathlib.Omega.{arith}
+use lib.Dec.{eqb, ltb, leb}
+use lib.ListN.{length, length-append}
+use borrow.Author.Tests.{leb-false}
+use Rattle.list_spec.specs.Choice.{pick}
+use Rattle.method_spec.specs.Node.{Node, Link, absent, withChild, linkOne}
+use Rattle.method_spec.specs.Prog.{Want, Prog, done, want}
+use Rattle.method_spec.specs.Answer.{heap, Op, add, take}
+use Rattle.method_spec.specs.Map.{start}
+use Rattle.method_spec.specs.Heap.{Pass, Lower, childless, lower, turnsTo, wayTo, beneath, descend, addProg, downward, childOf, smaller, above, sunk, sink, replaceRoot, takeProg}
+use Rattle.method_spec.specs.Call.{program}
+use Rattle.method_spec.specs.Safe.{Within, stops, asks}
+use Rattle.run_laws.specs.SafeLaws.{within-more, within-pick, within-bind, WithinTo, stops-with, asks-with, withinTo-then, within-map}
+
+-- ---- ways
+-- A position below 2^(k + 1) has at most k turns.
+pub turns-few : (fuel k i : ℕ) → i < 2 ^ suc k → length (turnsTo fuel i) ≤ k
+unfolding turnsTo
+turns-few zero k i h = omega arith
+turns-few (suc fuel) k i h = go (λ k. turns-few fuel k (i / 2)) (leb i 1) refl k h
+  where
+    go : ((k : ℕ) → i / 2 < 2 ^ suc k → length (turnsTo fuel (i / 2)) ≤ k) → (b : Bool) → leb i 1 ≡ b
+        → (k : ℕ) → i < 2 ^ suc k → length (pick b [] (turnsTo fuel (i / 2) ++ (eqb (i % 2) 0 ∷ []))) ≤ k
+    go few true e k h = omega arith
+    go few false e zero h = let more = leb-false i 1 e in let z : ⊥ = omega arith in absurd z
+    go few false e (suc k) h =
+        let half : i / 2 < 2 ^ suc k = omega arith in
+        omega (arith, few k half, length-append (turnsTo fuel (i / 2)) (eqb (i % 2) 0 ∷ []))
+
+-- How many nodes a call of a heap with so many entries wants at most.
+abbrev pub mostInHeap : ℕ → ℕ
+mostInHeap entries = max (length (wayTo (suc entries))) (3 * length (wayTo entries) + 1)
+
+pub heap-rounds : (k entries : ℕ) → 1 ≤ k → entries < 2 ^ k → mostInHeap entries ≤ 3 * k
+heap-rounds zero entries some h = let z : ⊥ = omega arith in absurd z
+heap-rounds (suc k) entries some h =
+    let next : suc entries < 2 ^ suc (suc k) = omega arith in
+    omega (arith, turns-few entries k entries h, turns-few (suc entries) (suc k) (suc entries) next)
+
+pub downward-length : {T : Type 0} (l : Link T) (path below : List (Pass T)) → length (downward l path below) ≡ length path + length below
+unfolding downward
+downward-length l [] below = omega arith
+downward-length l (p ∷ path) below =
+    let n = withChild (p .way) (p .node) l in
+    omega (arith, downward-length (linkOne n) path (record { node = n; way = p .way } ∷ below))
+
+module _ {T : Type 0} {test : Want T → Node T → Bool} where
+  -- ---- the way down
+  descend-within : (more : ℕ) (turns : List Bool) (w : Want T) (path : List (Pass T))
+      → WithinTo test (λ r left. (length (r .path) ≡ length turns + length path) × (more ≤ left)) (length turns + more) (descend turns w path)
+  unfolding descend
+  descend-within more [] w path =
+      let same : length path ≡ 0 + length path = omega arith in
+      let fits : more ≤ 0 + more = omega arith in
+      stops-with (same, fits)
+  descend-within more (s ∷ turns) w path =
+      let e : suc (length turns) + more ≡ suc (length turns + more) = omega arith in
+      let o : suc (length turns) + length path ≡ length turns + suc (length path) = omega arith in
+      rw (e, o) (asks-with (λ n ok. descend-within more turns (beneath n s) (record { node = n; way = s } ∷ path)))
+
+  -- ---- sinking
+  child-within : (w : Want T) (below : List (Pass T)) → Within test 1 (childOf w below)
+  unfolding childOf
+  child-within w [] = within-pick (eqb (w .link .height) 0) stops (asks (λ c ok. stops))
+  child-within w (p ∷ below) = stops
+
+  sunk-within : (most : ℕ) (further : Pass T → List (Pass T) → Prog T (List (Node T)))
+      → ((p : Pass T) (below : List (Pass T)) → Within test most (further p below))
+      → (v : ℕ) (n : Node T) (a b : List (Pass T)) (o : Lower T) → Within test most (sunk further v n a b o)
+  sunk-within most further h v n a b childless = stops
+  sunk-within most further h v n a b (lower c below others) =
+      within-pick (ltb (c .node .value) v) (within-map _ (h c below)) stops
+
+  sink-within : (fuel v : ℕ) (p : Pass T) (below : List (Pass T)) → Within test (2 * fuel) (sink fuel v p below)
+  unfolding sink
+  sink-within zero v p below = stops
+  sink-within (suc fuel) v p below =
+      let e : 2 * suc fuel ≡ 1 + (1 + 2 * fuel) = omega arith in
+      rw e
+      (within-bind _ (child-within (beneath (p .node) true) (pick (p .way) below []))
+      (λ a. within-bind _ (child-within (beneath (p .node) false) (pick (p .way) [] below))
+      (λ b. sunk-within (2 * fuel) (sink fuel v) (sink-within fuel v) v (above true a (above false b (p .node))) a b (smaller a b))))
+
+  replace-within : (nil : T) (entries : ℕ) (z : Node T) (path : List (Pass T)) → Within test (2 * length path) (replaceRoot nil entries z path)
+  unfolding replaceRoot
+  replace-within nil entries z [] = stops
+  replace-within nil entries z (p ∷ below) = within-map _ (sink-within (suc (length below)) (z .value) p below)
+
+  -- ---- the programs
+  pub heap-within : (nil : T) (op : Op heap) (spares : ℕ → T) (limit entries : ℕ) (l : Link T)
+      → Within test (mostInHeap entries) (program nil op spares limit entries l)
+  unfolding program addProg takeProg
+  heap-within nil (add value) spares limit entries l =
+      within-pick (ltb entries limit)
+      (within-more {n = length (wayTo (suc entries)) + 0} (omega arith)
+      (withinTo-then _ (descend-within 0 (wayTo (suc entries)) (start l) []) (λ r left h. stops)))
+      stops
+  heap-within nil take spares limit entries l =
+      let turns = wayTo entries in
+      within-pick (eqb entries 0) stops
+      (within-more {n = length turns + (1 + 2 * length turns)} (omega arith)
+      (withinTo-then _ (descend-within (1 + 2 * length turns) turns (start l) [])
+      (λ r left h. within-more {n = suc (2 * length (downward (absent nil) (r .path) []))}
+      (omega (arith, h, downward-length (absent nil) (r .path) []))
+      (asks (λ z ok. replace-within nil entries z (downward (absent nil) (r .path) []))))))

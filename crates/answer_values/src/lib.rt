@@ -15,6 +15,8 @@ fn answer_value(answer: Answer) -> u64
         Answer::Removed(v) => v,
         Answer::Pushed => 0,
         Answer::Popped(v) => v,
+        Answer::Added => 0,
+        Answer::Taken(v) => v,
         Answer::Empty => 0,
         Answer::Full => 10,
     }

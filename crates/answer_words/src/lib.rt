@@ -18,6 +18,8 @@ fn answer_word(answer: Answer, out: &mut [u8]) -> usize
         Answer::Removed(_) => put_text(b"removed", out, 0),
         Answer::Pushed => put_text(b"pushed", out, 0),
         Answer::Popped(_) => put_text(b"popped", out, 0),
+        Answer::Added => put_text(b"added", out, 0),
+        Answer::Taken(_) => put_text(b"taken", out, 0),
         Answer::Empty => put_text(b"empty", out, 0),
         Answer::Full => put_text(b"refused", out, 0),
     }

@@ -24,8 +24,8 @@ pub record Simulates (k : ℕ) (st : Store) (m : Memory ℕ) : Type 0 where
   pub few : length (st .waiting) ≤ limit
   pub ascends : Ascending leafFormat (st .waiting)
 
--- What a call that met overflow left, by where its fetch rounds came to: the pairs before it where a fetch round closed the store, those
+-- What a call that met overflow left, by where its fetch rounds came to: the pairs as before it where a fetch round closed the store, as
 -- after it where a put round did.
-pub data Remains (before after left : List Pair) : Round (Outcome ℕ) → Type 0 where
-  as-before : (g : Going) → Perm before left → Remains before after left (shut 9 g)
-  as-after : (g : Going) (o : Outcome ℕ) → Perm after left → Remains before after left (on g (done o))
+pub data Remains (Before After : List Pair → Type 0) (left : List Pair) : Round (Outcome ℕ) → Type 0 where
+  as-before : (g : Going) → Before left → Remains Before After left (shut 9 g)
+  as-after : (g : Going) (o : Outcome ℕ) → After left → Remains Before After left (on g (done o))

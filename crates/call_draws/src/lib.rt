@@ -18,7 +18,10 @@ pub fn rounds_of(structure: u8, size: u8) -> usize
     if structure == 1 {
         return 3 * greatest_height(size as usize) as usize;
     }
-    1
+    if structure == 2 {
+        return 1;
+    }
+    3 * size as usize
 }
 
 // The spare draws of a call: those that no round takes.
@@ -26,6 +29,9 @@ pub fn spare_of(structure: u8) -> usize
     ensures { λ r. ⌜ (r ≡ spareOf structure) × (r ≤ mostSpare) ⌝ }
 {
     if structure == 1 {
+        return 1;
+    }
+    if structure == 2 {
         return 1;
     }
     1

@@ -8,13 +8,13 @@ use lib.ListN.{length, drop, replicate}
 use Rattle.list_spec.specs.Choice.{pick}
 use Rattle.slot_spec.specs.Tree.{treeLength}
 use Rattle.method_spec.specs.Node.{Node}
-use Rattle.method_spec.specs.Answer.{Structure, Op, Answer, found, absent, replaced, new, removed, pushed, popped, empty, full}
+use Rattle.method_spec.specs.Answer.{Structure, Op, Answer, found, absent, replaced, new, removed, pushed, popped, added, taken, empty, full}
 use Rattle.method_spec.specs.Rounds.{rounds, draws}
 use Rattle.leaf_spec.specs.Convert.{toLink, fromLink, toNode, fromNode}
 use Rattle.bucket_call_spec.specs.Fetch.{Left}
 use Rattle.bucket_call_spec.specs.Call as bucket
 use Rattle.bucket_call_spec.specs.Call.{drawOf, bucketCall}
-use Rattle.operation_spec.specs.declared.Answer.the-variants.{Found, Absent, Replaced, New, Removed, Pushed, Popped, Empty}
+use Rattle.operation_spec.specs.declared.Answer.the-variants.{Found, Absent, Replaced, New, Removed, Pushed, Popped, Added, Taken, Empty}
 use Rattle.state_spec.specs.declared.Place.{Place}
 use Rattle.state_spec.specs.declared.State.{State}
 use Rattle.call_spec.specs.declared.Reply.{Reply}
@@ -43,6 +43,8 @@ replyOf new = Answered New
 replyOf (removed v) = Answered (Removed v)
 replyOf pushed = Answered Pushed
 replyOf (popped v) = Answered (Popped v)
+replyOf added = Answered Added
+replyOf (taken v) = Answered (Taken v)
 replyOf empty = Answered Empty
 replyOf full = Refused 10
 

@@ -12,9 +12,10 @@ use Rattle.list_spec.specs.Choice.{pick}
 use Rattle.list_spec.specs.Distinct.{All}
 use Rattle.balance_spec.specs.Shape.{shaped}
 use Rattle.method_spec.specs.Node.{Node}
-use Rattle.method_spec.specs.Answer.{Structure, map as the-map, stack as the-stack}
+use Rattle.method_spec.specs.Answer.{Structure, map as the-map, stack as the-stack, heap as the-heap}
 use Rattle.method_spec.specs.Plain.{Contents}
 use Rattle.method_spec.specs.Call.{capacity, Memory}
+use Rattle.heap_laws.specs.HeapFacts.{heap-root}
 use Rattle.method_laws.specs.MapRepresents.{holds-shaped}
 use Rattle.method_laws.specs.Represented.{Held, held-fits}
 use Rattle.round_spec.specs.Round.{limit}
@@ -51,11 +52,14 @@ unfolding rootGood
 root-good st limit t m held = go (decLe 1 (m .entries))
   where
     some-entries : (st : Structure) (t : Contents st) → Held 0 st limit t m → (m .entries ≡ 0 → ⊥)
-        → pick (eqb (numberOf st) 1) (shaped (m .entries) (m .root .height)) (eqb (m .root .height) 1 && eqb (m .root .key) (m .entries)) ≡ true
+        → pick (eqb (numberOf st) 1) (shaped (m .entries) (m .root .height)) (eqb (m .root .height) 1 && eqb (m .root .key) (pick (eqb (numberOf st) 2) (m .entries) 1)) ≡ true
     some-entries the-map t held h = holds-shaped held
     some-entries the-stack t held h =
         let top = root-top 0 limit t m held h in
         rw (eq-eqb (m .root .height) 1 (top .0), eq-eqb (m .root .key) (m .entries) (top .1))
+    some-entries the-heap t held h =
+        let top = heap-root 0 held h in
+        rw (eq-eqb (m .root .height) 1 (top .0), eq-eqb (m .root .key) 1 (top .1))
 
     go : Dec (1 ≤ m .entries) → rootGood (numberOf st) (m .entries) (fromLink (m .root)) ≡ true
     go (yes h) = rw (ne-eqb (m .entries) 0 (λ e. omega arith)) (some-entries st t held (λ e. omega arith))
@@ -68,6 +72,7 @@ root-good st limit t m held = go (decLe 1 (m .entries))
 pub structure-fits : (st : Structure) → inRange (numberOf st) largestStructure ≡ true
 structure-fits the-map = refl
 structure-fits the-stack = refl
+structure-fits the-heap = refl
 
 pub in-range : (n most : ℕ) → 1 ≤ n → n ≤ most → inRange n most ≡ true
 in-range n most low high = rw (lt-ltb 0 n low) (le-leb n most high)

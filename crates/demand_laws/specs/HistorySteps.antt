@@ -8,7 +8,7 @@ use mathlib.Core.List.{List, [], _∷_, _++_}
 use native.Mathlib.Omega.{arith}
 use borrow.Author.Tests.{le-leb}
 use lib.ListN.{length, take, drop}
-use Rattle.method_spec.specs.Answer.{Answer, found, absent, replaced, new, removed, pushed, popped, empty, full}
+use Rattle.method_spec.specs.Answer.{Answer, found, absent, replaced, new, removed, pushed, popped, added, taken, empty, full}
 use Rattle.bucket_call_spec.specs.Fetch.{Left}
 use Rattle.call_spec.specs.Store.{refusing, ending, replied, replyOf}
 use Rattle.demand_spec.specs.History.{Brought, Kept, callOn, leftBy, history, finally, early, counted, replies, traceOf}
@@ -52,6 +52,8 @@ answer-late new = refl
 answer-late (removed v) = refl
 answer-late pushed = refl
 answer-late (popped v) = refl
+answer-late added = refl
+answer-late (taken v) = refl
 answer-late empty = refl
 answer-late full = refl
 

@@ -6,7 +6,7 @@ use mathlib.Core.Bool.{true, false}
 use mathlib.Core.Option.{some}
 use native.Mathlib.Omega.{arith}
 use Rattle.slot_spec.specs.LittleEndian.{Bytes}
-use Rattle.method_spec.specs.Answer.{Structure, map, stack, Op}
+use Rattle.method_spec.specs.Answer.{Structure, map, stack, heap, Op}
 use Rattle.method_spec.specs.Plain.{Contents}
 use Rattle.method_spec.specs.Rounds.{rounds}
 use Rattle.method_spec.specs.Call.{capacity, Memory}
@@ -28,6 +28,7 @@ use Rattle.fitness_laws.specs.Tickets.{op-fits}
 structure-back : (st : Structure) → structureOf (numberOf st) ≡ st
 structure-back map = refl
 structure-back stack = refl
+structure-back heap = refl
 
 module _ (st : Structure) (k : ℕ) where
   -- What the rounds leave, of a store and a call that counts.

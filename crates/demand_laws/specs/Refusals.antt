@@ -5,7 +5,7 @@ use mathlib.Core.Logic.{_⊎_, inl, inr}
 use mathlib.Core.List.{List}
 use native.Mathlib.Omega.{arith}
 use borrow.Author.Tests.{ne-eqb}
-use Rattle.method_spec.specs.Answer.{Answer, found, absent, replaced, new, removed, pushed, popped, empty, full}
+use Rattle.method_spec.specs.Answer.{Answer, found, absent, replaced, new, removed, pushed, popped, added, taken, empty, full}
 use Rattle.method_spec.specs.Rounds.{rounds}
 use Rattle.bucket_call_spec.specs.Fetch.{Left}
 use Rattle.bucket_call_spec.specs.Call.{drawOf}
@@ -30,6 +30,8 @@ full-number new e = cc
 full-number (removed v) e = cc
 full-number pushed e = cc
 full-number (popped v) e = cc
+full-number added e = cc
+full-number (taken v) e = cc
 full-number empty e = cc
 full-number full e = cc
 

@@ -19,7 +19,7 @@ use Rattle.list_laws.specs.DistinctLaws.{all-left, all-right}
 use Rattle.slot_spec.specs.LittleEndian.{Bytes}
 use Rattle.slot_spec.specs.Tree.{treeLength}
 use Rattle.method_spec.specs.Answer.{Structure, Op}
-use Rattle.method_spec.specs.Plain.{Pair, Contents, nothing, plain, plainContents, entriesOf}
+use Rattle.method_spec.specs.Plain.{Pair, Contents, nothing, plain, plainContents, Entries}
 use Rattle.method_spec.specs.Map.{Outcome}
 use Rattle.method_spec.specs.Rounds.{rounds}
 use Rattle.method_spec.specs.Call.{capacity, Memory, Called, call}
@@ -27,7 +27,7 @@ use Rattle.method_laws.specs.Represented.{Held}
 use Rattle.bucket_call_spec.specs.Fetch.{Left, Round}
 use Rattle.bucket_call_spec.specs.Call.{Store, drawOf, fetchedBy}
 use Rattle.leaf_spec.specs.Entries.{OpFits}
-use Rattle.simulation_laws.specs.Entries.{held-entries}
+use Rattle.simulation_laws.specs.Entries.{held-entries, entries-perm}
 use Rattle.simulation_laws.specs.ProperCall.{call-held}
 use Rattle.bucket_call_spec.specs.Simulates.{Simulates, Remains, as-before, as-after}
 use Rattle.simulation_laws.specs.Relation.{storeEntries, Matches, Overflowed}
@@ -96,10 +96,11 @@ split s (b ∷ bs) = go (eqb (callOn s b .state .mark) 0) refl (split-cons s b (
 
 -- ---- the call that closes the store
 
-remains-of : {before after before′ after′ left : List Pair} {x : Round (Outcome ℕ)} → Perm before′ before → Perm after′ after
-    → Remains before after left x → Remains before′ after′ left x
-remains-of p q (as-before g h) = as-before g (trans p h)
-remains-of p q (as-after g o h) = as-after g o (trans q h)
+remains-of : {Before After Before′ After′ : List Pair → Type 0} {left : List Pair} {x : Round (Outcome ℕ)}
+    → ((ps : List Pair) → Before ps → Before′ ps) → ((ps : List Pair) → After ps → After′ ps)
+    → Remains Before After left x → Remains Before′ After′ left x
+remains-of {left = left} p q (as-before g h) = as-before g (p left h)
+remains-of {left = left} p q (as-after g o h) = as-after g o (q left h)
 
 module _ (st : Structure) (k : ℕ) (positive : 1 ≤ k) (small : k ≤ 8) (s : Store) (m : Memory ℕ) (sim : Simulates k s m)
     (t : Contents st) (held : Held 0 st (capacity k) t m) (b : Brought) where
@@ -131,9 +132,9 @@ module _ (st : Structure) (k : ℕ) (positive : 1 ≤ k) (small : k ≤ 8) (s : 
           rest = x .rest;
           reveals = rw (e, first-part (l .leaves) (drop (length (l .leaves)) (b .trace)), append-nil) (x .leaves);
           contents =
-              subst₂ (Remains (entriesOf st t) (entriesOf st (plain (capacity k) op t .contents))) (sym pairs) (sym (ap came (store-back st k s)))
-              (remains-of (perm-sym (held-entries 0 st (capacity k) t m held))
-              (perm-sym (held-entries 0 st (capacity k) _ (r .memory) (call-held k (omega arith) t m held op (drawOf k (b .tape)))))
+              subst₂ (Remains (Entries st t) (Entries st (plain (capacity k) op t .contents))) (sym pairs) (sym (ap came (store-back st k s)))
+              (remains-of (λ ps p. entries-perm st t p (held-entries 0 st (capacity k) t m held))
+              (λ ps p. entries-perm st _ p (held-entries 0 st (capacity k) _ (r .memory) (call-held k (omega arith) t m held op (drawOf k (b .tape)))))
               (x .nothing-lost));
         }
 

@@ -15,7 +15,7 @@ use Rattle.slot_spec.specs.Tree.{passes, slotLength}
 use Rattle.slot_spec.specs.declared.Node as slot
 use Rattle.slot_spec.specs.declared.Reading.the-variants.{Full}
 use Rattle.method_spec.specs.Answer.{Structure, Op}
-use Rattle.method_spec.specs.Plain.{Contents, plain, plainContents, plainAnswers, nothing, entriesOf}
+use Rattle.method_spec.specs.Plain.{Contents, plain, plainContents, plainAnswers, nothing, Entries}
 use Rattle.method_spec.specs.Node.{Node}
 use Rattle.method_spec.specs.Call.{capacity, Memory, call, Ran}
 use Rattle.bucket_call_spec.specs.Simulates.{Simulates, Remains}
@@ -116,7 +116,7 @@ pub record ClosedBy (st : Structure) (k : ℕ) (s : Kept) (m : Memory ℕ) (t : 
   pub overflow : callOn s b .reply ≡ Refused 9
   pub rest : List ℕ
   pub reveals : call 0 (rounds st k) (capacity k) op (drawOf k (b .tape)) m .revealed ≡ traceOf (callOn s b ∷ []) ++ rest
-  pub contents : Remains (entriesOf st t) (entriesOf st (plain (capacity k) op t .contents)) (pairsIn (callOn s b .state) (callOn s b .tree))
+  pub contents : Remains (Entries st t) (Entries st (plain (capacity k) op t .contents)) (pairsIn (callOn s b .state) (callOn s b .tree))
       (fetching (s .state) (s .tree) (b .ticket) (b .tape) (b .trace) st op)
 
 module _ (st : Structure) (k : ℕ) (tree : List ℕ) (bs : List Brought) where

@@ -7,7 +7,7 @@ use lib.Dec.{eqb, leb}
 use lib.ListN.{take}
 use Rattle.leaf_spec.specs.Entries.{pairOf}
 use Rattle.list_spec.specs.Choice.{pick}
-use Rattle.method_spec.specs.Answer.{Structure, map as the-map, stack as the-stack, Op}
+use Rattle.method_spec.specs.Answer.{Structure, map as the-map, stack as the-stack, heap as the-heap, Op}
 use Rattle.method_spec.specs.Plain.{Pair}
 use Rattle.round_spec.specs.Whole.{contents}
 use Rattle.leaf_spec.specs.Convert.{toNode}
@@ -85,7 +85,8 @@ abbrev pub pairsIn : State → List ℕ → List Pair
 pairsIn s tree =
     map pairOf (contents leafFormat (s .size) tree ++ map (λ (p : Place). toNode (p .node)) (used s))
 
--- The structure's number: 1 map, 2 stack.
+-- The structure's number: 1 map, 2 stack, 3 heap.
 abbrev pub numberOf : Structure → ℕ
 numberOf the-map = 1
 numberOf the-stack = 2
+numberOf the-heap = 3

@@ -10,8 +10,8 @@ ghost use Rattle.state_spec.specs.Fit.{zeroLink, rootGood, inRange};
 ghost use Rattle.state_spec.specs.Head.{headFits};
 ghost use Rattle.fitness.specs.Refusal.{headRefusal};
 
-// Structures are numbered from 1: map, stack. Sizes are 1 to 8.
-pub const LARGEST_STRUCTURE: u8 = 2;
+// Structures are numbered from 1: map, stack, heap. Sizes are 1 to 8.
+pub const LARGEST_STRUCTURE: u8 = 3;
 
 pub const LARGEST_SIZE: u8 = 8;
 
@@ -47,7 +47,10 @@ fn root_good(structure: u8, entries: u16, root: Link) -> bool
     if root.height != 1 {
         return false;
     }
-    root.key == entries as u32
+    if structure == 2 {
+        return root.key == entries as u32;
+    }
+    root.key == 1
 }
 
 // The root's tag is a leaf, and the root is one that so many entries have.

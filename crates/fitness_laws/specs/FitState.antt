@@ -16,7 +16,8 @@ use Rattle.balance_laws.specs.ShapeLaws.{shaped-bounds}
 use Rattle.balance_laws.specs.GreatestLaws.{shaped-at-most-greatest}
 use Rattle.slot_spec.specs.Slot.{wellFormed}
 use Rattle.slot_spec.specs.declared.Link.{Link}
-use Rattle.method_spec.specs.Answer.{map, stack}
+use Rattle.method_spec.specs.Answer.{Structure, map, stack, heap}
+use Rattle.leaf_spec.specs.Convert.{toLink}
 use Rattle.round_spec.specs.Round.{limit}
 use Rattle.state_spec.specs.declared.Place.{Place}
 use Rattle.state_spec.specs.declared.State.{State}
@@ -24,6 +25,7 @@ use Rattle.state_spec.specs.Fit.{largestStructure, largestSize, inRange, zeroLi
 use Rattle.state_laws.specs.FitLaws.{in-range-true}
 use Rattle.state_spec.specs.Ticket.{structureOf}
 use Rattle.list_spec.specs.Ascending.{ascending}
+use Rattle.none_lost_laws.specs.Given.{RootFor}
 use Rattle.none_lost_laws.specs.Ends.{highest}
 
 -- ---- the places
@@ -46,26 +48,51 @@ zero-link l e =
     let others = and-eq-true-iff (eqb (l .key) 0) (eqb (l .tag) 0) .0 (first .1) in
     (eqb-true (l .height) 0 (first .0), (eqb-true (l .key) 0 (others .0), eqb-true (l .tag) 0 (others .1)))
 
--- A good root link is no higher than a tree of so many entries may be, and an absent one is all zero.
-root-fits : (k structure entries : ℕ) (l : Link) → entries < 2 ^ k → rootGood structure entries l ≡ true
-    → (l .height ≤ highest (structureOf structure) k) × (l .height ≡ 0 → (l .key ≡ 0) × (l .tag ≡ 0))
-unfolding rootGood highest
-root-fits k structure entries l few good = go (eqb entries 0) refl (eqb structure 1) good
+-- A good root link is no higher than a tree of so many entries may be, an absent one is all zero, and a heap's leads to position 1.
+pub record RootFits (st : Structure) (k entries : ℕ) (l : Link) : Type 0 where
+  pub low : l .height ≤ highest st k
+  pub absent-zero : l .height ≡ 0 → (l .key ≡ 0) × (l .tag ≡ 0)
+  pub rooted : RootFor st entries (toLink l)
+
+no-root : (st : Structure) (k entries : ℕ) (l : Link) → entries ≡ 0 → zeroLink l ≡ true → RootFits st k entries l
+no-root st k entries l none h =
+    let z = zero-link l h in
+    record { low = omega arith; absent-zero = λ absent. z .1; rooted = without st }
   where
-    go : (none : Bool) → eqb entries 0 ≡ none → (is-map : Bool)
-        → pick none (zeroLink l) (pick is-map (shaped entries (l .height)) (eqb (l .height) 1 && eqb (l .key) entries)) ≡ true
-        → (l .height ≤ highest (pick is-map map stack) k) × (l .height ≡ 0 → (l .key ≡ 0) × (l .tag ≡ 0))
-    go true e is-map h = let z = zero-link l h in (omega arith, λ absent. z .1)
-    go false e true h = (
-      shaped-at-most-greatest k entries (l .height) h few,
-      λ absent.
-          let some = eqb-false entries 0 e in
-          let below : entries < 2 ^ 0 = rw absent at (shaped-bounds entries (l .height) h .1) in
-          absurd (some (omega arith)),
-    )
-    go false e false h =
+    without : (st : Structure) → RootFor st entries (toLink l)
+    without map = tt
+    without stack = tt
+    without heap = λ some. absurd (some none)
+
+root-fits : (k structure entries : ℕ) (l : Link) → entries < 2 ^ k → rootGood structure entries l ≡ true
+    → RootFits (structureOf structure) k entries l
+unfolding rootGood highest
+root-fits k structure entries l few good = go (eqb entries 0) refl (eqb structure 1) (eqb structure 2) good
+  where
+    go : (none : Bool) → eqb entries 0 ≡ none → (is-map is-stack : Bool)
+        → pick none (zeroLink l) (pick is-map (shaped entries (l .height)) (eqb (l .height) 1 && eqb (l .key) (pick is-stack entries 1))) ≡ true
+        → RootFits (pick is-map map (pick is-stack stack heap)) k entries l
+    go true e is-map is-stack h = no-root (pick is-map map (pick is-stack stack heap)) k entries l (eqb-true entries 0 e) h
+    go false e true is-stack h =
+        record {
+          low = shaped-at-most-greatest k entries (l .height) h few;
+          absent-zero = λ absent.
+              let some = eqb-false entries 0 e in
+              let below : entries < 2 ^ 0 = rw absent at (shaped-bounds entries (l .height) h .1) in
+              absurd (some (omega arith));
+          rooted = tt;
+        }
+    go false e false true h =
         let one = eqb-true (l .height) 1 (and-eq-true-iff (eqb (l .height) 1) (eqb (l .key) entries) .0 h .0) in
-        (omega arith, λ absent. let z : ⊥ = omega arith in absurd z)
+        record { low = omega arith; absent-zero = λ absent. let z : ⊥ = omega arith in absurd z; rooted = tt }
+    go false e false false h =
+        let both = and-eq-true-iff (eqb (l .height) 1) (eqb (l .key) 1) .0 h in
+        let one = eqb-true (l .height) 1 (both .0) in
+        record {
+          low = omega arith;
+          absent-zero = λ absent. let z : ⊥ = omega arith in absurd z;
+          rooted = λ some. (λ (z : l .height ≡ 0). omega arith, eqb-true (l .key) 1 (both .1));
+        }
 
 -- ---- the state
 pub record FitState (s : State) : Type 0 where
@@ -78,6 +105,7 @@ pub record FitState (s : State) : Type 0 where
   pub root-tag : s .root .tag < 2 ^ s .size
   pub low : s .root .height ≤ highest (structureOf (s .structure)) (s .size)
   pub absent-zero : s .root .height ≡ 0 → (s .root .key ≡ 0) × (s .root .tag ≡ 0)
+  pub rooted : RootFor (structureOf (s .structure)) (s .entries) (toLink (s .root))
 
 pub fit-state : (s : State) → fits s ≡ true → FitState s
 unfolding fits
@@ -101,6 +129,7 @@ fit-state s e =
       well-formed = λ p m. and-eq-true-iff (p .full) (wellFormed (s .size) (p .node)) .0 (good p m) .1;
       order = and-eq-true-iff (ascending (keysIn (used s))) _ .0 (h .1) .0;
       root-tag = ltb-true (s .root .tag) (2 ^ s .size) (g .0);
-      low = root .0;
-      absent-zero = root .1;
+      low = root .low;
+      absent-zero = root .absent-zero;
+      rooted = root .rooted;
     }

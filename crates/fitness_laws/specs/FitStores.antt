@@ -46,4 +46,5 @@ fit-store s tree fit sized bytes widths =
           };
       low = f .low;
       entries = f .entries;
+      rooted = f .rooted;
     }

@@ -11,7 +11,7 @@ use lib.ListN.{length, take, drop, length-take}
 use Rattle.list_spec.specs.Choice.{pick}
 use Rattle.slot_spec.specs.LittleEndian.{value, Bytes}
 use Rattle.slot_laws.specs.LittleEndianLaws.{value-below, bytes-take, bytes-drop}
-use Rattle.method_spec.specs.Answer.{Structure, map, stack, Op, get, put, remove, push, pop}
+use Rattle.method_spec.specs.Answer.{Structure, map, stack, heap, Op, get, put, remove, push, pop, add, take as take-smallest}
 use Rattle.leaf_spec.specs.Entries.{OpFits}
 use Rattle.state_spec.specs.Ticket.{kindIn, keyIn, valueIn, opIn}
 
@@ -47,6 +47,12 @@ module _ (t : List ℕ) (h : Bytes t) where
   asked-fits stack = go (eqb (kindIn t) 4) (eqb (kindIn t) 5)
     where
       go : (a b : Bool) → AskedFits {st = stack} (pick a (some (push (valueIn t))) (pick b (some pop) none))
+      go true b = value-in-fits
+      go false true = tt
+      go false false = tt
+  asked-fits heap = go (eqb (kindIn t) 6) (eqb (kindIn t) 7)
+    where
+      go : (a b : Bool) → AskedFits {st = heap} (pick a (some (add (valueIn t))) (pick b (some take-smallest) none))
       go true b = value-in-fits
       go false true = tt
       go false false = tt

@@ -1,1 +1,13 @@
+pub mod Ways
 pub mod HeapTree
+pub mod HeapFacts
+pub mod Plugs
+pub mod Order
+pub mod Plugged
+pub mod Descend
+pub mod Rising
+pub mod Adding
+pub mod Spine
+pub mod Sinking
+pub mod Taking
+pub mod HeapRepresents

@@ -1,9 +1,9 @@
 -- Laws of permutations: an equivalence, kept by append and map, with the same members, and with a head that cancels.
-use mathlib.Core.Path.{_≡_, refl, sym, _∙_, ap, subst}
+use mathlib.Core.Path.{_≡_, refl, sym, _∙_, ap, ap₂, subst}
 use mathlib.Core.Logic.{_⊎_, inl, inr, ⊎-elim}
 use mathlib.Core.List.{List, [], _∷_, _++_, map, append-nil, append-assoc, List·Memᴰ, List·Memᴰ·head, List·Memᴰ·tail, List·Memᴰ·cases-cons, List·Memᴰ·not-nil, List·Memᴰ·eq-of-singleton}
 use lib.ListN.{length}
-use Prim.Native.Nat.{suc}
+use Prim.Native.Nat.{ℕ, suc}
 use native.Mathlib.Omega.{arith}
 use Rattle.list_spec.specs.Perm.{Perm, nil, cons, swap, trans}
 
@@ -148,3 +148,24 @@ module _ {A B : Type 0} where
   perm-map f (cons a p) = cons (f a) (perm-map f p)
   perm-map f (swap a b xs) = swap (f a) (f b) (map f xs)
   perm-map f (trans p q) = trans (perm-map f p) (perm-map f q)
+
+  -- A permutation of what the function gives is one of the list.
+  pub perm-of-map : (f : A → B) {zs ks : List B} → Perm zs ks → (xs : List A) → map f xs ≡ zs → (ys : List A) × (Perm xs ys × (map f ys ≡ ks))
+  perm-of-map f nil [] e = ([], (nil, refl))
+  perm-of-map f nil (x ∷ xs) e = let z : _≡_ {A = ℕ} 0 1 = cc in absurd (omega arith)
+  perm-of-map f (cons a p) [] e = let z : _≡_ {A = ℕ} 0 1 = cc in absurd (omega arith)
+  perm-of-map f (cons a {ys = bs} p) (x ∷ xs) e =
+      let first : f x ≡ a = cc in
+      let r = perm-of-map f p xs (cc) in
+      (x ∷ r .0, (cons x (r .1 .0), ap₂ (λ (b : B) (cs : List B). b ∷ cs) first (r .1 .1)))
+  perm-of-map f (swap a b zs) [] e = let z : _≡_ {A = ℕ} 0 1 = cc in absurd (omega arith)
+  perm-of-map f (swap a b zs) (x ∷ []) e = let z : _≡_ {A = ℕ} 0 1 = cc in absurd (omega arith)
+  perm-of-map f (swap a b zs) (x ∷ y ∷ xs) e =
+      let first : f x ≡ a = cc in
+      let second : f y ≡ b = cc in
+      let others : map f xs ≡ zs = cc in
+      (y ∷ x ∷ xs, (swap x y xs, rw (first, second, others)))
+  perm-of-map f (trans p q) xs e =
+      let r = perm-of-map f p xs e in
+      let t = perm-of-map f q (r .0) (r .1 .1) in
+      (t .0, (trans (r .1 .0) (t .1 .0), t .1 .1))

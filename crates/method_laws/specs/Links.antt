@@ -1,5 +1,6 @@
 -- The links that lead to a node are one to each node, with its key, its tag and, for the map, its height.
 use mathlib.Core.Path.{_≡_, refl, sym, _∙_, ap}
+use mathlib.Core.Bool.{true, false}
 use mathlib.Core.List.{List, [], _∷_, _++_, map, map-append, append-nil, append-assoc}
 use Prim.Native.Nat.{ℕ, max}
 use lib.Dec.{eqb, eqb·suc-zero}
@@ -8,12 +9,14 @@ use Rattle.list_spec.specs.Perm.{Perm, nil as perm-none, cons, swap, trans}
 use Rattle.list_laws.specs.PermLaws.{perm-sym, perm-of-eq, perm-append, perm-append-left, perm-map}
 use Rattle.list_laws.specs.Shuffle.{part, _&_, shuffle}
 use Rattle.balance_spec.specs.Tree.{Tree, leaf, node, height}
-use Rattle.method_spec.specs.Node.{Link, Node, linkTo}
+use Rattle.method_spec.specs.Node.{Link, Node, linkTo, linkOne}
 use Rattle.method_spec.specs.Answer.{Structure}
 use Rattle.method_spec.specs.Answer as answer
 use Rattle.method_spec.specs.Plain.{Contents}
 use Rattle.method_spec.specs.Call.{Memory}
+use Rattle.method_spec.specs.Heap.{childPosition}
 use Rattle.run_laws.specs.StackRepresents.{Cell, chainLink, chain}
+use Rattle.heap_laws.specs.HeapTree.{heapLink, heapNodes}
 use Rattle.avl_laws.specs.Search.{Entry, linkTree, nodesOf}
 use Rattle.avl_laws.specs.View.{link-node}
 use Rattle.method_laws.specs.Represented.{Held}
@@ -35,7 +38,8 @@ module _ {T : Type 0} where
   -- The link that leads to a node.
   abbrev pub linkFor : Structure → Node T → Link T
   linkFor answer.map n = linkTo n
-  linkFor answer.stack n = record { height = 1; key = n .key; tag = n .tag }
+  linkFor answer.stack n = linkOne n
+  linkFor answer.heap n = linkOne n
 
   -- ---- laws
 
@@ -79,6 +83,20 @@ module _ {T : Type 0} where
         ap (λ (ls : List (Link T)). chainLink nil (c ∷ cs) ∷ ls)
         (ap (λ (ls : List (Link T)). ls ++ sideLinks (chain nil cs)) (append-nil (followed (chainLink nil cs))) ∙ chain-links cs)
 
+    heap-links : (i : ℕ) (t : Tree (Cell T))
+        → Perm (followed (heapLink nil i t) ++ sideLinks (heapNodes nil i t)) (map linkOne (heapNodes nil i t))
+    unfolding followed sideLinks heapLink heapNodes
+    heap-links i leaf = perm-none
+    heap-links i (node l c r) =
+        let left = heapNodes nil (childPosition true i) l in
+        let right = heapNodes nil (childPosition false i) r in
+        rw (links-append left right, map-append linkOne left right)
+        (cons (heapLink nil i (node l c r))
+        (trans
+        (shuffle (followed (heapLink nil (childPosition true i) l) ∷ followed (heapLink nil (childPosition false i) r) ∷ sideLinks left ∷ sideLinks right ∷ [])
+        ((part 0 & part 1) & (part 2 & part 3)) ((part 0 & part 2) & (part 1 & part 3)) refl)
+        (perm-append (heap-links (childPosition true i) l) (heap-links (childPosition false i) r))))
+
     pub one-link : (s : Structure) (limit : ℕ) (t : Contents s) (m : Memory T) → Held nil s limit t m
         → Perm (allLinks m) (map (linkFor s) (m .nodes))
     one-link answer.map limit t m h =
@@ -89,3 +107,7 @@ module _ {T : Type 0} where
         rw (h .rooted)
         (trans (perm-append-left (followed (chainLink nil (h .cells))) (links-perm (h .there)))
         (trans (perm-of-eq (chain-links (h .cells))) (perm-map (linkFor answer.stack) (perm-sym (h .there)))))
+    one-link answer.heap limit t m h =
+        rw (h .linked)
+        (trans (perm-append-left (followed (heapLink nil 1 (h .tree))) (links-perm (h .stored)))
+        (trans (heap-links 1 (h .tree)) (perm-map linkOne (perm-sym (h .stored)))))

@@ -17,7 +17,7 @@ use Rattle.method_spec.specs.Node.{Node}
 use Rattle.method_spec.specs.Prog.{Want, Prog}
 use Rattle.method_spec.specs.Map.{Outcome}
 use Rattle.method_spec.specs.Answer as answer
-use Rattle.method_spec.specs.Answer.{Structure, stack, Op}
+use Rattle.method_spec.specs.Answer.{Structure, stack, heap, Op}
 use Rattle.method_spec.specs.Plain.{Pair, Contents, nothing, plainContents, plainAnswers}
 use Rattle.method_spec.specs.Rounds.{rounds, draws}
 use Rattle.method_spec.specs.Call.{capacity, program, test, Memory, emptyMemory, run, Ran}
@@ -31,6 +31,8 @@ use Rattle.run_laws.specs.Answers.{run-answers, represents-keeps}
 use Rattle.run_laws.specs.Calls.{Keeps}
 use Rattle.run_laws.specs.Origins.{callOf, drawOf, drawn-of, OnTape, names-count, names-prefix, names-once, names-on-tapes, name-at}
 use Rattle.run_laws.specs.StackRepresents.{HoldsStack, chain-countdown, cells-counted, countdown}
+use Rattle.heap_laws.specs.HeapTree.{HoldsHeap}
+use Rattle.heap_laws.specs.HeapFacts.{heap-keys}
 use Rattle.avl_laws.specs.Search.{Holds}
 use Rattle.avl_laws.specs.Holds.{holds-height, holds-entries}
 use Rattle.method_laws.specs.MapRepresents.{holds-low, holds-shaped}
@@ -49,6 +51,11 @@ pub record MapShape {T : Type 0} (nil : T) (k : ℕ) (table : List Pair) (m : Me
 -- The stack's memory: a chain of nodes with the keys entries, entries - 1, .., 1.
 pub record StackShape {T : Type 0} (nil : T) (k : ℕ) (values : List ℕ) (m : Memory T) : Type 0 where
   pub holds : HoldsStack nil (capacity k) values m
+  pub numbered : Perm (keys (m .nodes)) (countdown (m .entries))
+
+-- The heap's memory: the complete tree of positions 1 to entries, every number at least its parent's; see HoldsHeap.
+pub record HeapShape {T : Type 0} (nil : T) (k : ℕ) (numbers : List ℕ) (m : Memory T) : Type 0 where
+  pub holds : HoldsHeap nil (capacity k) numbers m
   pub numbered : Perm (keys (m .nodes)) (countdown (m .entries))
 
 module _ {T : Type 0} (nil : T) (k : ℕ) (draw : ℕ → ℕ → T) where
@@ -90,6 +97,9 @@ module _ {T : Type 0} (nil : T) (k : ℕ) (draw : ℕ → ℕ → T) where
             trans (perm-map (λ (n : Node T). n .key) (h .there))
             (perm-of-eq (chain-countdown nil (h .cells) ∙ ap countdown (sym (cells-counted nil (capacity k) _ _ h))));
       }
+
+  pub heap-shape : (ops : List (Op heap)) → HeapShape nil k (plainContents (capacity k) ops (nothing heap)) (ran ops .memory)
+  heap-shape ops = let h = held ops in record { holds = h; numbered = heap-keys nil h }
 
   -- Each node has one link to it, with its key, its tag and its height, and there is no other link.
   pub one-link-each : {s : Structure} (ops : List (Op s))

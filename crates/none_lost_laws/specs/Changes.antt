@@ -1,12 +1,16 @@
 -- What a call changes: the entries that it takes out and those that it adds, by its answer; and what a step yields on any content.
-use mathlib.Core.List.{List, [], _∷_}
+use mathlib.Core.List.{List, [], _∷_, _++_}
+use mathlib.Core.List as list
 use Prim.Native.Nat.{ℕ, suc, _+_, _*_}
 use Rattle.method_spec.specs.Node.{Link, Node}
-use Rattle.method_spec.specs.Answer.{Structure, map, stack, Op, get, put, remove, push, pop, Answer, found, absent, replaced, new, removed, pushed, popped, empty, full}
+use Rattle.method_spec.specs.Answer.{Structure, map, stack, heap, Op, get, put, remove, push, pop, add, take, Answer, found, absent, replaced, new, removed, pushed, popped, added, taken, empty, full}
 use Rattle.method_spec.specs.Map.{Outcome}
 use Rattle.method_spec.specs.Plain.{Pair}
-use Rattle.none_lost_laws.specs.Fitting.{LinkFits}
-use Rattle.none_lost_laws.specs.AtHand.{AtHand}
+use Rattle.list_spec.specs.Perm.{Perm}
+use Rattle.list_laws.specs.PermLaws.{perm-map}
+use Rattle.list_spec.specs.Distinct.{All}
+use Rattle.none_lost_laws.specs.Fitting.{LinkFits, NodeFits}
+use Rattle.none_lost_laws.specs.AtHand.{pairsOf, AtHand}
 
 -- The key that a ticket is about, for the entries and the root link of the store, and the value that it brings.
 unfoldable pub keyIn : {s : Structure} → Op s → (entries : ℕ) → Link ℕ → ℕ
@@ -15,6 +19,8 @@ keyIn (put key value) entries l = key
 keyIn (remove key) entries l = key
 keyIn (push value) entries l = suc entries
 keyIn pop entries l = l .key
+keyIn (add value) entries l = suc entries
+keyIn take entries l = entries
 
 unfoldable pub valueIn : {s : Structure} → Op s → ℕ
 valueIn (get key) = 0
@@ -22,6 +28,8 @@ valueIn (put key value) = value
 valueIn (remove key) = 0
 valueIn (push value) = value
 valueIn pop = 0
+valueIn (add value) = value
+valueIn take = 0
 
 -- The entry of that key that is taken out, with the value that is answered.
 unfoldable pub takenOut : ℕ → Answer → List Pair
@@ -32,20 +40,24 @@ takenOut key new = []
 takenOut key (removed v) = record { key = key; value = v } ∷ []
 takenOut key pushed = []
 takenOut key (popped v) = record { key = key; value = v } ∷ []
+takenOut key added = []
+takenOut key (taken v) = record { key = key; value = v } ∷ []
 takenOut key empty = []
 takenOut key full = []
 
--- The entry that is added, with the ticket's value.
-unfoldable pub added : ℕ → ℕ → Answer → List Pair
-added key value (found v) = []
-added key value absent = []
-added key value (replaced v) = record { key = key; value = value } ∷ []
-added key value new = record { key = key; value = value } ∷ []
-added key value (removed v) = []
-added key value pushed = record { key = key; value = value } ∷ []
-added key value (popped v) = []
-added key value empty = []
-added key value full = []
+-- The entry that is broughtIn, with the ticket's value.
+unfoldable pub broughtIn : ℕ → ℕ → Answer → List Pair
+broughtIn key value (found v) = []
+broughtIn key value absent = []
+broughtIn key value (replaced v) = record { key = key; value = value } ∷ []
+broughtIn key value new = record { key = key; value = value } ∷ []
+broughtIn key value (removed v) = []
+broughtIn key value pushed = record { key = key; value = value } ∷ []
+broughtIn key value (popped v) = []
+broughtIn key value added = record { key = key; value = value } ∷ []
+broughtIn key value (taken v) = []
+broughtIn key value empty = []
+broughtIn key value full = []
 
 -- The answers of each kind of ticket.
 pub data AnswerOf : (s : Structure) → Op s → Answer → Type 0 where
@@ -60,6 +72,10 @@ pub data AnswerOf : (s : Structure) → Op s → Answer → Type 0 where
   push-full : {value : ℕ} → AnswerOf stack (push value) full
   pop-popped : {v : ℕ} → AnswerOf stack pop (popped v)
   pop-empty : AnswerOf stack pop empty
+  add-added : {value : ℕ} → AnswerOf heap (add value) added
+  add-full : {value : ℕ} → AnswerOf heap (add value) full
+  take-taken : {v : ℕ} → AnswerOf heap take (taken v)
+  take-empty : AnswerOf heap take empty
 
 abbrev pub Answers : {s : Structure} → Op s → Answer → Type 0
 Answers {s} op a = AnswerOf s op a
@@ -71,5 +87,26 @@ mostHigh h = 9 * h + 4
 -- A step's nodes are those that it was given, but for what its answer says of the key; the answer is of its kind, and the root link in order.
 pub record Yielded (k h key value : ℕ) (Kind : Answer → Type 0) (o : Outcome ℕ) (held : List (Node ℕ)) : Type 0 where
   pub kind : Kind (o .answer)
-  pub nodes : AtHand k (mostHigh h) (takenOut key (o .answer)) (added key value (o .answer)) (o .nodes) held
+  pub nodes : AtHand k (mostHigh h) (takenOut key (o .answer)) (broughtIn key value (o .answer)) (o .nodes) held
   pub root : LinkFits k (suc (mostHigh h)) (o .root)
+
+-- What of an entry the steps of a structure keep together: key and value; of a heap, whose numbers move between positions, the number alone.
+abbrev pub seen : Structure → Pair → Pair
+seen map p = p
+seen stack p = p
+seen heap p = record { key = 0; value = p .value }
+
+abbrev pub seenIn : Structure → List Pair → List Pair
+seenIn s ps = list.map (seen s) ps
+
+-- The same of a step of any structure, as far as its entries are seen.
+pub record Made (s : Structure) (k h key value : ℕ) (Kind : Answer → Type 0) (o : Outcome ℕ) (held : List (Node ℕ)) : Type 0 where
+  pub kind : Kind (o .answer)
+  pub fit : All (NodeFits k (mostHigh h)) (o .nodes)
+  pub whole : Perm (seenIn s (takenOut key (o .answer) ++ pairsOf (o .nodes))) (seenIn s (broughtIn key value (o .answer) ++ pairsOf held))
+  pub root : LinkFits k (suc (mostHigh h)) (o .root)
+
+pub yielded-made : (s : Structure) {k h key value : ℕ} {Kind : Answer → Type 0} {o : Outcome ℕ} {held : List (Node ℕ)}
+    → Yielded k h key value Kind o held → Made s k h key value Kind o held
+yielded-made s y =
+    record { kind = y .kind; fit = y .nodes .fit; whole = perm-map (seen s) (y .nodes .whole); root = y .root }

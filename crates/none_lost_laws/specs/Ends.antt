@@ -18,7 +18,8 @@ use Rattle.bucket_call_spec.specs.Call.{Store}
 use Rattle.round_spec.specs.Whole.{IsTree}
 use Rattle.leaf_spec.specs.Leaf.{ProperLeaf}
 use Rattle.leaf_laws.specs.Proper.{FitLink}
-use Rattle.none_lost_laws.specs.Changes.{keyIn, valueIn, takenOut, added, Answers}
+use Rattle.none_lost_laws.specs.Given.{RootFor}
+use Rattle.none_lost_laws.specs.Changes.{keyIn, valueIn, takenOut, broughtIn, seenIn, Answers}
 use Rattle.none_lost_laws.specs.Sound.{entriesWith, placesFor}
 
 -- ---- before a call
@@ -26,6 +27,7 @@ use Rattle.none_lost_laws.specs.Sound.{entriesWith, placesFor}
 unfoldable pub highest : Structure → ℕ → ℕ
 highest answer.map k = greatest k
 highest answer.stack k = 1
+highest answer.heap k = 1
 
 -- What a fit state and a lent tree give.
 pub record FitStore (s : Structure) (k : ℕ) (st : Store) : Type 0 where
@@ -35,6 +37,7 @@ pub record FitStore (s : Structure) (k : ℕ) (st : Store) : Type 0 where
   pub root : FitLink k (st .root)
   pub low : st .root .height ≤ highest s k
   pub entries : st .entries < 2 ^ k
+  pub rooted : RootFor s (st .entries) (st .root)
 
 abbrev pub entriesBefore : ℕ → Store → List Pair
 entriesBefore k st = entriesWith k (st .tree) (st .waiting)
@@ -76,7 +79,7 @@ pub record Answered (shown : ℕ) (a : Answer) (l : Left) : Type 0 where
 -- The step changed the entries as its answer a says, and then the store was closed, or a was answered.
 pub record StepEnds {s : Structure} (k F : ℕ) (op : Op s) (st : Store) (a : Answer) (now : List Pair) (l : Left) : Type 0 where
   pub kind : Answers op a
-  pub changed : Perm (takenOut (keyOf op st) a ++ now) (added (keyOf op st) (valueIn op) a ++ entriesBefore k st)
+  pub changed : Perm (seenIn s (takenOut (keyOf op st) a ++ now)) (seenIn s (broughtIn (keyOf op st) (valueIn op) a ++ entriesBefore k st))
   pub keeps : Keeps k now l
   pub ended : Closed (2 * F) l ⊎ Answered (2 * F) a l
 

@@ -5,9 +5,11 @@ pub mod AtHand
 pub mod Rotations
 pub mod Changes
 pub mod MapYields
+pub mod HeapYields
 pub mod ProgramYields
 pub mod Growing
 pub mod Shrinking
+pub mod HeapSeeks
 pub mod Present
 pub mod Sound
 pub mod Fetching

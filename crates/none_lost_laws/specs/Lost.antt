@@ -25,6 +25,7 @@ use Rattle.method_spec.specs.Safe.{Within, stops, asks}
 use Rattle.method_spec.specs.Call.{capacity, program}
 use Rattle.run_laws.specs.SafeLaws.{within-more}
 use Rattle.run_laws.specs.RoundsLaws.{some-rounds}
+use Rattle.run_laws.specs.HeapWithin.{heap-rounds}
 use Rattle.run_laws.specs.EnoughRounds.{mostWanted, program-within}
 use Rattle.round_spec.specs.Round.{join, limit}
 use Rattle.leaf_spec.specs.Leaf.{leafFormat, ProperLeaf}
@@ -33,7 +34,7 @@ use Rattle.bucket_call_spec.specs.Call.{fetchedBy, Store, putRounds, afterPuts,
 use Rattle.none_lost_laws.specs.Fitting.{LinkFits, link-of-fit}
 use Rattle.none_lost_laws.specs.Yields.{yields-done, yields-map, yields-both}
 use Rattle.leaf_spec.specs.Entries.{OpFits}
-use Rattle.none_lost_laws.specs.Changes.{valueIn, Answers, takenOut, added, mostHigh, Yielded}
+use Rattle.none_lost_laws.specs.Changes.{valueIn, Answers, takenOut, broughtIn, mostHigh, seenIn, Made}
 use Rattle.none_lost_laws.specs.ProgramYields.{program-yields}
 use Rattle.none_lost_laws.specs.Present.{program-seeks}
 use Rattle.none_lost_laws.specs.Sound.{entriesWith, total, Sound, After, goes, closes}
@@ -48,12 +49,14 @@ high-bound : (s : Structure) (k : ℕ) → k ≤ 16 → suc (mostHigh (highest s
 unfolding highest least shaped tallest greatest
 high-bound answer.map k small = let most : greatest k ≤ 22 = greatest-mono small in omega arith
 high-bound answer.stack k small = omega arith
+high-bound answer.heap k small = omega arith
 
 -- A call has as many fetch rounds as its program may want nodes.
-enough-rounds : (s : Structure) (k h : ℕ) → h ≤ highest s k → mostWanted s h ≤ rounds s k
+enough-rounds : (s : Structure) (k entries h : ℕ) → entries < 2 ^ k → h ≤ highest s k → mostWanted s entries h ≤ rounds s k
 unfolding highest rounds
-enough-rounds answer.map k h low = omega arith
-enough-rounds answer.stack k h low = omega arith
+enough-rounds answer.map k entries h few low = omega arith
+enough-rounds answer.stack k entries h few low = omega arith
+enough-rounds answer.heap k entries h few low = heap-rounds k entries few
 
 -- ---- a call
 -- The entries after the step.
@@ -64,7 +67,7 @@ entriesAfter k g o = entriesWith k (g .tree) (join leafFormat (o .nodes) (g .wai
 abbrev pub FetchEnds : {s : Structure} → (k n left : ℕ) → Op s → Store → Round (Outcome ℕ) → Type 0
 FetchEnds {s} k n left op st =
     After k (st .root) (entriesBefore k st) (0 + n)
-    (Fetching s (st .entries) k (st .root) (Yielded k (highest s k) (keyOf op st) (valueIn op) (Answers op)) left)
+    (Fetching s (st .entries) k (st .root) (Made s k (highest s k) (keyOf op st) (valueIn op) (Answers op)) left)
 
 -- Where a call stands after the step: the nodes of the outcome wait too, and none is held.
 pub record Stepping {s : Structure} (k F : ℕ) (op : Op s) (st : Store) (g : Going) (o : Outcome ℕ) : Type 0 where
@@ -73,7 +76,7 @@ pub record Stepping {s : Structure} (k F : ℕ) (op : Op s) (st : Store) (g : Go
   pub root : LinkFits k (suc (mostHigh (highest s k))) (o .root)
   pub leaves : length (g .leaves) ≡ F
   pub kind : Answers op (o .answer)
-  pub changed : Perm (takenOut (keyOf op st) (o .answer) ++ entriesAfter k g o) (added (keyOf op st) (valueIn op) (o .answer) ++ entriesBefore k st)
+  pub changed : Perm (seenIn s (takenOut (keyOf op st) (o .answer) ++ entriesAfter k g o)) (seenIn s (broughtIn (keyOf op st) (valueIn op) (o .answer) ++ entriesBefore k st))
 
 -- No program is left with a want where none is left to it.
 within-none : {A : Type 0} {t : Want ℕ → Node ℕ → Bool} {n : ℕ} {p : Prog ℕ A} → Within t n p → n ≡ 0 → (w : Want ℕ) (c : Node ℕ → Prog ℕ A) → p ≡ want w c → ⊥
@@ -122,9 +125,9 @@ module _ {s : Structure} (k : ℕ) (some-size : 1 ≤ k) (small : k ≤ 16) (op 
             yields-map (λ o given h. h .0)
             (yields-both
             (program-yields op spares (capacity k) (st .entries) (st .root) op-fits (λ i below. leaves (spareDraw (rounds s k) i)) (omega (arith, fit .entries)) root-fits)
-            (program-seeks op spares (capacity k) (st .entries) (st .root)));
+            (program-seeks op spares (capacity k) (st .entries) (st .root) (fit .rooted)));
         within =
-            within-more (omega (arith, enough-rounds s k (st .root .height) (fit .low)))
+            within-more (omega (arith, enough-rounds s k (st .entries) (st .root .height) (fit .entries) (fit .low)))
             (program-within 0 op spares (capacity k) (st .entries) (st .root));
       })
 

@@ -26,7 +26,7 @@ use Rattle.leaf_spec.specs.Entries.{OpFits, pairOf}
 use Rattle.none_lost_laws.specs.AtHand.{AtHand, at-hand-perm, at-hand-given, at-hand-aside, at-hand-anew, at-hand-add}
 use Rattle.none_lost_laws.specs.Given.{YieldsBy, given-fits}
 use Rattle.none_lost_laws.specs.Rotations.{Raised, nodesOn, climbing, climb-yields, unwind-raised}
-use Rattle.none_lost_laws.specs.Changes.{keyIn, valueIn, takenOut, added, Answers, get-found, get-absent, put-replaced, put-new, put-full, remove-removed, remove-absent, mostHigh, Yielded}
+use Rattle.none_lost_laws.specs.Changes.{keyIn, valueIn, takenOut, broughtIn, Answers, get-found, get-absent, put-replaced, put-new, put-full, remove-removed, remove-absent, mostHigh, Yielded}
 
 -- ---- the walk down
 -- Where a walk from a link of height h ended: all nodes given are on its path, which is no longer than that height.
@@ -136,12 +136,12 @@ module _ {k h : ℕ} where
 
   -- What was built is the outcome.
   finished : {key value : ℕ} {Kind : Answer → Type 0} (entries : ℕ) (a : Answer) (r : Built ℕ) {held : List (Node ℕ)} → Kind a
-      → Raised k (mostHigh h) (takenOut key a) (added key value a) r held → Yielded k h key value Kind (finish entries a r) held
+      → Raised k (mostHigh h) (takenOut key a) (broughtIn key value a) r held → Yielded k h key value Kind (finish entries a r) held
   finished entries a r kind f = record { kind = kind; nodes = f .at-hand; root = f .link }
 
   getStep-yields : {key : ℕ} (value entries : ℕ) {s : Spot ℕ} {held : List (Node ℕ)} → Walked k h key s held
       → Yielded k h key value (Answers (answer.get key)) (getStep entries s) held
-  unfolding getStep takenOut added
+  unfolding getStep takenOut broughtIn
   getStep-yields {key} value entries (to-gap a f short) =
       finished entries answer.absent _ get-absent (unwound-raised {key = key} (to-gap a f short))
   getStep-yields {key} value entries (to-node {n = n} a same short) =
@@ -149,7 +149,7 @@ module _ {k h : ℕ} where
 
   putStep-yields : {key : ℕ} (value tag entries limit : ℕ) → key < 2 ^ 32 → value < 2 ^ 64 → tag < 2 ^ k → {s : Spot ℕ} {held : List (Node ℕ)}
       → Walked k h key s held → YieldsBy k mapTest (Yielded k h key value (Answers (answer.put key value))) (putStep 0 key value tag entries limit s) held
-  unfolding putStep takenOut added
+  unfolding putStep takenOut broughtIn
   putStep-yields {key} value tag entries limit fk fv ft (to-gap {l} {path} a f short) =
       let n : Node ℕ = record { key = key; value = value; tag = tag; left = absent 0; right = absent 0 } in
       let fn : NodeFits k h n = record { own = record { key = fk; value = fv; tag = ft }; left = absent-fits; right = absent-fits } in
@@ -170,7 +170,7 @@ module _ {k h : ℕ} where
 
   removeStep-yields : {key : ℕ} (value entries : ℕ) {s : Spot ℕ} {held : List (Node ℕ)} → Walked k h key s held
       → YieldsBy k mapTest (Yielded k h key value (Answers (answer.remove key))) (removeStep entries s) held
-  unfolding removeStep takenOut added
+  unfolding removeStep takenOut broughtIn
   removeStep-yields {key} value entries (to-gap a f short) =
       ends (finished entries answer.absent _ remove-absent (unwound-raised {key = key} (to-gap a f short)))
   removeStep-yields {key} value entries (to-node {w} {n} {path} a same short) =

@@ -19,7 +19,8 @@ use Rattle.method_spec.specs.Stack.{pushProg, popProg, stackTest}
 use Rattle.method_spec.specs.Call.{program, test}
 use Rattle.run_laws.specs.EnoughRounds.{tested-height}
 use Rattle.none_lost_laws.specs.Yields.{Yields, ends, asks, yields-pick, yields-when, yields-then, yields-keep}
-use Rattle.none_lost_laws.specs.Given.{Given, Leads, at-root, at-side}
+use Rattle.none_lost_laws.specs.Given.{RootFor, Given, Leads, at-root, at-side}
+use Rattle.none_lost_laws.specs.HeapSeeks.{heap-seeks}
 use Rattle.none_lost_laws.specs.Growing.{Sought, Seeks, Fresh, grown, open-absent, climb-grows}
 use Rattle.none_lost_laws.specs.Shrinking.{Even, tested-even, Passed, Falls, at-top, at-step, falls-more, falls-lower, falls-append, climb-shrinks}
 
@@ -133,8 +134,9 @@ module _ {k : ℕ} (spares : ℕ → ℕ) (limit entries : ℕ) (l : Link ℕ) w
   stack-seeks (answer.push value) = yields-pick (ltb entries limit) (ends tt) (ends tt)
   stack-seeks answer.pop = yields-when (eqb (l .height) 0) (λ e. ends tt) (λ e. asks (at-root (eqb-false (l .height) 0 e)) (λ n got. ends tt))
 
-pub program-seeks : {s : Structure} {k : ℕ} (op : Op s) (spares : ℕ → ℕ) (limit entries : ℕ) (l : Link ℕ)
+pub program-seeks : {s : Structure} {k : ℕ} (op : Op s) (spares : ℕ → ℕ) (limit entries : ℕ) (l : Link ℕ) → RootFor s entries l
     → Yields (Sought l) (Given k (test s entries)) (λ o given. Unit {0}) (program 0 op spares limit entries l) []
 unfolding test
-program-seeks {s = answer.map} op spares limit entries l = map-seeks spares limit entries l op
-program-seeks {s = answer.stack} op spares limit entries l = stack-seeks spares limit entries l op
+program-seeks {s = answer.map} op spares limit entries l rooted = map-seeks spares limit entries l op
+program-seeks {s = answer.stack} op spares limit entries l rooted = stack-seeks spares limit entries l op
+program-seeks {s = answer.heap} {k} op spares limit entries l rooted = heap-seeks k entries l spares limit rooted op

@@ -1,5 +1,5 @@
 -- The stack's programs, and those of every structure, on any content: the nodes of the outcome are within their bounds, and their entries are
--- those of the nodes given, but for what the answer says.
+-- those of the nodes given, as far as the structure keeps them together, but for what the answer says.
 use mathlib.Core.Path.{_≡_}
 use mathlib.Core.Bool.{Bool, true, false}
 use mathlib.Core.List.{[], _∷_}
@@ -19,12 +19,13 @@ use Rattle.method_spec.specs.Stack.{pushProg, popProg, stackTest}
 use Rattle.method_spec.specs.Rounds.{spare}
 use Rattle.method_spec.specs.Call.{program, test}
 use Rattle.none_lost_laws.specs.Fitting.{LinkFits, NodeFits, link-more, absent-fits, proper-node}
-use Rattle.none_lost_laws.specs.Yields.{ends, asks, yields-pick}
+use Rattle.none_lost_laws.specs.Yields.{ends, asks, yields-map, yields-pick}
 use Rattle.none_lost_laws.specs.AtHand.{AtHand, at-hand-given, at-hand-aside, at-hand-add}
 use Rattle.none_lost_laws.specs.Given.{Given, YieldsBy}
 use Rattle.leaf_spec.specs.Entries.{OpFits}
-use Rattle.none_lost_laws.specs.Changes.{keyIn, valueIn, takenOut, added, Answers, push-pushed, push-full, pop-popped, pop-empty, mostHigh, Yielded}
+use Rattle.none_lost_laws.specs.Changes.{keyIn, valueIn, takenOut, broughtIn, Answers, push-pushed, push-full, pop-popped, pop-empty, mostHigh, Yielded, Made, yielded-made}
 use Rattle.none_lost_laws.specs.MapYields.{map-yields}
+use Rattle.none_lost_laws.specs.HeapYields.{heap-yields}
 
 -- ---- the stack
 -- The stack's test bounds a node's heights by 1.
@@ -50,7 +51,7 @@ module _ {k h : ℕ} (spares : ℕ → ℕ) (limit entries : ℕ) (l : Link ℕ)
 
   stack-yields : suc entries < 2 ^ 32 → (op : Op answer.stack) → OpFits op
       → YieldsBy k stackTest (Yielded k h (keyIn op entries l) (valueIn op) (Answers op)) (program 0 op spares limit entries l) []
-  unfolding program pushProg popProg keyIn valueIn takenOut added
+  unfolding program pushProg popProg keyIn valueIn takenOut broughtIn
   stack-yields small (answer.push value) fits =
       let n : Node ℕ = record { key = suc entries; value = value; tag = spares 0; left = l; right = absent 0 } in
       let fn : NodeFits k (mostHigh h) n =
@@ -79,9 +80,11 @@ module _ {k h : ℕ} (spares : ℕ → ℕ) (limit entries : ℕ) (l : Link ℕ)
 -- The spare draws are leaves, and the root link is in order.
 pub program-yields : {s : Structure} {k h : ℕ} (op : Op s) (spares : ℕ → ℕ) (limit entries : ℕ) (l : Link ℕ)
     → OpFits op → ((i : ℕ) → i < spare s → spares i < 2 ^ k) → suc entries < 2 ^ 32 → LinkFits k h l
-    → YieldsBy k (test s entries) (Yielded k h (keyIn op entries l) (valueIn op) (Answers op)) (program 0 op spares limit entries l) []
+    → YieldsBy k (test s entries) (Made s k h (keyIn op entries l) (valueIn op) (Answers op)) (program 0 op spares limit entries l) []
 unfolding test spare
 program-yields {s = answer.map} op spares limit entries l fits leaves small f =
-    map-yields spares limit entries l (leaves 0 (omega arith)) f op fits
+    yields-map (λ o held y. yielded-made answer.map y) (map-yields spares limit entries l (leaves 0 (omega arith)) f op fits)
 program-yields {s = answer.stack} op spares limit entries l fits leaves small f =
-    stack-yields spares limit entries l (leaves 0 (omega arith)) f small op fits
+    yields-map (λ o held y. yielded-made answer.stack y) (stack-yields spares limit entries l (leaves 0 (omega arith)) f small op fits)
+program-yields {s = answer.heap} {k} {h} op spares limit entries l fits leaves small f =
+    heap-yields k h entries spares limit l (leaves 0 (omega arith)) f small op fits

@@ -1,7 +1,7 @@
 -- The step of a call and its put rounds, on any content: the step changes the entries as its answer says and brings at most one node more, and the
 -- put rounds keep all entries.
 use mathlib.Core.Path.{_≡_, refl, sym, ap}
-use mathlib.Core.List.{List, [], _∷_, _++_, append-nil, List·Memᴰ·not-nil}
+use mathlib.Core.List.{List, [], _∷_, _++_, append-nil, map-append, List·Memᴰ·not-nil}
 use Prim.Native.Nat.{ℕ, zero, suc, _+_, _^_, _≤_, _<_}
 use native.Mathlib.Omega.{arith}
 use lib.ListN.{length, length-append, length-map}
@@ -11,7 +11,7 @@ use Rattle.list_laws.specs.DistinctLaws.{all-nil, all-append, all-perm}
 use Rattle.list_laws.specs.Shuffle.{part, _&_, shuffle}
 use Rattle.method_spec.specs.Node.{Link, Node}
 use Rattle.method_spec.specs.Prog.{Prog, done}
-use Rattle.method_spec.specs.Answer.{Answer, found, absent, replaced, new, removed, pushed, popped, empty, full}
+use Rattle.method_spec.specs.Answer.{Structure, Answer, found, absent, replaced, new, removed, pushed, popped, added, taken, empty, full}
 use Rattle.method_spec.specs.Map.{Outcome}
 use Rattle.method_spec.specs.Plain.{Pair}
 use Rattle.round_spec.specs.Round.{join, limit}
@@ -24,7 +24,7 @@ use Rattle.round_laws.specs.Room.{join-length}
 use Rattle.none_lost_laws.specs.Fitting.{fits-is-proper}
 use Rattle.leaf_spec.specs.Entries.{pairOf}
 use Rattle.none_lost_laws.specs.AtHand.{pairsOf, pairs-three}
-use Rattle.none_lost_laws.specs.Changes.{takenOut, added, mostHigh, Yielded}
+use Rattle.none_lost_laws.specs.Changes.{takenOut, broughtIn, mostHigh, seen, seenIn, Made}
 use Rattle.none_lost_laws.specs.Sound.{nodesIn, entriesWith, total, Sound, After, goes, closes, idle-after}
 
 -- ---- the put rounds
@@ -62,46 +62,56 @@ module _ {k : ℕ} (draw : ℕ → ℕ) (leaves : (d : ℕ) → draw d < 2 ^ k) 
           rw (puts-on k draw n d o g q h e, same) (later h good (omega arith) (λ z. room) (next .none-held))
 
 -- ---- the step
-added-one : (key value : ℕ) (a : Answer) → length (added key value a) ≤ 1
-unfolding added
-added-one key value (found v) = omega arith
-added-one key value absent = omega arith
-added-one key value (replaced v) = omega arith
-added-one key value new = omega arith
-added-one key value (removed v) = omega arith
-added-one key value pushed = omega arith
-added-one key value (popped v) = omega arith
-added-one key value empty = omega arith
-added-one key value full = omega arith
+brought-one : (key value : ℕ) (a : Answer) → length (broughtIn key value a) ≤ 1
+unfolding broughtIn
+brought-one key value (found v) = omega arith
+brought-one key value absent = omega arith
+brought-one key value (replaced v) = omega arith
+brought-one key value new = omega arith
+brought-one key value (removed v) = omega arith
+brought-one key value pushed = omega arith
+brought-one key value (popped v) = omega arith
+brought-one key value added = omega arith
+brought-one key value (taken v) = omega arith
+brought-one key value empty = omega arith
+brought-one key value full = omega arith
 
-module _ {k h key value : ℕ} {Kind : Answer → Type 0} {l : Link ℕ} {all : List Pair} {g : Going} (sound : Sound k l all g) (o : Outcome ℕ) (given : List (Node ℕ))
-    (same : Perm (nodesIn (g .held)) given) (out : Yielded k h key value Kind o given) where
-  -- The entries after the step are those before it, but for what the answer says.
-  pub step-entries : Perm (takenOut key (o .answer) ++ entriesWith k (g .tree) (join leafFormat (o .nodes) (g .waiting))) (added key value (o .answer) ++ all)
+module _ {s : Structure} {k h key value : ℕ} {Kind : Answer → Type 0} {l : Link ℕ} {all : List Pair} {g : Going} (sound : Sound k l all g) (o : Outcome ℕ)
+    (given : List (Node ℕ)) (same : Perm (nodesIn (g .held)) given) (out : Made s k h key value Kind o given) where
+  -- The entries after the step are those before it, as far as they are seen, but for what the answer says.
+  pub step-entries : Perm (seenIn s (takenOut key (o .answer) ++ entriesWith k (g .tree) (join leafFormat (o .nodes) (g .waiting)))) (seenIn s (broughtIn key value (o .answer) ++ all))
   step-entries =
       let tree = contents leafFormat k (g .tree) in
       let less = takenOut key (o .answer) in
-      let more = added key value (o .answer) in
+      let more = broughtIn key value (o .answer) in
       let now : Perm (entriesWith k (g .tree) (join leafFormat (o .nodes) (g .waiting))) (pairsOf tree ++ (pairsOf (o .nodes) ++ pairsOf (g .waiting))) =
       rw (← pairs-three tree (o .nodes) (g .waiting))
       (perm-map pairOf (perm-append-left tree (join-perm leafFormat (o .nodes) (g .waiting)))) in
       let before : Perm (pairsOf tree ++ (pairsOf (g .waiting) ++ pairsOf given)) all =
       rw (← pairs-three tree (g .waiting) given)
       (trans (perm-map pairOf (perm-append-left tree (perm-append-left (g .waiting) (perm-sym same)))) (perm-sym (sound .whole))) in
-      trans (perm-append-left less now)
+      let others = pairsOf tree ++ pairsOf (g .waiting) in
+      let kept : Perm (seenIn s ((less ++ pairsOf (o .nodes)) ++ others)) (seenIn s ((more ++ pairsOf given) ++ others)) =
+      rw (map-append (seen s) (less ++ pairsOf (o .nodes)) others, map-append (seen s) (more ++ pairsOf given) others)
+      (perm-append-right (seenIn s others) (out .whole)) in
+      trans (perm-map (seen s) (perm-append-left less now))
       (trans
-      (shuffle (less ∷ pairsOf tree ∷ pairsOf (o .nodes) ∷ pairsOf (g .waiting) ∷ []) (part 0 & (part 1 & (part 2 & part 3))) ((part 0 & part 2) & (part 1 & part 3)) refl)
-      (trans (perm-append-right (pairsOf tree ++ pairsOf (g .waiting)) (out .nodes .whole))
+      (perm-map (seen s)
+      (shuffle (less ∷ pairsOf tree ∷ pairsOf (o .nodes) ∷ pairsOf (g .waiting) ∷ []) (part 0 & (part 1 & (part 2 & part 3))) ((part 0 & part 2) & (part 1 & part 3)) refl))
+      (trans kept
       (trans
-      (shuffle (more ∷ pairsOf given ∷ pairsOf tree ∷ pairsOf (g .waiting) ∷ []) ((part 0 & part 1) & (part 2 & part 3)) (part 0 & (part 2 & (part 3 & part 1))) refl)
-      (perm-append-left more before))))
+      (perm-map (seen s)
+      (shuffle (more ∷ pairsOf given ∷ pairsOf tree ∷ pairsOf (g .waiting) ∷ []) ((part 0 & part 1) & (part 2 & part 3)) (part 0 & (part 2 & (part 3 & part 1))) refl))
+      (perm-map (seen s) (perm-append-left more before)))))
 
   pub step-total : total (stepped o g) ≤ total g + 1
   step-total =
-      let a = perm-length (out .nodes .whole) in
+      let a = perm-length (out .whole) in
+      let p = length-map (takenOut key (o .answer) ++ pairsOf (o .nodes)) (seen s) in
+      let q = length-map (broughtIn key value (o .answer) ++ pairsOf given) (seen s) in
       let b = length-append (takenOut key (o .answer)) (pairsOf (o .nodes)) in
-      let c = length-append (added key value (o .answer)) (pairsOf given) in
-      let d = added-one key value (o .answer) in
+      let c = length-append (broughtIn key value (o .answer)) (pairsOf given) in
+      let d = brought-one key value (o .answer) in
       let e = length-map (o .nodes) pairOf in
       let f = length-map given pairOf in
       let i = perm-length same in
@@ -115,7 +125,7 @@ module _ {k h key value : ℕ} {Kind : Answer → Type 0} {l : Link ℕ} {all : 
         is-tree = sound .is-tree;
         waiting =
             all-perm {P = ProperLeaf k} (perm-sym (join-perm leafFormat (o .nodes) (g .waiting)))
-            (all-append {P = ProperLeaf k} (o .nodes) (λ n m. fits-is-proper k small low (out .nodes .fit n m)) (sound .waiting));
+            (all-append {P = ProperLeaf k} (o .nodes) (λ n m. fits-is-proper k small low (out .fit n m)) (sound .waiting));
         held = all-nil (ProperLeaf k);
         apart = tt;
         linked = λ x m. absurd (List·Memᴰ·not-nil m);

@@ -19,6 +19,8 @@ fn reply_of(answer: Answer) -> Reply
         Answer::Removed(v) => Reply::Answered(Answer::Removed(v)),
         Answer::Pushed => Reply::Answered(Answer::Pushed),
         Answer::Popped(v) => Reply::Answered(Answer::Popped(v)),
+        Answer::Added => Reply::Answered(Answer::Added),
+        Answer::Taken(v) => Reply::Answered(Answer::Taken(v)),
         Answer::Empty => Reply::Answered(Answer::Empty),
     }
 }

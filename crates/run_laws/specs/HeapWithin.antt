@@ -1,22 +1,52 @@
--- How many nodes a call of the heap wants, on any content: one for each turn of its way, and for a take the last position and
--- two for each level that its number may sink.
+-- The heap on any content: what its fetch test says of links; and how many nodes a call wants: one for each turn of its way, and for a
+-- take the last position and two for each level that its number may sink.
 use Prim.Native.Nat.{ℕ, zero, suc, _+_, _*_, _/_, _%_, _^_, _≤_, _<_, max}
 use mathlib.Core.Path.{_≡_, refl}
-use mathlib.Core.Bool.{Bool, true, false}
+use mathlib.Core.Bool.{Bool, true, false, _&&_, and-eq-true-iff}
 use mathlib.Core.List.{List, [], _∷_, _++_}
 use native.Mathlib.Omega.{arith}
 use lib.Dec.{eqb, ltb, leb}
 use lib.ListN.{length, length-append}
-use borrow.Author.Tests.{leb-false}
+use borrow.Author.Tests.{eqb-true, leb-false}
 use Rattle.list_spec.specs.Choice.{pick}
-use Rattle.method_spec.specs.Node.{Node, Link, absent, withChild, linkOne}
-use Rattle.method_spec.specs.Prog.{Want, Prog, done, want}
+use Rattle.method_spec.specs.Node.{Node, Link, absent, child, withChild, linkOne}
+use Rattle.method_spec.specs.Prog.{Want, Prog, done, want, bind}
 use Rattle.method_spec.specs.Answer.{heap, Op, add, take}
 use Rattle.method_spec.specs.Map.{start}
-use Rattle.method_spec.specs.Heap.{Pass, Lower, childless, lower, turnsTo, wayTo, beneath, descend, addProg, downward, childOf, smaller, above, sunk, sink, replaceRoot, takeProg}
+use Rattle.method_spec.specs.Heap.{childPosition, linkGood, heapTest, Pass, Lower, childless, lower, turnsTo, wayTo, beneath, descend, addProg, downward, childOf, smaller, above, sunk, sink, replaceRoot, takeProg}
 use Rattle.method_spec.specs.Call.{program}
 use Rattle.method_spec.specs.Safe.{Within, stops, asks}
 use Rattle.run_laws.specs.SafeLaws.{within-more, within-pick, within-bind, WithinTo, stops-with, asks-with, withinTo-then, within-map}
+
+-- ---- what the heap's fetch test says of links
+module _ {T : Type 0} where
+  -- The link of a position among the entries leads there; and no link is higher than 1.
+  abbrev LinkFor : (entries i : ℕ) → Link T → Type 0
+  LinkFor entries i l = (i ≤ entries → (l .height ≡ 1) × (l .key ≡ i)) × (l .height ≤ 1)
+
+  link-tested : (entries i : ℕ) (l : Link T) → linkGood entries i l ≡ true → LinkFor entries i l
+  link-tested entries i l e = go (leb i entries) refl e
+    where
+      go : (b : Bool) → leb i entries ≡ b → pick b (eqb (l .height) 1 && eqb (l .key) i) (eqb (l .height) 0) ≡ true → LinkFor entries i l
+      go true within e =
+          let both = and-eq-true-iff (eqb (l .height) 1) (eqb (l .key) i) .0 e in
+          let one = eqb-true (l .height) 1 (both .0) in
+          (λ h. (one, eqb-true (l .key) i (both .1)), omega arith)
+      go false beyond e =
+          let none = eqb-true (l .height) 0 e in
+          let over = leb-false i entries beyond in
+          (λ h. let z : ⊥ = omega arith in absurd z, omega arith)
+
+  pub heap-tested : (entries : ℕ) (w : Want T) (n : Node T) → heapTest entries w n ≡ true → (s : Bool) → LinkFor entries (childPosition s (n .key)) (child s n)
+  unfolding heapTest
+  heap-tested entries w n e s =
+      let both = and-eq-true-iff (linkGood entries (childPosition true (n .key)) (n .left)) (linkGood entries (childPosition false (n .key)) (n .right)) .0 e in
+      go s both
+    where
+      go : (s : Bool) → (linkGood entries (childPosition true (n .key)) (n .left) ≡ true) × (linkGood entries (childPosition false (n .key)) (n .right) ≡ true)
+          → LinkFor entries (childPosition s (n .key)) (child s n)
+      go true both = link-tested entries (childPosition true (n .key)) (n .left) (both .0)
+      go false both = link-tested entries (childPosition false (n .key)) (n .right) (both .1)
 
 -- ---- ways
 -- A position below 2^(k + 1) has at most k turns.
@@ -35,13 +65,15 @@ turns-few (suc fuel) k i h = go (λ k. turns-few fuel k (i / 2)) (leb i 1) refl 
 
 -- How many nodes a call of a heap with so many entries wants at most.
 abbrev pub mostInHeap : ℕ → ℕ
-mostInHeap entries = max (length (wayTo (suc entries))) (3 * length (wayTo entries) + 1)
+mostInHeap zero = 0
+mostInHeap (suc n) = max (length (wayTo (suc (suc n)))) (3 * length (wayTo (suc n)) + 1)
 
-pub heap-rounds : (k entries : ℕ) → 1 ≤ k → entries < 2 ^ k → mostInHeap entries ≤ 3 * k
-heap-rounds zero entries some h = let z : ⊥ = omega arith in absurd z
-heap-rounds (suc k) entries some h =
-    let next : suc entries < 2 ^ suc (suc k) = omega arith in
-    omega (arith, turns-few entries k entries h, turns-few (suc entries) (suc k) (suc entries) next)
+pub heap-rounds : (k entries : ℕ) → entries < 2 ^ k → mostInHeap entries ≤ 3 * k
+heap-rounds k zero h = omega arith
+heap-rounds zero (suc n) h = let z : ⊥ = omega arith in absurd z
+heap-rounds (suc k) (suc n) h =
+    let next : suc (suc n) < 2 ^ suc (suc k) = omega arith in
+    omega (arith, turns-few (suc n) k (suc n) h, turns-few (suc (suc n)) (suc k) (suc (suc n)) next)
 
 pub downward-length : {T : Type 0} (l : Link T) (path below : List (Pass T)) → length (downward l path below) ≡ length path + length below
 unfolding downward
@@ -93,19 +125,26 @@ module _ {T : Type 0} {test : Want T → Node T → Bool} where
   replace-within nil entries z (p ∷ below) = within-map _ (sink-within (suc (length below)) (z .value) p below)
 
   -- ---- the programs
+  -- An empty heap's calls want none.
+  empty-within : (nil : T) (op : Op heap) (spares : ℕ → T) (limit : ℕ) (l : Link T) → Within test 0 (program nil op spares limit 0 l)
+  unfolding program addProg takeProg turnsTo descend bind
+  empty-within nil (add value) spares limit l = within-pick (ltb 0 limit) stops stops
+  empty-within nil take spares limit l = stops
+
   pub heap-within : (nil : T) (op : Op heap) (spares : ℕ → T) (limit entries : ℕ) (l : Link T)
       → Within test (mostInHeap entries) (program nil op spares limit entries l)
   unfolding program addProg takeProg
-  heap-within nil (add value) spares limit entries l =
-      within-pick (ltb entries limit)
-      (within-more {n = length (wayTo (suc entries)) + 0} (omega arith)
-      (withinTo-then _ (descend-within 0 (wayTo (suc entries)) (start l) []) (λ r left h. stops)))
+  heap-within nil op spares limit zero l = empty-within nil op spares limit l
+  heap-within nil (add value) spares limit (suc n) l =
+      within-pick (ltb (suc n) limit)
+      (within-more {n = length (wayTo (suc (suc n))) + 0} (omega arith)
+      (withinTo-then _ (descend-within 0 (wayTo (suc (suc n))) (start l) []) (λ r left h. stops)))
       stops
-  heap-within nil take spares limit entries l =
-      let turns = wayTo entries in
-      within-pick (eqb entries 0) stops
+  heap-within nil take spares limit (suc n) l =
+      let turns = wayTo (suc n) in
+      within-pick (eqb (suc n) 0) stops
       (within-more {n = length turns + (1 + 2 * length turns)} (omega arith)
       (withinTo-then _ (descend-within (1 + 2 * length turns) turns (start l) [])
       (λ r left h. within-more {n = suc (2 * length (downward (absent nil) (r .path) []))}
       (omega (arith, h, downward-length (absent nil) (r .path) []))
-      (asks (λ z ok. replace-within nil entries z (downward (absent nil) (r .path) []))))))
+      (asks (λ z ok. replace-within nil (suc n) z (downward (absent nil) (r .path) []))))))

@@ -13,15 +13,17 @@ use borrow.Author.Tests.{ltb-true}
 use Rattle.leaf_spec.specs.Entries.{OpFits, pairOf}
 use Rattle.list_spec.specs.Choice.{pick}
 use Rattle.list_spec.specs.Perm.{Perm, nil as perm-none, cons, trans}
-use Rattle.list_laws.specs.PermLaws.{perm-sym, perm-of-eq, perm-append, perm-front, perm-map}
+use Rattle.list_laws.specs.PermLaws.{perm-sym, perm-of-eq, perm-append, perm-front, perm-map, perm-length}
 use Rattle.list_spec.specs.Distinct.{All}
-use Rattle.list_laws.specs.DistinctLaws.{all-nil, all-cons}
+use Rattle.list_laws.specs.DistinctLaws.{all-nil, all-cons, all-perm}
 use Rattle.balance_spec.specs.Tree.{Tree, leaf, node}
-use Rattle.method_spec.specs.Answer.{Structure, map, stack, Op, get, put, remove, push, pop}
-use Rattle.method_spec.specs.Plain.{Pair, Contents, store, erase, popped-from, plain, numbered, entriesOf}
+use Rattle.method_spec.specs.Answer.{Structure, map, stack, heap, Op, get, put, remove, push, pop, add, take}
+use Rattle.method_spec.specs.Plain.{Pair, Contents, store, erase, enter, popped-from, taken-from, plain, numbered, Entries}
 use Rattle.method_spec.specs.Call.{capacity, Memory}
 use Rattle.run_laws.specs.StackRepresents.{Cell, chain}
 use Rattle.avl_laws.specs.Search.{Entry, pairs, nodesOf}
+use Rattle.heap_laws.specs.HeapFacts.{heap-entries}
+use Rattle.heap_laws.specs.Adding.{enter-perm, enter-length}
 use Rattle.method_laws.specs.Represented.{Held}
 
 -- ---- within their widths
@@ -30,7 +32,9 @@ abbrev pub PairFits : Pair → Type 0
 PairFits p = (p .key < 2 ^ 32) × (p .value < 2 ^ 64)
 
 abbrev pub EntriesFit : (s : Structure) → Contents s → Type 0
-EntriesFit s t = All PairFits (entriesOf s t)
+EntriesFit map t = All PairFits t
+EntriesFit stack vs = All PairFits (numbered vs)
+EntriesFit heap vs = (length vs < 2 ^ 32) × All (λ v. v < 2 ^ 64) vs
 
 all-tail : {P : Pair → Type 0} {p : Pair} {ps : List Pair} → All P (p ∷ ps) → All P ps
 all-tail h q m = h q (List·Memᴰ·tail m)
@@ -60,7 +64,7 @@ erase-fits key (p ∷ t) h = go (eqb key (p .key)) (erase-fits key t (all-tail {
 -- A step of the plain machine keeps its entries within their widths.
 pub plain-fits : {s : Structure} (k : ℕ) → k ≤ 32 → (op : Op s) → OpFits op → (t : Contents s) → EntriesFit s t
     → EntriesFit s (plain (capacity k) op t .contents)
-unfolding plain numbered popped-from
+unfolding plain numbered popped-from taken-from
 plain-fits k small (get key) f t h = h
 plain-fits k small (put key value) f t h = go (ltb (length t) (capacity k)) refl
   where
@@ -78,6 +82,17 @@ plain-fits k small (push value) f vs h = go (ltb (length vs) (capacity k)) refl
     go false e = rw e h
 plain-fits k small pop f [] h = h
 plain-fits k small pop f (v ∷ vs) h = all-tail {P = PairFits} h
+plain-fits k small (add value) f vs h = go (ltb (length vs) (capacity k)) refl
+  where
+    go : (room : Bool) → ltb (length vs) (capacity k) ≡ room → EntriesFit heap (plain (capacity k) (add value) vs .contents)
+    go true e =
+        let less = ltb-true (length vs) (capacity k) e in
+        let most : 2 ^ k ≤ 2 ^ 32 = pow-mono small in
+        let few : length (enter value vs) < 2 ^ 32 = omega (arith, enter-length value vs) in
+        rw e (few, all-perm {P = λ v. v < 2 ^ 64} (perm-sym (enter-perm value vs)) (all-cons {P = λ v. v < 2 ^ 64} f (h .1)))
+    go false e = rw e h
+plain-fits k small take f [] h = h
+plain-fits k small take f (v ∷ vs) h = (omega arith, λ w m. h .1 w (List·Memᴰ·tail m))
 
 -- ---- the entries of a memory
 
@@ -98,8 +113,44 @@ module _ {T : Type 0} (nil : T) where
       (sym (length-map cs (λ (c : Cell T). c .value))) (chain-entries cs)
 
   pub held-entries : (s : Structure) (limit : ℕ) (t : Contents s) (m : Memory T) → Held nil s limit t m
-      → Perm (list.map pairOf (m .nodes)) (entriesOf s t)
+      → Entries s t (list.map pairOf (m .nodes))
   held-entries map limit t m h =
-      trans (perm-map pairOf (h .stored)) (trans (tree-entries (h .tree)) (perm-of-eq (h .same)))
+      perm-sym (trans (perm-map pairOf (h .stored)) (trans (tree-entries (h .tree)) (perm-of-eq (h .same))))
   held-entries stack limit t m h =
-      trans (perm-map pairOf (h .there)) (perm-of-eq (chain-entries (h .cells) ∙ ap numbered (h .values)))
+      perm-sym (trans (perm-map pairOf (h .there)) (perm-of-eq (chain-entries (h .cells) ∙ ap numbered (h .values))))
+  held-entries heap limit t m h = heap-entries nil h
+
+-- ---- the entries in another order, and their widths
+
+pub entries-perm : (s : Structure) (t : Contents s) {ps qs : List Pair} → Perm ps qs → Entries s t ps → Entries s t qs
+entries-perm map t p e = trans e p
+entries-perm stack t p e = trans e p
+entries-perm heap t p e = (e .0, (e .1 .0, trans (e .1 .1) p))
+
+-- Numbers and how many they are, of pairs that are numbered.
+numbered-fits : (vs : List ℕ) → length vs < 2 ^ 32 → All (λ v. v < 2 ^ 64) vs → All PairFits (numbered vs)
+unfolding numbered
+numbered-fits [] few h = all-nil PairFits
+numbered-fits (v ∷ vs) few h =
+    all-cons {P = PairFits} (few, h v (List·Memᴰ·head refl)) (numbered-fits vs (omega arith) (λ w m. h w (List·Memᴰ·tail m)))
+
+fit-numbers : (vs : List ℕ) → All PairFits (numbered vs) → (length vs < 2 ^ 32) × All (λ v. v < 2 ^ 64) vs
+unfolding numbered
+fit-numbers [] h = (omega arith, all-nil (λ v. v < 2 ^ 64))
+fit-numbers (v ∷ vs) h =
+    let first = h _ (List·Memᴰ·head refl) in
+    (first .0, all-cons {P = λ w. w < 2 ^ 64} (first .1) (fit-numbers vs (all-tail {P = PairFits} h) .1))
+
+pub pairs-fit : (s : Structure) (t : Contents s) {ps : List Pair} → Entries s t ps → EntriesFit s t → All PairFits ps
+pairs-fit map t e h = all-perm {P = PairFits} e h
+pairs-fit stack t e h = all-perm {P = PairFits} e h
+pairs-fit heap t e h =
+    let few : length (e .0) < 2 ^ 32 = omega (arith, perm-length (e .1 .0)) in
+    all-perm {P = PairFits} (e .1 .1) (numbered-fits (e .0) few (all-perm {P = λ v. v < 2 ^ 64} (e .1 .0) (h .1)))
+
+pub fit-entries : (s : Structure) (t : Contents s) {ps : List Pair} → Entries s t ps → All PairFits ps → EntriesFit s t
+fit-entries map t e h = all-perm {P = PairFits} (perm-sym e) h
+fit-entries stack t e h = all-perm {P = PairFits} (perm-sym e) h
+fit-entries heap t e h =
+    let f = fit-numbers (e .0) (all-perm {P = PairFits} (perm-sym (e .1 .1)) h) in
+    (omega (arith, perm-length (e .1 .0)), all-perm {P = λ v. v < 2 ^ 64} (perm-sym (e .1 .0)) (f .1))

@@ -1,6 +1,7 @@
 -- The nodes of a memory that holds a structure are proper, where their own numbers are within bounds: every link is all zero, or it has
 -- the key and the tag of a node and no great height.
 use mathlib.Core.Path.{_≡_, refl}
+use mathlib.Core.Bool.{true, false}
 use mathlib.Core.List.{List, [], _∷_, List·Memᴰ·head, List·Memᴰ·tail}
 use Prim.Native.Nat.{ℕ, suc, _≤_, _<_}
 use native.Mathlib.Omega.{arith}
@@ -14,10 +15,12 @@ use Rattle.balance_spec.specs.Shape.{shaped}
 use Rattle.balance_spec.specs.Greatest.{tallest, greatest}
 use Rattle.balance_laws.specs.GreatestLaws.{greatest-mono}
 use Rattle.method_spec.specs.Node.{Node, absent}
-use Rattle.method_spec.specs.Answer.{Structure, map, stack}
+use Rattle.method_spec.specs.Answer.{Structure, map, stack, heap}
 use Rattle.method_spec.specs.Plain.{Contents}
 use Rattle.method_spec.specs.Call.{capacity, Memory}
 use Rattle.run_laws.specs.StackRepresents.{Cell, chainLink, chain}
+use Rattle.method_spec.specs.Heap.{childPosition}
+use Rattle.heap_laws.specs.HeapTree.{heapLink, heapNodes}
 use Rattle.avl_laws.specs.Search.{Entry, linkTree, nodesOf}
 use Rattle.avl_laws.specs.Holds.{holds-height}
 use Rattle.method_laws.specs.MapRepresents.{holds-low}
@@ -74,6 +77,24 @@ module _ (k : ℕ) where
       let below : All (Fits k) (chain 0 cs) = λ n i. f n (List·Memᴰ·tail i) in
       all-cons {P = FitLinks} (chain-link cs below, absent-fits) (chain-links cs below)
 
+  -- ---- the heap
+
+  heap-link : (i : ℕ) (t : Tree (Cell ℕ)) → All (Fits k) (heapNodes 0 i t) → FitLink k (heapLink 0 i t)
+  unfolding heapNodes heapLink
+  heap-link i leaf f = absent-fits
+  heap-link i (node l c r) f = present-fits 0 _ (omega arith) (f _ (List·Memᴰ·head refl))
+
+  heap-links : (i : ℕ) (t : Tree (Cell ℕ)) → All (Fits k) (heapNodes 0 i t) → All FitLinks (heapNodes 0 i t)
+  unfolding heapNodes
+  heap-links i leaf f = all-nil FitLinks
+  heap-links i (node l c r) f =
+      let left = childPosition true i in
+      let right = childPosition false i in
+      let below : All (Fits k) (heapNodes 0 left l) = all-left {P = Fits k} (heapNodes 0 right r) (λ n m. f n (List·Memᴰ·tail m)) in
+      let beside : All (Fits k) (heapNodes 0 right r) = all-right {P = Fits k} (heapNodes 0 left l) (λ n m. f n (List·Memᴰ·tail m)) in
+      all-cons {P = FitLinks} (heap-link left l below, heap-link right r beside)
+      (all-append {P = FitLinks} (heapNodes 0 left l) (heap-links left l below) (heap-links right r beside))
+
   -- ---- every structure
 
   -- The root link, and both links of each node.
@@ -86,6 +107,9 @@ module _ (k : ℕ) where
   held-links small stack t m h fit =
       let there = all-perm {P = Fits k} (h .there) fit in
       (rw (h .rooted) (chain-link (h .cells) there), all-perm {P = FitLinks} (perm-sym (h .there)) (chain-links (h .cells) there))
+  held-links small heap t m h fit =
+      let there = all-perm {P = Fits k} (h .stored) fit in
+      (rw (h .linked) (heap-link 1 (h .tree) there), all-perm {P = FitLinks} (perm-sym (h .stored)) (heap-links 1 (h .tree) there))
 
   module _ (small : k ≤ 16) (s : Structure) (t : Contents s) (m : Memory ℕ) (held : Held 0 s (capacity k) t m) (fit : All (Fits k) (m .nodes)) where
     pub held-root : FitLink k (m .root)

@@ -20,7 +20,7 @@ use Rattle.method_laws.specs.Represented.{Held, represents}
 use Rattle.leaf_spec.specs.Leaf.{ProperLeaf}
 use Rattle.leaf_laws.specs.Proper.{Fits}
 use Rattle.leaf_spec.specs.Entries.{pairOf, OpFits}
-use Rattle.simulation_laws.specs.Entries.{PairFits, EntriesFit, plain-fits, held-entries}
+use Rattle.simulation_laws.specs.Entries.{PairFits, EntriesFit, plain-fits, held-entries, pairs-fit, fit-entries}
 use Rattle.simulation_laws.specs.HeldProper.{held-proper}
 
 abbrev pub Leaf : ℕ → ℕ → Type 0
@@ -39,12 +39,12 @@ draws-leaves k draw h (suc n) d = all-cons {P = Leaf k} (h d) (draws-leaves k dr
 module _ (s : Structure) (k : ℕ) (t : Contents s) (m : Memory ℕ) (held : Held 0 s (capacity k) t m) where
   entries-fit : All (Fits k) (m .nodes) → EntriesFit s t
   entries-fit h =
-      all-perm {P = PairFits} (held-entries 0 s (capacity k) t m held)
+      fit-entries s t (held-entries 0 s (capacity k) t m held)
       (all-of-map PairFits pairOf (m .nodes) (λ n i. let f = h n i in (f .key, f .value)))
 
   nodes-fit : EntriesFit s t → All (Leaf k) (tags (m .nodes)) → All (Fits k) (m .nodes)
   nodes-fit h leaves n i =
-      let f = all-perm {P = PairFits} (perm-sym (held-entries 0 s (capacity k) t m held)) h (pairOf n) (Memᴰ·map pairOf i) in
+      let f = pairs-fit s t (held-entries 0 s (capacity k) t m held) h (pairOf n) (Memᴰ·map pairOf i) in
       record { key = f .0; value = f .1; tag = leaves (n .tag) (Memᴰ·map (λ (n : Node ℕ). n .tag) i) }
 
 -- ---- a call

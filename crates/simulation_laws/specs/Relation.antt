@@ -50,7 +50,7 @@ pub record Overflowed (k : ℕ) (m : Memory ℕ) (x : Round (Outcome ℕ)) (l : 
   pub many : limit < length (l .waiting)
   pub rest : List ℕ
   pub leaves : r .revealed ≡ l .leaves ++ rest
-  pub nothing-lost : Remains (memoryEntries m) (memoryEntries (r .memory)) (storeEntries k (leftBy l)) x
+  pub nothing-lost : Remains (Perm (memoryEntries m)) (Perm (memoryEntries (r .memory))) (storeEntries k (leftBy l)) x
 
 -- ---- between the rounds of a call
 

@@ -7,12 +7,13 @@ use native.Mathlib.Omega.{arith}
 use lib.ListN.{length}
 use Rattle.balance_spec.specs.Tree.{Tree, leaf, node, size}
 use Rattle.method_spec.specs.Node.{absent}
-use Rattle.method_spec.specs.Answer.{Structure, map, stack}
+use Rattle.method_spec.specs.Answer.{Structure, map, stack, heap}
 use Rattle.method_spec.specs.Plain.{Contents}
 use Rattle.method_spec.specs.Call.{Memory}
 use Rattle.run_laws.specs.StackRepresents.{Cell, chainLink, cells-counted}
 use Rattle.avl_laws.specs.Search.{Entry, linkTree}
 use Rattle.avl_laws.specs.Holds.{holds-entries}
+use Rattle.heap_laws.specs.HeapFacts.{heap-no-root}
 use Rattle.method_laws.specs.Represented.{Held}
 
 module _ {T : Type 0} (nil : T) where
@@ -30,6 +31,7 @@ module _ {T : Type 0} (nil : T) where
   pub root-empty : (s : Structure) (limit : ℕ) (t : Contents s) (m : Memory T) → Held nil s limit t m → m .entries ≡ 0 → m .root ≡ absent nil
   root-empty map limit t m h e = h .linked ∙ tree-empty (h .tree) (sym (holds-entries h) ∙ e)
   root-empty stack limit t m h e = h .rooted ∙ chain-empty (h .cells) (sym (cells-counted nil limit t m h) ∙ e)
+  root-empty heap limit t m h e = heap-no-root nil h e
 
   chain-top : (cs : List (Cell T)) (n : ℕ) → n ≡ length cs → (n ≡ 0 → ⊥) → (chainLink nil cs .height ≡ 1) × (chainLink nil cs .key ≡ n)
   unfolding chainLink

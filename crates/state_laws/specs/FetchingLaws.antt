@@ -6,7 +6,7 @@ use Rattle.balance_spec.specs.Least.{least}
 use Rattle.balance_spec.specs.Shape.{shaped}
 use Rattle.balance_spec.specs.Greatest.{tallest, greatest}
 use Rattle.balance_laws.specs.GreatestLaws.{greatest-mono}
-use Rattle.method_spec.specs.Answer.{Structure, map, stack}
+use Rattle.method_spec.specs.Answer.{Structure, map, stack, heap}
 use Rattle.method_spec.specs.Rounds.{rounds, spare}
 use Rattle.state_spec.specs.Fit.{largestSize}
 use Rattle.state_spec.specs.Fetching.{mostRounds}
@@ -19,6 +19,7 @@ pub rounds-most : (st : Structure) (k : ℕ) → k ≤ largestSize → rounds st
 unfolding rounds
 rounds-most map k h = omega (arith, greatest-mono h, greatest-eight)
 rounds-most stack k h = omega arith
+rounds-most heap k h = omega arith
 
 pub rounds-map : (k : ℕ) → rounds map k ≡ 3 * greatest k
 unfolding rounds
@@ -28,6 +29,10 @@ pub rounds-stack : (k : ℕ) → rounds stack k ≡ 1
 unfolding rounds
 rounds-stack k = refl
 
+pub rounds-heap : (k : ℕ) → rounds heap k ≡ 3 * k
+unfolding rounds
+rounds-heap k = refl
+
 pub spare-map : spare map ≡ 1
 unfolding spare
 spare-map = refl
@@ -35,3 +40,7 @@ spare-map = refl
 pub spare-stack : spare stack ≡ 1
 unfolding spare
 spare-stack = refl
+
+pub spare-heap : spare heap ≡ 1
+unfolding spare
+spare-heap = refl

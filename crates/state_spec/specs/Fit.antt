@@ -16,7 +16,7 @@ use Rattle.state_spec.specs.declared.State.{State}
 
 -- "structure or size out of range"
 abbrev pub largestStructure : ℕ
-largestStructure = 2
+largestStructure = 3
 
 abbrev pub largestSize : ℕ
 largestSize = 8
@@ -43,11 +43,12 @@ abbrev pub placeGood : ℕ → Place → Bool
 placeGood k p = p .full && wellFormed k (p .node)
 
 -- "for the map a root height that no balanced tree with that many entries has; for the stack a root other than height 1 with
--- key = entries; with no entries a root link that is not all zero"
+-- key = entries; with no entries a root link that is not all zero"; for the heap "height 1 and key 1"
 unfoldable pub rootGood : (structure entries : ℕ) → Link → Bool
 rootGood structure entries l =
     pick (eqb entries 0) (zeroLink l)
-    (pick (eqb structure 1) (shaped entries (l .height)) (eqb (l .height) 1 && eqb (l .key) entries))
+    (pick (eqb structure 1) (shaped entries (l .height))
+    (eqb (l .height) 1 && eqb (l .key) (pick (eqb structure 2) entries 1)))
 
 abbrev pub keysIn : List Place → List ℕ
 keysIn ps = map (λ (p : Place). p .node .key) ps

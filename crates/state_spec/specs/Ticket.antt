@@ -6,7 +6,7 @@ use lib.Dec.{eqb}
 use lib.ListN.{take, drop}
 use Rattle.list_spec.specs.Choice.{pick}
 use Rattle.slot_spec.specs.LittleEndian.{value}
-use Rattle.method_spec.specs.Answer.{Structure, map, stack, Op, get, put, remove, push, pop}
+use Rattle.method_spec.specs.Answer.{Structure, map, stack, heap, Op, get, put, remove, push, pop, add, take as take-smallest}
 
 abbrev pub ticketLength : ℕ
 ticketLength = 13
@@ -20,14 +20,16 @@ keyIn t = value (take 4 (drop 1 t))
 abbrev pub valueIn : List ℕ → ℕ
 valueIn t = value (take 8 (drop 5 t))
 
--- "Kinds: 1 get, 2 put, 3 remove (map); 4 push, 5 pop (stack)"
+-- "Kinds: 1 get, 2 put, 3 remove (map); 4 push, 5 pop (stack)"; 6 add, 7 take (heap)
 unfoldable pub opIn : (s : Structure) → List ℕ → Option (Op s)
 opIn map t =
     pick (eqb (kindIn t) 1) (some (get (keyIn t)))
     (pick (eqb (kindIn t) 2) (some (put (keyIn t) (valueIn t))) (pick (eqb (kindIn t) 3) (some (remove (keyIn t))) none))
 opIn stack t =
     pick (eqb (kindIn t) 4) (some (push (valueIn t))) (pick (eqb (kindIn t) 5) (some pop) none)
+opIn heap t =
+    pick (eqb (kindIn t) 6) (some (add (valueIn t))) (pick (eqb (kindIn t) 7) (some take-smallest) none)
 
--- 1 map, 2 stack.
+-- 1 map, 2 stack, 3 heap.
 abbrev pub structureOf : ℕ → Structure
-structureOf n = pick (eqb n 1) map stack
+structureOf n = pick (eqb n 1) map (pick (eqb n 2) stack heap)

@@ -14,7 +14,7 @@ pub struct Place {
 pub struct State {
     // 0: open; otherwise the number with which the store was closed.
     pub mark: u8,
-    // 1 map, 2 stack.
+    // 1 map, 2 stack, 3 heap.
     pub structure: u8,
     pub size: u8,
     pub entries: u16,

@@ -4,17 +4,16 @@ use mathlib.Core.Bool.{Bool, true, false}
 use mathlib.Core.List.{List, [], _∷_}
 use mathlib.Core.Option.{none, some}
 use mathlib.Core.Logic.{_⊎_, ⊎-elim, inl, inr}
-use borrow.Author.Tests.{eq-eqb, ne-eqb, eqb-false}
+use borrow.Author.Tests.{eq-eqb, ne-eqb, eqb-true, eqb-false}
 use Rattle.list_spec.specs.Choice.{pick}
-use Rattle.method_spec.specs.Answer.{map as the-map, stack as the-stack, get, put, remove, push, pop}
-use Rattle.state_spec.specs.Ticket.{kindIn, keyIn, valueIn, opIn}
-use Rattle.operation_spec.specs.declared.Op.the-variants.{Get, Put, Remove, Push, Pop}
+use Rattle.method_spec.specs.Answer.{Structure, map as the-map, stack as the-stack, heap as the-heap, get, put, remove, push, pop, add, take as take-smallest}
+use Rattle.state_spec.specs.Ticket.{kindIn, keyIn, valueIn, opIn, structureOf}
+use Rattle.operation_spec.specs.declared.Op.the-variants.{Get, Put, Remove, Push, Pop, Add, Take}
 use Rattle.tickets.specs.declared.Asked.the-variants.{Call, Unknown}
-use Rattle.tickets.specs.Asked.{asked, fromOp, fromAsked, mapOp, stackOp}
+use Rattle.tickets.specs.Asked.{asked, fromOp, fromAsked, mapOp, stackOp, heapOp}
 use Prim.Native.Nat.{ℕ, suc, _+_, _-_, _*_, _≤_, _<_, _^_}
 use native.Mathlib.Nat.{pow-suc, pow-le-pow-right}
 use native.Mathlib.Omega.{arith}
-use native.Mathlib.Decide.{ℕ-discrete}
 use lib.Dec.{eqb}
 use lib.ListN.{length, take, drop, getD, length-take, length-drop}
 use lib.Seq.{drop-cons, getD-take, getD-drop, drop-length}
@@ -60,9 +59,50 @@ word-fits n v h p =
     let q : 256 ^ n ≤ 256 ^ 8 = pow-le-pow-right {n = 256} (omega arith) h in
     omega arith
 
+-- ---- structures by their numbers
+module _ (structure : ℕ) where
+  by-number : (st : Structure) → structureOf structure ≡ st → (a b : Bool) → eqb structure 1 ≡ a → eqb structure 2 ≡ b
+      → st ≡ pick a the-map (pick b the-stack the-heap)
+  by-number st e a b x y = rw (x, y) at (sym e)
+
+  is-map : structureOf structure ≡ the-map → structure ≡ 1
+  is-map e = go (eqb structure 1) (eqb structure 2) refl refl
+    where
+      go : (a b : Bool) → eqb structure 1 ≡ a → eqb structure 2 ≡ b → structure ≡ 1
+      go true b x y = eqb-true structure 1 x
+      go false true x y = let w = by-number the-map e false true x y in let z : _≡_ {A = ℕ} 0 1 = cc in absurd (omega arith)
+      go false false x y = let w = by-number the-map e false false x y in let z : _≡_ {A = ℕ} 0 1 = cc in absurd (omega arith)
+
+  is-stack : structureOf structure ≡ the-stack → structure ≡ 2
+  is-stack e = go (eqb structure 1) (eqb structure 2) refl refl
+    where
+      go : (a b : Bool) → eqb structure 1 ≡ a → eqb structure 2 ≡ b → structure ≡ 2
+      go true b x y = let w = by-number the-stack e true b x y in let z : _≡_ {A = ℕ} 0 1 = cc in absurd (omega arith)
+      go false true x y = eqb-true structure 2 y
+      go false false x y = let w = by-number the-stack e false false x y in let z : _≡_ {A = ℕ} 0 1 = cc in absurd (omega arith)
+
+  is-heap : structureOf structure ≡ the-heap → (structure ≡ 1 → ⊥) × (structure ≡ 2 → ⊥)
+  is-heap e = go (eqb structure 1) (eqb structure 2) refl refl
+    where
+      go : (a b : Bool) → eqb structure 1 ≡ a → eqb structure 2 ≡ b → (structure ≡ 1 → ⊥) × (structure ≡ 2 → ⊥)
+      go true b x y = let w = by-number the-heap e true b x y in let z : _≡_ {A = ℕ} 0 1 = cc in absurd (omega arith)
+      go false true x y = let w = by-number the-heap e false true x y in let z : _≡_ {A = ℕ} 0 1 = cc in absurd (omega arith)
+      go false false x y = (eqb-false structure 1 x, eqb-false structure 2 y)
+
 -- ---- kinds
+-- The kinds of a structure are those from the first to the last.
+abbrev firstKind : Structure → ℕ
+firstKind the-map = 1
+firstKind the-stack = 4
+firstKind the-heap = 6
+
+abbrev lastKind : Structure → ℕ
+lastKind the-map = 3
+lastKind the-stack = 5
+lastKind the-heap = 7
+
 module _ (t : List ℕ) where
-  -- Kinds of a map on a map, and of a stack on a stack.
+  -- Each structure's kinds on that structure.
   pub map-kinds : (structure : ℕ) → structure ≡ 1 → 1 ≤ kindIn t → kindIn t ≤ 3 → asked structure t ≡ Call (mapOp (kindIn t) (keyIn t) (valueIn t))
   unfolding opIn fromAsked fromOp mapOp
   map-kinds structure e l h = rw e (go (eqb (kindIn t) 1) refl (eqb (kindIn t) 2) refl)
@@ -77,9 +117,9 @@ module _ (t : List ℕ) where
           let m = eqb-false (kindIn t) 2 y in
           rw (eq-eqb (kindIn t) 3 (omega arith))
 
-  pub stack-kinds : (structure : ℕ) → (structure ≡ 1 → ⊥) → 4 ≤ kindIn t → kindIn t ≤ 5 → asked structure t ≡ Call (stackOp (kindIn t) (valueIn t))
+  pub stack-kinds : (structure : ℕ) → structure ≡ 2 → 4 ≤ kindIn t → kindIn t ≤ 5 → asked structure t ≡ Call (stackOp (kindIn t) (valueIn t))
   unfolding opIn fromAsked fromOp stackOp
-  stack-kinds structure e l h = rw (ne-eqb structure 1 e) (go (eqb (kindIn t) 4) refl)
+  stack-kinds structure e l h = rw e (go (eqb (kindIn t) 4) refl)
     where
       go : (a : Bool) → eqb (kindIn t) 4 ≡ a
           → fromAsked {s = the-stack} (pick a (some (push (valueIn t))) (pick (eqb (kindIn t) 5) (some pop) none))
@@ -87,33 +127,68 @@ module _ (t : List ℕ) where
       go true x = refl
       go false x = let n = eqb-false (kindIn t) 4 x in rw (eq-eqb (kindIn t) 5 (omega arith))
 
-  -- Another kind than the structure's.
-  pub no-map-kind : (structure : ℕ) → structure ≡ 1 → (kindIn t < 1) ⊎ (3 < kindIn t) → asked structure t ≡ Unknown
-  unfolding opIn fromAsked
-  no-map-kind structure e h =
-      rw (
-        e,
-        ne-eqb (kindIn t) 1 (λ q. ⊎-elim (λ l. omega arith) (λ l. omega arith) h),
-        ne-eqb (kindIn t) 2 (λ q. ⊎-elim (λ l. omega arith) (λ l. omega arith) h),
-        ne-eqb (kindIn t) 3 (λ q. ⊎-elim (λ l. omega arith) (λ l. omega arith) h),
-      )
-
-  pub no-stack-kind : (structure : ℕ) → (structure ≡ 1 → ⊥) → (kindIn t < 4) ⊎ (5 < kindIn t) → asked structure t ≡ Unknown
-  unfolding opIn fromAsked
-  no-stack-kind structure e h =
-      rw (
-        ne-eqb structure 1 e,
-        ne-eqb (kindIn t) 4 (λ q. ⊎-elim (λ l. omega arith) (λ l. omega arith) h),
-        ne-eqb (kindIn t) 5 (λ q. ⊎-elim (λ l. omega arith) (λ l. omega arith) h),
-      )
-
-  -- A kind of neither.
-  pub no-kind : (structure : ℕ) → (kindIn t < 1) ⊎ (5 < kindIn t) → asked structure t ≡ Unknown
-  no-kind structure h = go (ℕ-discrete structure 1)
+  pub heap-kinds : (structure : ℕ) → (structure ≡ 1 → ⊥) → (structure ≡ 2 → ⊥) → 6 ≤ kindIn t → kindIn t ≤ 7
+      → asked structure t ≡ Call (heapOp (kindIn t) (valueIn t))
+  unfolding opIn fromAsked fromOp heapOp
+  heap-kinds structure e f l h = rw (ne-eqb structure 1 e, ne-eqb structure 2 f) (go (eqb (kindIn t) 6) refl)
     where
-      go : Dec (structure ≡ 1) → asked structure t ≡ Unknown
-      go (yes e) = no-map-kind structure e (⊎-elim (λ l. inl l) (λ l. inr (omega arith)) h)
-      go (no e) = no-stack-kind structure e (⊎-elim (λ l. inl (omega arith)) (λ l. inr l) h)
+      go : (a : Bool) → eqb (kindIn t) 6 ≡ a
+          → fromAsked {s = the-heap} (pick a (some (add (valueIn t))) (pick (eqb (kindIn t) 7) (some take-smallest) none))
+          ≡ Call (pick a (Add (valueIn t)) Take)
+      go true x = refl
+      go false x = let n = eqb-false (kindIn t) 6 x in rw (eq-eqb (kindIn t) 7 (omega arith))
+
+  -- ---- another kind than the structure's
+  abbrev Foreign : Structure → Type 0
+  Foreign st = (kindIn t < firstKind st) ⊎ (lastKind st < kindIn t)
+
+  -- It is none of the kinds from the first to the last.
+  outside : {a b : ℕ} → (kindIn t < a) ⊎ (b < kindIn t) → (k : ℕ) → a ≤ k → k ≤ b → eqb (kindIn t) k ≡ false
+  outside h k low high = ne-eqb (kindIn t) k (λ q. ⊎-elim (λ l. omega arith) (λ l. omega arith) h)
+
+  none-asked : (st : Structure) → Foreign st → opIn st t ≡ none
+  unfolding opIn
+  none-asked the-map h = rw (outside h 1 (omega arith) (omega arith), outside h 2 (omega arith) (omega arith), outside h 3 (omega arith) (omega arith))
+  none-asked the-stack h = rw (outside h 4 (omega arith) (omega arith), outside h 5 (omega arith) (omega arith))
+  none-asked the-heap h = rw (outside h 6 (omega arith) (omega arith), outside h 7 (omega arith) (omega arith))
+
+  unknown : (structure : ℕ) → ((st : Structure) → structureOf structure ≡ st → Foreign st) → asked structure t ≡ Unknown
+  unfolding fromAsked
+  unknown structure h = ap fromAsked (none-asked (structureOf structure) (h (structureOf structure) refl))
+
+  -- A map's kind, of another structure; a stack's; a heap's.
+  pub no-map : (structure : ℕ) → (structure ≡ 1 → ⊥) → kindIn t ≤ 3 → asked structure t ≡ Unknown
+  no-map structure other high = unknown structure (λ st e. go st e)
+    where
+      go : (st : Structure) → structureOf structure ≡ st → Foreign st
+      go the-map e = absurd (other (is-map structure e))
+      go the-stack e = inl (omega arith)
+      go the-heap e = inl (omega arith)
+
+  pub no-stack : (structure : ℕ) → (structure ≡ 2 → ⊥) → 4 ≤ kindIn t → kindIn t ≤ 5 → asked structure t ≡ Unknown
+  no-stack structure other low high = unknown structure (λ st e. go st e)
+    where
+      go : (st : Structure) → structureOf structure ≡ st → Foreign st
+      go the-map e = inr (omega arith)
+      go the-stack e = absurd (other (is-stack structure e))
+      go the-heap e = inl (omega arith)
+
+  pub no-heap : (structure : ℕ) → (structure ≡ 1) ⊎ (structure ≡ 2) → 6 ≤ kindIn t → asked structure t ≡ Unknown
+  no-heap structure other low = unknown structure (λ st e. go st e)
+    where
+      go : (st : Structure) → structureOf structure ≡ st → Foreign st
+      go the-map e = inr (omega arith)
+      go the-stack e = inr (omega arith)
+      go the-heap e = absurd (⊎-elim (λ (m : structure ≡ 1). is-heap structure e .0 m) (λ (s : structure ≡ 2). is-heap structure e .1 s) other)
+
+  -- A kind of none.
+  pub no-kind : (structure : ℕ) → (kindIn t < 1) ⊎ (7 < kindIn t) → asked structure t ≡ Unknown
+  no-kind structure h = unknown structure (λ st e. go st)
+    where
+      go : (st : Structure) → Foreign st
+      go the-map = ⊎-elim (λ l. inl l) (λ l. inr (omega arith)) h
+      go the-stack = ⊎-elim (λ l. inl (omega arith)) (λ l. inr (omega arith)) h
+      go the-heap = ⊎-elim (λ l. inl (omega arith)) (λ l. inr l) h
 
 -- The kind is the first byte.
 pub first-byte : (t : List ℕ) → 0 < length t → getD t 0 0 ≡ kindIn t

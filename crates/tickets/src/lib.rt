@@ -6,7 +6,7 @@ ghost use lib.Dec.{eqb};
 ghost use lib.ListN.{length, take, drop};
 ghost use Rattle.slot_spec.specs.LittleEndian.{value};
 ghost use Rattle.state_spec.specs.Ticket.{ticketLength};
-ghost use Rattle.tickets.specs.Asked.{asked, mapOp, stackOp};
+ghost use Rattle.tickets.specs.Asked.{asked, mapOp, stackOp, heapOp};
 
 // A ticket's length in bytes: kind, key (4), value (8).
 pub const TICKET_LENGTH: usize = 13;
@@ -67,7 +67,17 @@ fn stack_op(kind: u8, value: u64) -> Op
     Op::Pop
 }
 
-// What a ticket of 13 bytes asks of a map (1) or a stack (2).
+// Kinds 6 add, 7 take of a heap.
+fn heap_op(kind: u8, value: u64) -> Op
+    ensures { λ r. ⌜ r ≡ heapOp kind value ⌝ }
+{
+    if kind == 6 {
+        return Op::Add(value);
+    }
+    Op::Take
+}
+
+// What a ticket of 13 bytes asks of a map (1), a stack (2) or a heap.
 pub fn read_ticket(structure: u8, ticket: &[u8]) -> Asked
     requires { ⌜ length (now ticket) ≡ 13 ⌝ }
     ensures { λ r. ⌜ r ≡ asked structure (now (ticket .entry)) ⌝ }
@@ -83,10 +93,19 @@ pub fn read_ticket(structure: u8, ticket: &[u8]) -> Asked
             Asked::Unknown
         }
         4..=5 => {
+            if structure == 2 {
+                return Asked::Call(stack_op(kind, value));
+            }
+            Asked::Unknown
+        }
+        6..=7 => {
             if structure == 1 {
                 return Asked::Unknown;
             }
-            Asked::Call(stack_op(kind, value))
+            if structure == 2 {
+                return Asked::Unknown;
+            }
+            Asked::Call(heap_op(kind, value))
         }
         _ => Asked::Unknown,
     }

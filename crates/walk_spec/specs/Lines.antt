@@ -7,7 +7,7 @@ use mathlib.Core.List.{List, [], _∷_, _++_}
 use lib.ListN.{length}
 use lib.Seq.{sets}
 use Rattle.operation_spec.specs.declared.Answer.{Answer}
-use Rattle.operation_spec.specs.declared.Answer.the-variants.{Found, Absent, Replaced, New, Removed, Pushed, Popped, Empty, Full}
+use Rattle.operation_spec.specs.declared.Answer.the-variants.{Found, Absent, Replaced, New, Removed, Pushed, Popped, Added, Taken, Empty, Full}
 use Rattle.call_spec.specs.declared.Reply.{Reply}
 use Rattle.call_spec.specs.declared.Reply.the-variants.{Answered, Refused}
 use Rattle.state_spec.specs.Fetching.{mostRounds}
@@ -52,6 +52,8 @@ answerWord New = ascii "new"
 answerWord (Removed v) = ascii "removed"
 answerWord Pushed = ascii "pushed"
 answerWord (Popped v) = ascii "popped"
+answerWord Added = ascii "added"
+answerWord (Taken v) = ascii "taken"
 answerWord Empty = ascii "empty"
 answerWord Full = ascii "refused"
 
@@ -64,6 +66,8 @@ answerValue New = 0
 answerValue (Removed v) = v
 answerValue Pushed = 0
 answerValue (Popped v) = v
+answerValue Added = 0
+answerValue (Taken v) = v
 answerValue Empty = 0
 answerValue Full = 10
 

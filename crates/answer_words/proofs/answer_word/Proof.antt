@@ -84,6 +84,24 @@ slice-aggregate-put-text-9 c = search needs
 put-text-requires-9 : tie.Need-put-text-requires-9
 put-text-requires-9 c κs = search needs
 
+enum-told-10 : tie.Need-enum-told-10
+enum-told-10 c = search needs
+
+slice-aggregate-put-text-10 : tie.Need-slice-aggregate-put-text-10
+slice-aggregate-put-text-10 c = search needs
+
+put-text-requires-10 : tie.Need-put-text-requires-10
+put-text-requires-10 c κs = search needs
+
+enum-told-11 : tie.Need-enum-told-11
+enum-told-11 c = search needs
+
+slice-aggregate-put-text-11 : tie.Need-slice-aggregate-put-text-11
+slice-aggregate-put-text-11 c = search needs
+
+put-text-requires-11 : tie.Need-put-text-requires-11
+put-text-requires-11 c κs = search needs
+
 same-length : tie.Need-same-length
 same-length c = search needs
 
@@ -138,6 +156,18 @@ same-length-9 c = search needs
 returns-9 : tie.Need-returns-9
 returns-9 c = rw (c .before .before .before .before .before .enum-told9 .given .1) (c .before .before .put-text9 .ensures)
 
+same-length-10 : tie.Need-same-length-10
+same-length-10 c = search needs
+
+returns-10 : tie.Need-returns-10
+returns-10 c = rw (c .before .before .before .before .before .enum-told10 .given .1) (c .before .before .put-text10 .ensures)
+
+same-length-11 : tie.Need-same-length-11
+same-length-11 c = search needs
+
+returns-11 : tie.Need-returns-11
+returns-11 c = rw (c .before .before .before .before .before .enum-told11 .given .1) (c .before .before .put-text11 .ensures)
+
 pub answer-word-spec : {M : Type 1} → statement M
 answer-word-spec =
     tie.close
@@ -169,6 +199,12 @@ answer-word-spec =
     enum-told-9
     slice-aggregate-put-text-9
     put-text-requires-9
+    enum-told-10
+    slice-aggregate-put-text-10
+    put-text-requires-10
+    enum-told-11
+    slice-aggregate-put-text-11
+    put-text-requires-11
     same-length
     returns
     same-length-2
@@ -186,4 +222,8 @@ answer-word-spec =
     same-length-8
     returns-8
     same-length-9
-    returns-9)
+    returns-9
+    same-length-10
+    returns-10
+    same-length-11
+    returns-11)

@@ -25,9 +25,13 @@ returns-3 c = let a = c .before .before .before .before .args in rw (ne-eqb (a .
 
 returns-4 : tie.Need-returns-4
 unfolding rootGood
-returns-4 c = let a = c .before .before .before .before .before .args in rw (ne-eqb (a .entries) 0 (c .before .before .before .before .if1 .left), ne-eqb (a .structure) 1 (c .before .before .before .if2 .left), eq-eqb (a .root .height) 1 (c .before .if3 .left))
+returns-4 c = let a = c .before .before .before .before .before .before .args in rw (ne-eqb (a .entries) 0 (c .before .before .before .before .before .if1 .left), ne-eqb (a .structure) 1 (c .before .before .before .before .if2 .left), eq-eqb (a .root .height) 1 (c .before .before .if3 .left), eq-eqb (a .structure) 2 (c .before .if4 .taken))
+
+returns-5 : tie.Need-returns-5
+unfolding rootGood
+returns-5 c = let a = c .before .before .before .before .before .before .args in rw (ne-eqb (a .entries) 0 (c .before .before .before .before .before .if1 .left), ne-eqb (a .structure) 1 (c .before .before .before .before .if2 .left), eq-eqb (a .root .height) 1 (c .before .before .if3 .left), ne-eqb (a .structure) 2 (c .before .if4 .left))
 
 pub root-good-spec : {M : Type 1} → statement M
 root-good-spec =
     tie.close
-    (tie.spec zero-link-requires returns shape-exists-requires returns-2 returns-3 returns-4)
+    (tie.spec zero-link-requires returns shape-exists-requires returns-2 returns-3 returns-4 returns-5)

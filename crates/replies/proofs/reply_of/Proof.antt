@@ -1,3 +1,4 @@
+-- `replies::reply_of` meets its contract, answer by answer.
 use mathlib.Core.Path.{sym, ap}
 use Rattle.operation_spec.specs.declared.Answer.{Answer}
 use Rattle.operation_spec.specs.Method.{toAnswer}
@@ -5,8 +6,6 @@ use Rattle.call_spec.specs.Store.{replyOf}
 use borrow.Author.Needs.{needs}
 use Rattle.replies.proofs.reply_of.Statement.{statement}
 use Rattle.replies.proofs.reply_of.Tie as tie
-use Rattle.replies.proofs.reply_of.Reads as reads
-use Rattle.replies.proofs.reply_of.Lts as lts
 
 enum-told : tie.Need-enum-told
 enum-told c = search needs
@@ -34,6 +33,12 @@ enum-known-answer-4 c = search needs
 
 enum-told-5 : tie.Need-enum-told-5
 enum-told-5 c = search needs
+
+enum-known-answer-5 : tie.Need-enum-known-answer-5
+enum-known-answer-5 c = search needs
+
+enum-told-6 : tie.Need-enum-told-6
+enum-told-6 c = search needs
 
 returns : tie.Need-returns
 unfolding replyOf
@@ -71,6 +76,14 @@ returns-9 : tie.Need-returns-9
 unfolding replyOf
 returns-9 c = sym (ap (λ (a : Answer). replyOf (toAnswer a)) (c .enum-told5 .given .1))
 
+returns-10 : tie.Need-returns-10
+unfolding replyOf
+returns-10 c = sym (ap (λ (a : Answer). replyOf (toAnswer a)) (c .before .answer5 .given .1))
+
+returns-11 : tie.Need-returns-11
+unfolding replyOf
+returns-11 c = sym (ap (λ (a : Answer). replyOf (toAnswer a)) (c .enum-told6 .given .1))
+
 pub reply-of-spec : {M : Type 1} → statement M
 reply-of-spec =
     tie.close
@@ -84,6 +97,8 @@ reply-of-spec =
     enum-told-4
     enum-known-answer-4
     enum-told-5
+    enum-known-answer-5
+    enum-told-6
     returns
     returns-2
     returns-3
@@ -92,4 +107,6 @@ reply-of-spec =
     returns-6
     returns-7
     returns-8
-    returns-9)
+    returns-9
+    returns-10
+    returns-11)

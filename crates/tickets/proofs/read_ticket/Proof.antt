@@ -2,7 +2,7 @@
 use mathlib.Core.Path.{sym, _∙_, ap}
 use mathlib.Core.Logic.{inl, inr}
 use Rattle.tickets.specs.declared.Asked.the-variants.{Call}
-use Rattle.tickets.specs.AskedLaws.{map-kinds, stack-kinds, no-map-kind, no-stack-kind, no-kind, first-byte}
+use Rattle.tickets.specs.AskedLaws.{map-kinds, stack-kinds, heap-kinds, no-map, no-stack, no-heap, no-kind, first-byte}
 use native.Mathlib.Omega.{arith}
 use borrow.Author.Needs.{needs}
 use Rattle.tickets.proofs.read_ticket.Statement.{statement}
@@ -23,44 +23,47 @@ number-requires-2 c κs = search needs
 map-op-requires : tie.Need-map-op-requires
 map-op-requires c κs = search needs
 
-returns : tie.Need-returns
-returns c = let t = c .before .before .before .before .before .before .before .before .args .ticket .now in
-    let f = first-byte t (omega (arith, c .before .before .before .before .before .before .before .before .pre)) in
-    let q = c .before .before .before .before .before .before .before .before .args .structure in
-    ap Call (c .map-op .ensures ∙ rw (f, c .before .before .before .before .before .number .ensures .0, c .before .before .before .before .number2 .ensures .0)) ∙ sym (map-kinds t q (c .before .if3 .taken) (omega (arith, c .before .before .before .if1 .left)) (omega (arith, c .before .before .if2 .taken)))
-
-returns-2 : tie.Need-returns-2
-returns-2 c = let t = c .before .before .before .before .before .before .before .before .args .ticket .now in
-    let f = first-byte t (omega (arith, c .before .before .before .before .before .before .before .before .pre)) in
-    let q = c .before .before .before .before .before .before .before .before .args .structure in
-    sym (no-map-kind t q (c .if5 .taken) (inr (omega (arith, c .before .before .if2 .left))))
-
 stack-op-requires : tie.Need-stack-op-requires
 stack-op-requires c κs = search needs
 
+heap-op-requires : tie.Need-heap-op-requires
+heap-op-requires c κs = search needs
+
+returns : tie.Need-returns
+returns c = let s = c .before .before .before .before .before .before .before .before in let t = s .args .ticket .now in let f = first-byte t (omega (arith, s .pre)) in
+    ap Call (c .map-op .ensures ∙ rw (f, c .before .before .before .before .before .number .ensures .0, c .before .before .before .before .number2 .ensures .0)) ∙ sym (map-kinds t (s .args .structure) (c .before .if3 .taken) (omega (arith, c .before .before .before .if1 .left)) (omega (arith, c .before .before .if2 .taken)))
+
+returns-2 : tie.Need-returns-2
+returns-2 c = let s = c .before .before .before .before .before .before .before .before .before in let t = s .args .ticket .now in let f = first-byte t (omega (arith, s .pre)) in
+    ap Call (c .stack-op .ensures ∙ rw (f, c .before .before .before .before .before .number2 .ensures .0)) ∙ sym (stack-kinds t (s .args .structure) (c .before .if5 .taken) (omega (arith, c .before .before .before .if2 .left)) (omega (arith, c .before .before .if4 .taken)))
+
 returns-3 : tie.Need-returns-3
-returns-3 c = let t = c .before .before .before .before .before .before .before .args .ticket .now in
-    let f = first-byte t (omega (arith, c .before .before .before .before .before .before .before .pre)) in
-    let q = c .before .before .before .before .before .before .before .args .structure in
-    sym (no-stack-kind t q (c .if3 .left) (inl (omega (arith, c .before .if2 .taken))))
+returns-3 c = let s = c .before .before .before .before .before .before .before .before .before in let t = s .args .ticket .now in let f = first-byte t (omega (arith, s .pre)) in
+    sym (no-heap t (s .args .structure) (inl (c .if7 .taken)) (omega (arith, c .before .before .if4 .left)))
 
 returns-4 : tie.Need-returns-4
-returns-4 c = let t = c .before .before .before .before .before .before .before .before .before .args .ticket .now in
-    let f = first-byte t (omega (arith, c .before .before .before .before .before .before .before .before .before .pre)) in
-    let q = c .before .before .before .before .before .before .before .before .before .args .structure in
-    ap Call (c .stack-op .ensures ∙ rw (f, c .before .before .before .before .before .number2 .ensures .0)) ∙ sym (stack-kinds t q (c .before .if5 .left) (omega (arith, c .before .before .before .if2 .left)) (omega (arith, c .before .before .if4 .taken)))
+returns-4 c = let s = c .before .before .before .before .before .before .before .before .before .before in let t = s .args .ticket .now in let f = first-byte t (omega (arith, s .pre)) in
+    sym (no-heap t (s .args .structure) (inr (c .if8 .taken)) (omega (arith, c .before .before .before .if4 .left)))
 
 returns-5 : tie.Need-returns-5
-returns-5 c = let t = c .before .before .before .before .before .args .ticket .now in
-    let f = first-byte t (omega (arith, c .before .before .before .before .before .pre)) in
-    let q = c .before .before .before .before .before .args .structure in
-    sym (no-kind t q (inl (omega (arith, c .if1 .taken))))
+returns-5 c = let s = c .before .before .before .before .before .before .before in let t = s .args .ticket .now in let f = first-byte t (omega (arith, s .pre)) in
+    sym (no-map t (s .args .structure) (c .if3 .left) (omega (arith, c .before .if2 .taken)))
 
 returns-6 : tie.Need-returns-6
-returns-6 c = let t = c .before .before .before .before .before .before .before .args .ticket .now in
-    let f = first-byte t (omega (arith, c .before .before .before .before .before .before .before .pre)) in
-    let q = c .before .before .before .before .before .before .before .args .structure in
-    sym (no-kind t q (inr (omega (arith, c .if4 .left))))
+returns-6 c = let s = c .before .before .before .before .before .before .before .before in let t = s .args .ticket .now in let f = first-byte t (omega (arith, s .pre)) in
+    sym (no-stack t (s .args .structure) (c .if5 .left) (omega (arith, c .before .before .if2 .left)) (omega (arith, c .before .if4 .taken)))
+
+returns-7 : tie.Need-returns-7
+returns-7 c = let s = c .before .before .before .before .before .before .before .before .before .before .before in let t = s .args .ticket .now in let f = first-byte t (omega (arith, s .pre)) in
+    ap Call (c .heap-op .ensures ∙ rw (f, c .before .before .before .before .before .before .before .number2 .ensures .0)) ∙ sym (heap-kinds t (s .args .structure) (c .before .before .if7 .left) (c .before .if8 .left) (omega (arith, c .before .before .before .before .if4 .left)) (omega (arith, c .before .before .before .if6 .taken)))
+
+returns-8 : tie.Need-returns-8
+returns-8 c = let s = c .before .before .before .before .before in let t = s .args .ticket .now in let f = first-byte t (omega (arith, s .pre)) in
+    sym (no-kind t (s .args .structure) (inl (omega (arith, c .if1 .taken))))
+
+returns-9 : tie.Need-returns-9
+returns-9 c = let s = c .before .before .before .before .before .before .before .before in let t = s .args .ticket .now in let f = first-byte t (omega (arith, s .pre)) in
+    sym (no-kind t (s .args .structure) (inr (omega (arith, c .if6 .left))))
 
 pub read-ticket-spec : {M : Type 1} → statement M
 read-ticket-spec =
@@ -72,9 +75,13 @@ read-ticket-spec =
     number-requires-2
     map-op-requires
     returns
-    returns-2
     stack-op-requires
+    returns-2
     returns-3
     returns-4
+    heap-op-requires
     returns-5
-    returns-6)
+    returns-6
+    returns-7
+    returns-8
+    returns-9)

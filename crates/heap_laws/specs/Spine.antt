@@ -1,0 +1,166 @@
+-- What is at hand of a heap's tree while a number sinks: the nodes of a way down from the top.
+use mathlib.Core.Path.{_≡_, refl, sym, ap}
+use mathlib.Core.Bool.{Bool, true, false, not}
+use mathlib.Core.List.{List, [], _∷_, _++_, append-nil}
+use Prim.Native.Nat.{ℕ, suc, _*_}
+use Rattle.list_spec.specs.Choice.{pick}
+use Rattle.list_spec.specs.Perm.{Perm, cons, trans}
+use Rattle.list_laws.specs.PermLaws.{perm-refl, perm-sym, perm-of-eq, perm-front, perm-append, perm-append-left, perm-append-right, perm-append-comm}
+use Rattle.list_laws.specs.Shuffle.{part, _&_, shuffle}
+use Rattle.balance_spec.specs.Tree.{Tree, leaf, node}
+use Rattle.method_spec.specs.Node.{Node, Link, child, withChild, linkOne}
+use Rattle.method_spec.specs.Heap.{childPosition, Pass, downward, passed}
+use Rattle.run_laws.specs.Fetches.{tags}
+use Rattle.run_laws.specs.StackRepresents.{Cell}
+use Rattle.heap_laws.specs.HeapTree.{Complete, Frame, bare, joined, plug, position, frameTags, heapLink, heapNode, heapNodes, aside, PassOf, Passes, none-passed, one-passed}
+use Rattle.heap_laws.specs.Plugged.{Sides}
+
+module _ {T : Type 0} (nil : T) where
+  -- Of a tree at position i the nodes of the list are at hand, from the top downward. What is not at hand is as it was stored, with the
+  -- links of a heap of n entries.
+  pub data Spine (n : ℕ) : ℕ → Tree (Cell T) → List (Pass T) → Type 0 where
+    bottom : {i : ℕ} → Spine n i leaf []
+    unseen : {i : ℕ} {l : Tree (Cell T)} {c : Cell T} {r : Tree (Cell T)} → Complete n i (bare (node l c r)) → Spine n i (node l c r) []
+    seen : {i : ℕ} {l : Tree (Cell T)} {c : Cell T} {r : Tree (Cell T)} {p : Pass T} {ps : List (Pass T)}
+        → p .node ≡ heapNode nil i l c r → Spine n (childPosition true i) l (pick (p .way) ps [])
+        → Spine n (childPosition false i) r (pick (p .way) [] ps) → Spine n i (node l c r) (p ∷ ps)
+
+  -- The same, and the top is at hand if there is one.
+  pub data Topped (n i : ℕ) : Tree (Cell T) → List (Pass T) → Type 0 where
+    no-top : Topped n i leaf []
+    with-top : {l : Tree (Cell T)} {c : Cell T} {r : Tree (Cell T)} {p : Pass T} {ps : List (Pass T)}
+        → p .node ≡ heapNode nil i l c r → Spine n (childPosition true i) l (pick (p .way) ps [])
+        → Spine n (childPosition false i) r (pick (p .way) [] ps) → Topped n i (node l c r) (p ∷ ps)
+
+  pub topped-spine : {n i : ℕ} {t : Tree (Cell T)} {ps : List (Pass T)} → Topped n i t ps → Spine n i t ps
+  topped-spine no-top = bottom
+  topped-spine (with-top e a b) = seen e a b
+
+  -- Nothing is at hand of a tree as it was stored.
+  pub stored-spine : {n i : ℕ} (t : Tree (Cell T)) → Complete n i (bare t) → Spine n i t []
+  stored-spine leaf h = bottom
+  stored-spine (node l c r) h = unseen h
+
+  -- The nodes that are not at hand.
+  unfoldable pub hidden : ℕ → Tree (Cell T) → List (Pass T) → List (Node T)
+  hidden i leaf ps = []
+  hidden i (node l c r) [] = heapNodes nil i (node l c r)
+  hidden i (node l c r) (p ∷ ps) =
+      hidden (childPosition true i) l (pick (p .way) ps []) ++ hidden (childPosition false i) r (pick (p .way) [] ps)
+
+  pub hidden-all : (i : ℕ) (t : Tree (Cell T)) → hidden i t [] ≡ heapNodes nil i t
+  unfolding hidden heapNodes
+  hidden-all i leaf = refl
+  hidden-all i (node l c r) = refl
+
+  -- The nodes at hand are those on the left and those on the right.
+  pub passed-sides : (s : Bool) (ps : List (Pass T)) → passed ps ≡ passed (pick s ps []) ++ passed (pick s [] ps)
+  passed-sides true ps = sym (append-nil (passed ps))
+  passed-sides false ps = refl
+
+  -- The nodes at hand and the others are all.
+  pub spine-nodes : {n i : ℕ} {t : Tree (Cell T)} {ps : List (Pass T)} → Spine n i t ps
+      → Perm (passed ps ++ hidden i t ps) (heapNodes nil i t)
+  unfolding hidden heapNodes
+  spine-nodes bottom = perm-refl []
+  spine-nodes {n} {i} (unseen {l = l} {c} {r} h) = perm-refl (heapNodes nil i (node l c r))
+  spine-nodes (seen {i = i} {l} {c} {r} {p} {ps} e a b) =
+      let left = pick (p .way) ps [] in
+      let right = pick (p .way) [] ps in
+      rw (e, passed-sides (p .way) ps)
+      (cons (heapNode nil i l c r)
+      (trans
+      (shuffle (passed left ∷ passed right ∷ hidden (2 * i) l left ∷ hidden (suc (2 * i)) r right ∷ [])
+      ((part 0 & part 1) & (part 2 & part 3)) ((part 0 & part 2) & (part 1 & part 3)) refl)
+      (perm-append (spine-nodes a) (spine-nodes b))))
+
+  -- ---- the nodes of a way, as a take has them at hand
+
+  -- A passed node with its new link l on the way; over a tree t there, if that is the link to it.
+  module _ (i : ℕ) (l : Link T) (f : Frame T) (p : Pass T) (h : PassOf nil i f p) where
+    abbrev passing : Pass T
+    passing = record { node = withChild (f .way) (p .node) l; way = f .way }
+
+    topped-joined : {n : ℕ} (t : Tree (Cell T)) {below : List (Pass T)} → l ≡ heapLink nil (childPosition (f .way) i) t
+        → Spine n (childPosition (f .way) i) t below
+        → Complete n (childPosition (not (f .way)) i) (bare (f .other)) → Topped n i (joined f t) (passing ∷ below)
+    topped-joined {n} t {below} link spine side = go (f .way) (h .other) link spine side
+      where
+        go : (s : Bool) → child (not s) (p .node) ≡ heapLink nil (childPosition (not s) i) (f .other)
+            → l ≡ heapLink nil (childPosition s i) t → Spine n (childPosition s i) t below
+            → Complete n (childPosition (not s) i) (bare (f .other))
+            → Topped n i (pick s (node t (f .cell) (f .other)) (node (f .other) (f .cell) t))
+            (record { node = withChild s (p .node) l; way = s } ∷ below)
+        go true other link spine side =
+            let e : withChild true (p .node) l ≡ heapNode nil i t (f .cell) (f .other) = cc in
+            with-top e spine (stored-spine (f .other) side)
+        go false other link spine side =
+            let e : withChild false (p .node) l ≡ heapNode nil i (f .other) (f .cell) t = cc in
+            with-top e (stored-spine (f .other) side) spine
+
+    link-joined : (t : Tree (Cell T)) → linkOne (passing .node) ≡ heapLink nil i (joined f t)
+    unfolding heapLink
+    link-joined t = go (f .way)
+      where
+        go : (s : Bool) → linkOne (withChild s (p .node) l) ≡ heapLink nil i (pick s (node t (f .cell) (f .other)) (node (f .other) (f .cell) t))
+        go true = cc
+        go false = cc
+
+    tag-joined : passing .node .tag ≡ f .cell .tag
+    tag-joined = go (f .way)
+      where
+        go : (s : Bool) → withChild s (p .node) l .tag ≡ f .cell .tag
+        go true = h .tag
+        go false = h .tag
+
+    hidden-joined : (t : Tree (Cell T)) (below : List (Pass T)) → Perm (hidden i (joined f t) (passing ∷ below))
+        (hidden (childPosition (f .way) i) t below ++ heapNodes nil (childPosition (not (f .way)) i) (f .other))
+    unfolding hidden
+    hidden-joined t below = go (f .way)
+      where
+        go : (s : Bool)
+            → Perm
+            (hidden i (pick s (node t (f .cell) (f .other)) (node (f .other) (f .cell) t)) (record { node = withChild s (p .node) l; way = s } ∷ below))
+            (hidden (childPosition s i) t below ++ heapNodes nil (childPosition (not s) i) (f .other))
+        go true = perm-append-left (hidden (2 * i) t below) (perm-of-eq (hidden-all (suc (2 * i)) (f .other)))
+        go false =
+            trans (perm-append-right (hidden (suc (2 * i)) t below) (perm-of-eq (hidden-all (2 * i) (f .other))))
+            (perm-append-comm (heapNodes nil (2 * i) (f .other)) (hidden (suc (2 * i)) t below))
+
+  -- The list is at hand of the whole tree, where `below` is at hand of the tree t at the place.
+  pub record Downward (n : ℕ) (fs : List (Frame T)) (t : Tree (Cell T)) (below ps : List (Pass T)) : Type 0 where
+    pub topped : Topped n 1 (plug t fs) ps
+    pub rest : Perm (hidden 1 (plug t fs) ps) (hidden (position fs) t below ++ aside nil fs)
+    pub tagged : Perm (tags (passed ps)) (tags (passed below) ++ frameTags fs)
+
+  -- So it is of the nodes of a way, each with its link to the next.
+  pub downward-hand : (n : ℕ) {fs : List (Frame T)} {path : List (Pass T)} → Passes nil fs path → Sides n fs
+      → (t : Tree (Cell T)) (below : List (Pass T)) → Topped n (position fs) t below
+      → (l : Link T) → l ≡ heapLink nil (position fs) t → Downward n fs t below (downward l path below)
+  unfolding plug position aside downward
+  downward-hand n none-passed sides t below topped l link =
+      record {
+        topped = topped;
+        rest = perm-of-eq (sym (append-nil (hidden 1 t below)));
+        tagged = perm-of-eq (sym (append-nil (tags (passed below))));
+      }
+  downward-hand n (one-passed {f} {p} {fs} {ps} h more) sides t below topped l link =
+      let i = position fs in
+      let q = passing i l f p h in
+      let over =
+      downward-hand n more (sides .1 .1) (joined f t) (q ∷ below) (topped-joined i l f p h t link (topped-spine topped) (sides .1 .0))
+      (linkOne (q .node)) (link-joined i l f p h t) in
+      let at : ℕ = childPosition (f .way) i in
+      let beside = heapNodes nil (childPosition (not (f .way)) i) (f .other) in
+      rw (h .way)
+      (record {
+        topped = over .topped;
+        rest =
+            trans (over .rest)
+            (trans (perm-append-right (aside nil fs) (hidden-joined i l f p h t below))
+            (shuffle (hidden at t below ∷ beside ∷ aside nil fs ∷ []) ((part 0 & part 1) & part 2) (part 0 & (part 1 & part 2)) refl));
+        tagged =
+            trans (over .tagged)
+            (trans (perm-of-eq (ap (λ (x : T). x ∷ (tags (passed below) ++ frameTags fs)) (tag-joined i l f p h)))
+            (perm-sym (perm-front (tags (passed below)) (f .cell .tag) (frameTags fs))));
+      })

@@ -50,6 +50,8 @@ fn join_answer(sum: u64, answer: Answer) -> u64 {
         Answer::Pushed => join(join(sum, 6), 0),
         Answer::Popped(v) => join(join(sum, 7), v),
         Answer::Empty => join(join(sum, 8), 0),
+        Answer::Added => join(join(sum, 9), 0),
+        Answer::Taken(v) => join(join(sum, 10), v),
         Answer::Full => join(join(sum, 0), 10),
     }
 }

@@ -15,7 +15,7 @@ use Rattle.slot_spec.specs.LittleEndian.{Bytes}
 use Rattle.slot_spec.specs.Tree.{treeLength}
 use Rattle.method_spec.specs.Node.{Node}
 use Rattle.method_spec.specs.Answer as method
-use Rattle.method_spec.specs.Answer.{Structure, get, put, remove, push, pop}
+use Rattle.method_spec.specs.Answer.{Structure, get, put, remove, push, pop, add, take as take-smallest}
 use Rattle.method_spec.specs.Rounds.{rounds, spare}
 use Rattle.run_laws.specs.RoundsLaws.{some-rounds}
 use Rattle.round_laws.specs.Sorted.{ascending-distinct}
@@ -78,6 +78,8 @@ structure-back (put k v) = refl
 structure-back (remove k) = refl
 structure-back (push v) = refl
 structure-back pop = refl
+structure-back (add v) = refl
+structure-back take-smallest = refl
 
 fits-back : {s : Structure} (a : method.Op s) → OpFits a → OpFits (toOp (fromOp a))
 unfolding fromOp
@@ -86,6 +88,8 @@ fits-back (put k v) h = h
 fits-back (remove k) h = h
 fits-back (push v) h = h
 fits-back pop h = h
+fits-back (add v) h = h
+fits-back take-smallest h = h
 
 call-back : {s : Structure} (a : method.Op s) (k F : ℕ) (draw : ℕ → ℕ) (st : Store) → bucketCall k F (toOp (fromOp a)) draw st ≡ bucketCall k F a draw st
 unfolding fromOp
@@ -94,6 +98,8 @@ call-back (put k v) n F draw st = refl
 call-back (remove k) n F draw st = refl
 call-back (push v) n F draw st = refl
 call-back pop n F draw st = refl
+call-back (add v) n F draw st = refl
+call-back take-smallest n F draw st = refl
 
 -- What the checks of a call make sure of, with the ranges that the types give.
 pub record Checked (s : State) (op : Op) (F : ℕ) (tree ticket tape trace : List ℕ) : Type 0 where

@@ -1,9 +1,9 @@
 // A line of the input: a label, a colon, and numbers, each right after its letter. A letter that a line leaves out has the number
 // of the last line without a label: there the input's parts start. So a case is added by a line, and by its answer in stdout.
 // A state: m mark, s structure, z size, e entries, h k t the root link's height, key and tag, w how many nodes wait;
-//   p a place, f 1 if it is full, n g its node's key and tag, l the key of that node's left link, which has height 0;
+//   p a place, f 1 if it is full, n g its node's key and tag, a l and b r the heights and keys of its left and right link;
 //   q the key of a node that fills place 1 (0: none).
-// A tree: B its length, F the byte that fills it, S where a slot with a node of key 9 starts (past the end: none), G its tag.
+// A tree: B its length, F the byte that fills it, S where a slot with a node starts (past the end: none), V G its key and tag.
 // A call: K the ticket's kind, T D L the lengths of ticket, tape and trace buffer, Y Z the tape's second and third number;
 //   N how many such calls are made before it, M the bits that are kept of the mark that they leave.
 // X: what is printed, as cases.rt says.

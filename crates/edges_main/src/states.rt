@@ -9,18 +9,16 @@ use state_places::no_place;
 use state_spec::Place;
 use state_spec::State;
 
-// A node without children; its absent left link has a key.
-pub fn node(key: u32, tag: u16, left_key: u32) -> Node {
-    let left = Link {
-        height: 0,
-        key: left_key,
+// A link under tag 0.
+pub fn link(height: u8, key: u32) -> Link {
+    Link {
+        height,
+        key,
         tag: 0,
-    };
-    let right = Link {
-        height: 0,
-        key: 0,
-        tag: 0,
-    };
+    }
+}
+
+pub fn node(key: u32, tag: u16, left: Link, right: Link) -> Node {
     Node {
         key,
         value: 0,
@@ -31,10 +29,12 @@ pub fn node(key: u32, tag: u16, left_key: u32) -> Node {
 }
 
 fn places_of(row: &[usize; 128]) -> [Place; 101] {
-    let first = node(key(row, b'n'), short(row, b'g'), key(row, b'l'));
+    let left = link(byte(row, b'a'), key(row, b'l'));
+    let right = link(byte(row, b'b'), key(row, b'r'));
+    let first = node(key(row, b'n'), short(row, b'g'), left, right);
     let full = number(row, b'f') == 1;
     let second_key = key(row, b'q');
-    let second = node(second_key, 0, 0);
+    let second = node(second_key, 0, link(0, 0), link(0, 0));
     let at = number(row, b'p') % 101;
     let mut places = [no_place(); 101];
     places[1] = Place {

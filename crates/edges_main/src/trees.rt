@@ -1,6 +1,8 @@
 // The tree that a case is lent.
+use super::rows::key;
 use super::rows::number;
 use super::rows::short;
+use super::states::link;
 use super::states::node;
 use bucket_writer::write_slot;
 ghost use mathlib.Core.Path.{_≡_};
@@ -13,13 +15,14 @@ pub fn filled(byte: u8) -> [u8; 65536]
     [byte; 65536]
 }
 
-// A slot with a node of key 9, where the row's slot lies within the tree.
+// A slot with a node without children, where the row's slot lies within the tree.
 pub fn put_slot(row: &[usize; 128], tree: &mut [u8]) {
     let at = number(row, b'S');
     if tree.len() < at + 32 {
         return;
     }
-    write_slot(tree, at, node(9, short(row, b'G'), 0));
+    let n = node(key(row, b'V'), short(row, b'G'), link(0, 0), link(0, 0));
+    write_slot(tree, at, n);
 }
 
 // A byte joins a checksum, by a step of xorshift.

@@ -1,6 +1,7 @@
 // Runs scripts of calls over a small memory of nodes that stands for a store, and prints each call's answer and then the
-// tree. A script is pairs of characters: + puts a key, - removes it, ? gets it, < pushes and > pops (their second
-// character says nothing). The value that a call puts or pushes is its number in the script.
+// tree. A script is pairs of characters: + puts a key, - removes it, ? gets it, < pushes and > pops, * adds a number,
+// which the character says as it does a key, and ! takes the smallest (the second character of <, > and ! says nothing).
+// The value that a call puts or pushes is its number in the script.
 use memory::Memory;
 use memory::empty;
 use operation_spec::Op;
@@ -15,7 +16,7 @@ mod memory;
 mod playing;
 mod show;
 
-// The operations take no link that is higher. No root link of a map or a stack of so few entries is.
+// The operations take no link that is higher. No root link of a store of so few entries is.
 const HIGHEST: u8 = 100;
 
 // A key is a character's code less that of 0, so that the digits are the keys 0 to 9.
@@ -32,6 +33,8 @@ fn op_of(sign: u8, key: u32, value: u64) -> Op {
         b'-' => Op::Remove(key),
         b'<' => Op::Push(value),
         b'>' => Op::Pop,
+        b'*' => Op::Add(key as u64),
+        b'!' => Op::Take,
         _ => Op::Get(key),
     }
 }
@@ -79,4 +82,12 @@ fn main() {
     play(b"+a+b+c+d+e+f+g+h+i+j+k+l+m+n+o+p+a?a-h+h");
     // A stack.
     play(b">.<.<.<.>.<.");
+    // A heap: numbers rise, to the root and part of the way; equal ones stay.
+    play(b"*5*3*1*4*4*2");
+    // Takes at three, two, one and no entries.
+    play(b"*5*3*1!.!.!.!.*7");
+    // Equal children: to the left; then to the right, past a child that is held already; and a number that stays at once.
+    play(b"*1*2*2*3*3*9!.!.!.");
+    // A full heap, and takes that sink as far as they can.
+    play(b"*1*2*3*4*5*6*7*8*9*a*b*c*d*e*f*g!.!.");
 }

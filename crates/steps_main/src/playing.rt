@@ -33,7 +33,7 @@ struct Gathered {
     count: usize,
 }
 
-// The structure that an operation is of: 1 the map, 2 the stack.
+// The structure that an operation is of: 1 the map, 2 the stack, 3 the heap.
 fn structure_of(op: Op) -> u8 {
     match op {
         Op::Get(_) => 1,
@@ -41,6 +41,8 @@ fn structure_of(op: Op) -> u8 {
         Op::Remove(_) => 1,
         Op::Push(_) => 2,
         Op::Pop => 2,
+        Op::Add(_) => 3,
+        Op::Take => 3,
     }
 }
 

@@ -43,6 +43,8 @@ pub fn print_answer(answer: Answer) {
         Answer::Removed(v) => valued(b"removed ", v),
         Answer::Pushed => text(b"pushed\n"),
         Answer::Popped(v) => valued(b"popped ", v),
+        Answer::Added => text(b"added\n"),
+        Answer::Taken(v) => valued(b"taken ", v),
         Answer::Empty => text(b"empty\n"),
         Answer::Full => text(b"full\n"),
     }

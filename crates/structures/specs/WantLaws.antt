@@ -7,14 +7,17 @@ use mathlib.Core.Bool.{Bool, true, false, not, Bool·beq}
 use mathlib.Core.List.{List, [], _∷_, _++_}
 use mathlib.Core.Option.{Option, none, some}
 use lib.Dec.{eqb, leb, ltb}
+use lib.ListN.{length}
 use borrow.Author.Tests.{eqb-true}
 use Rattle.list_spec.specs.Choice.{pick}
 use Rattle.list_laws.specs.ChoiceLaws.{pick-both, pick-neither}
-use Rattle.method_spec.specs.Node.{Link, Node, child, withChild, heightOf, absent}
+use Rattle.method_spec.specs.Node.{Link, Node, child, withChild, heightOf, absent, linkOne}
 use Rattle.method_spec.specs.Prog.{Want, Prog, done, want, bind, after}
 use Rattle.method_spec.specs.Answer as method
 use Rattle.method_spec.specs.Map.{Outcome, Step, Sub, stub, top, Built, Spot, gap, hit, Lowest, linkOf, topOf, kid, seat, start, stepAt, beside, below, walk, tall, rotate, single, double, opened, turn, placed, rest, nearOn, othersOf, raise, climb, getStep, getProg, putStep, putProg, lowest, swapped, takeOut, removeStep, removeProg, mapTest}
 use Rattle.method_spec.specs.Stack.{pushProg, popProg, stackTest}
+use Rattle.method_spec.specs.Heap.{Pass, Reached, lower, wayTo, beneath, descend, addProg, downward, childOf, smaller, above, sunk, sink, replaceRoot, takeProg, heapTest}
+use Rattle.run_laws.specs.HeapWithin.{heap-tested}
 use Rattle.method_spec.specs.Call.{program, test}
 use Rattle.node_rows.specs.Heights.{Low, Lows}
 use Rattle.map_nodes.specs.HeightLaws.{low-child}
@@ -186,7 +189,73 @@ module _ {T : Type 0} (most : ℕ) where
       (steps-append (y .path) (swapped (stepAt w n false) (y .node) ∷ path) (l .1) (h, k)) (l .0 .1))
       (low-lowest (n .right .height) (below (stepAt w n false)) m [] low tt)))))
 
-  module _ (nil : T) (l : Link T) (low : l .height ≤ most) where
+  -- ---- the heap's way down and the sinking of a number
+
+  abbrev PassesLow : List (Pass T) → Type 0
+  PassesLow [] = Unit
+  PassesLow (p ∷ ps) = Low most (p .node) × PassesLow ps
+
+  low-descend : (turns : List Bool) (w : Want T) (path : List (Pass T)) → w .link .height ≤ most → PassesLow path
+      → AsksLow (λ (r : Reached T). (r .end .link .height ≤ most) × PassesLow (r .path)) (descend turns w path)
+  unfolding descend
+  low-descend [] w path h k = ends-low (h, k)
+  low-descend (s ∷ turns) w path h k =
+      asks-low h (λ n low. low-descend turns (beneath n s) (record { node = n; way = s } ∷ path) (low-child s n low) (low, k))
+
+  low-with-child : (s : Bool) (n : Node T) (l : Link T) → Low most n → l .height ≤ most → Low most (withChild s n l)
+  low-with-child true n l h k = (k, h .1)
+  low-with-child false n l h k = (h .0, k)
+
+  module _ (one : 1 ≤ most) where
+    low-downward : (l : Link T) (path below : List (Pass T)) → l .height ≤ most → PassesLow path → PassesLow below → PassesLow (downward l path below)
+    unfolding downward
+    low-downward l [] below h k b = b
+    low-downward l (p ∷ path) below h k b =
+        let n = withChild (p .way) (p .node) l in
+        low-downward (linkOne n) path (record { node = n; way = p .way } ∷ below) one (k .1) (low-with-child (p .way) (p .node) l (k .0) h, b)
+
+    low-pick-side : (s : Bool) (below : List (Pass T)) → PassesLow below → PassesLow (pick s below []) × PassesLow (pick s [] below)
+    low-pick-side true below h = (h, tt)
+    low-pick-side false below h = (tt, h)
+
+    low-child-of : (w : Want T) (below : List (Pass T)) → w .link .height ≤ most → PassesLow below → AsksLow PassesLow (childOf w below)
+    unfolding childOf
+    low-child-of w [] h k = low-pick (eqb (w .link .height) 0) (ends-low tt) (asks-low h (λ c low. ends-low (low, tt)))
+    low-child-of w (p ∷ below) h k = ends-low k
+
+    low-lower : (further : Pass T → List (Pass T) → Prog T (List (Node T)))
+        → ((p : Pass T) (below : List (Pass T)) → PassesLow (p ∷ below) → AsksLow (λ (out : List (Node T)). Unit {0}) (further p below))
+        → (v : ℕ) (n : Node T) (a b : List (Pass T)) → PassesLow a → PassesLow b → AsksLow (λ (out : List (Node T)). Unit {0}) (sunk further v n a b (smaller a b))
+    low-lower further f v n [] [] h k = ends-low tt
+    low-lower further f v n (p ∷ a) [] h k =
+        low-pick (ltb (p .node .value) v) (low-bind _ (asks-more (λ out u. ends-low tt) (f p a h))) (ends-low tt)
+    low-lower further f v n [] (q ∷ b) h k =
+        low-pick (ltb (q .node .value) v) (low-bind _ (asks-more (λ out u. ends-low tt) (f q b k))) (ends-low tt)
+    low-lower further f v n (p ∷ a) (q ∷ b) h k = go (leb (p .node .value) (q .node .value))
+      where
+        go : (t : Bool) → AsksLow (λ (out : List (Node T)). Unit {0}) (sunk further v n (p ∷ a) (q ∷ b) (pick t (lower p a (q ∷ b)) (lower q b (p ∷ a))))
+        go true = low-pick (ltb (p .node .value) v) (low-bind _ (asks-more (λ out u. ends-low tt) (f p a h))) (ends-low tt)
+        go false = low-pick (ltb (q .node .value) v) (low-bind _ (asks-more (λ out u. ends-low tt) (f q b k))) (ends-low tt)
+
+    low-sink : (fuel v : ℕ) (p : Pass T) (below : List (Pass T)) → PassesLow (p ∷ below) → AsksLow (λ (out : List (Node T)). Unit {0}) (sink fuel v p below)
+    unfolding sink
+    low-sink zero v p below h = ends-low tt
+    low-sink (suc fuel) v p below h =
+        let sides = low-pick-side (p .way) below (h .1) in
+        low-bind _
+        (asks-more
+        (λ a la. low-bind _
+        (asks-more (λ b lb. low-lower (sink fuel v) (low-sink fuel v) v (above true a (above false b (p .node))) a b la lb)
+        (low-child-of (beneath (p .node) false) (pick (p .way) [] below) (h .0 .1) (sides .1))))
+        (low-child-of (beneath (p .node) true) (pick (p .way) below []) (h .0 .0) (sides .0)))
+
+    low-replace : (nil : T) (entries : ℕ) (z : Node T) (path : List (Pass T)) → PassesLow path → AsksLow (λ (o : Outcome T). Unit {0}) (replaceRoot nil entries z path)
+    unfolding replaceRoot
+    low-replace nil entries z [] h = ends-low tt
+    low-replace nil entries z (p ∷ below) h =
+        low-bind _ (asks-more (λ out u. ends-low tt) (low-sink (suc (length below)) (z .value) p below h))
+
+  module _ (nil : T) (l : Link T) (one : 1 ≤ most) (low : l .height ≤ most) where
     walking : (key : ℕ) (f : Spot T → Prog T (Outcome T)) → ((s : Spot T) → SpotLow s → AsksLow (λ (o : Outcome T). Unit {0}) (f s))
         → AsksLow (λ (o : Outcome T). Unit {0}) (bind (walk key (l .height) (start l) []) f)
     walking key f h = low-bind f (asks-more h (low-walk key (l .height) (start l) [] low tt))
@@ -204,6 +273,17 @@ module _ {T : Type 0} (most : ℕ) where
     low-remove entries (gap k path) h = ends-low tt
     low-remove entries (hit w n path) h = low-bind _ (asks-more (λ b u. ends-low tt) (low-takeOut w n path (h .0) (h .1)))
 
+    low-heap : (op : method.Op method.heap) (spares : ℕ → T) (limit entries : ℕ) → AsksLow (λ (o : Outcome T). Unit {0}) (program nil op spares limit entries l)
+    unfolding program addProg takeProg
+    low-heap (method.add value) spares limit entries =
+        low-pick (ltb entries limit) (low-bind _ (asks-more (λ r h. ends-low tt) (low-descend (wayTo (suc entries)) (start l) [] low tt))) (ends-low tt)
+    low-heap method.take spares limit entries =
+        low-pick (eqb entries 0) (ends-low tt)
+        (low-bind _
+        (asks-more
+        (λ r h. asks-low (h .0) (λ z lz. low-replace one nil entries z (downward (absent nil) (r .path) []) (low-downward one (absent nil) (r .path) [] (omega arith) (h .1) tt)))
+        (low-descend (wayTo entries) (start l) [] low tt)))
+
     -- The program of any ticket.
     pub low-program : {s : method.Structure} (op : method.Op s) (spares : ℕ → T) (limit entries : ℕ)
         → AsksLow (λ (o : Outcome T). Unit {0}) (program nil op spares limit entries l)
@@ -215,6 +295,8 @@ module _ {T : Type 0} (most : ℕ) where
     low-program (method.push value) spares limit entries = low-pick (ltb entries limit) (ends-low tt) (ends-low tt)
     low-program method.pop spares limit entries =
         low-pick (eqb (l .height) 0) (ends-low tt) (asks-low low (λ n h. ends-low tt))
+    low-program (method.add value) spares limit entries = low-heap (method.add value) spares limit entries
+    low-program method.take spares limit entries = low-heap method.take spares limit entries
 
   -- ---- what is wanted after some nodes
 
@@ -228,10 +310,10 @@ module _ {T : Type 0} (most : ℕ) where
 
 -- The next wanted link is low where the root link and the held nodes are.
 pub wanted-low : {s : method.Structure} (op : method.Op s) (spares : ℕ → ℕ) (limit entries : ℕ) (l : Link ℕ) (ns : List (Node ℕ)) (most : ℕ) {w : Want ℕ}
-    → l .height ≤ most → Lows most ns → wantedIn (after (program 0 op spares limit entries l) ns) ≡ some w → w .link .height ≤ most
-wanted-low op spares limit entries l ns most {w} h k e =
+    → 1 ≤ most → l .height ≤ most → Lows most ns → wantedIn (after (program 0 op spares limit entries l) ns) ≡ some w → w .link .height ≤ most
+wanted-low op spares limit entries l ns most {w} one h k e =
     go (after (program 0 op spares limit entries l) ns)
-    (low-after most (program 0 op spares limit entries l) ns (low-program most 0 l h op spares limit entries) k) e
+    (low-after most (program 0 op spares limit entries l) ns (low-program most 0 l one h op spares limit entries) k) e
   where
     go : (p : Prog ℕ (Outcome ℕ)) → AsksLow most (λ (o : Outcome ℕ). Unit {0}) p → wantedIn p ≡ some w → w .link .height ≤ most
     go (done o) a e = let z : _≡_ {A = ℕ} 0 1 = cc in absurd (omega arith)
@@ -258,7 +340,14 @@ stack-tested-low w n most e h =
     one true c x = let z = eqb-true (n .left .height) 0 x in omega arith
     one false c x = let z = eqb-true (n .left .height) 1 (pick-both (eqb (n .left .height) 1) c x .0) in omega arith
 
+heap-tested-low : (entries : ℕ) (w : Want ℕ) (n : Node ℕ) (most : ℕ) → heapTest entries w n ≡ true → 1 ≤ most → Low most n
+heap-tested-low entries w n most e h =
+    let left = heap-tested entries w n e true .1 in
+    let right = heap-tested entries w n e false .1 in
+    (omega arith, omega arith)
+
 pub tested-low : (s : method.Structure) (entries : ℕ) (w : Want ℕ) (n : Node ℕ) (most : ℕ) → test s entries w n ≡ true → 1 ≤ most → w .link .height ≤ most → Low most n
 unfolding test
 tested-low method.map entries w n most e k h = map-tested-low w n most e h
 tested-low method.stack entries w n most e k h = stack-tested-low w n most e k
+tested-low method.heap entries w n most e k h = heap-tested-low entries w n most e k

@@ -132,6 +132,7 @@ most-high : (s : Structure) (k : ℕ) → k ≤ 8 → highest s k ≤ 100
 unfolding highest least shaped tallest greatest
 most-high answer.map k small = let most : greatest k ≤ 11 = greatest-mono small in omega arith
 most-high answer.stack k small = omega arith
+most-high answer.heap k small = omega arith
 
 -- A store between two fetch rounds.
 pub record Midway (k i : ℕ) (g : Going) (q : Prog ℕ (Outcome ℕ)) : Type 0 where
@@ -334,7 +335,7 @@ module _ (j : Job) (draw : ℕ → ℕ) (is-leaf : (d : ℕ) → draw d < 2 ^ j 
         -- The wanted link is low, and so is the node that passed its test.
         node-low : Low 100 fetchedNode
         node-low =
-            let low = wanted-low (toOp (j .op)) (λ i. j .tag) (j .limit) (j .entries) (toLink (j .root)) (nodesOf h) 100 (root-low j draw is-leaf b) (inv .low) asked in
+            let low = wanted-low (toOp (j .op)) (λ i. j .tag) (j .limit) (j .entries) (toLink (j .root)) (nodesOf h) 100 (omega arith) (root-low j draw is-leaf b) (inv .low) asked in
             let passed : test (structureIn j) (j .entries) (toWant want) (toNode (r .node)) ≡ true = rw (← b .structure-is) (round .tested taken) in
             tested-low (structureIn j) (j .entries) (toWant want) (toNode (r .node)) 100 passed (omega arith) low
 

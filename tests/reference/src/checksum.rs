@@ -41,5 +41,7 @@ fn word_number(answer: Answer) -> u64 {
         Answer::Pushed => 6,
         Answer::Popped(_) => 7,
         Answer::Empty => 8,
+        Answer::Added => 9,
+        Answer::Taken(_) => 10,
     }
 }

@@ -88,13 +88,15 @@ struct Input {
     /// are of those leaves.
     skew: u64,
     keys: Keys,
+    /// A heap's numbers may lie below this, so that equal ones meet.
+    values_below: Option<u64>,
     /// How many of ten calls are to add an entry.
     growth: u64,
     bytes: Vec<u8>,
 }
 
 pub fn plan(seed: u64) -> Plan {
-    PLANS[(seed / 16) as usize % PLANS.len()]
+    PLANS[(seed / 24) as usize % PLANS.len()]
 }
 
 /// A call as the walk program reads it.
@@ -114,6 +116,7 @@ pub fn input(seed: u64) -> Vec<u8> {
         Plan::FillAndEmpty => input.fill_and_empty(),
         Plan::HotKeys => {
             input.keys = Keys::Edges;
+            input.values_below = None;
             input.some_calls(Tape::Changing);
         }
         Plan::ForeignKinds => input.foreign_kinds(),
@@ -127,8 +130,8 @@ impl Input {
     /// The opening.
     fn new(seed: u64) -> Input {
         let mut random = Random::new(seed);
-        let structure = [MAP, STACK][(seed % 2) as usize];
-        let size = 1 + (seed / 2 % 8) as u8;
+        let structure = [MAP, STACK, HEAP][(seed % 3) as usize];
+        let size = 1 + (seed / 3 % 8) as u8;
         let leaves = (0..=random.below(4))
             .map(|_| random.next() as u16)
             .collect();
@@ -139,6 +142,10 @@ impl Input {
             leaves,
             skew: random.pick(&[6, 7, 8, 8, 8]),
             keys: random.pick(&[Keys::Small, Keys::Scattered]),
+            values_below: match structure {
+                HEAP => random.pick(&[None, None, Some(2), Some(5), Some(40)]),
+                _ => None,
+            },
             growth: 3 + random.below(6),
             bytes: vec![structure, size],
             random,
@@ -178,7 +185,8 @@ impl Input {
     fn fill_and_empty(&mut self) {
         let (add, take) = match self.structure {
             MAP => (PUT, REMOVE),
-            _ => (PUSH, POP),
+            STACK => (PUSH, POP),
+            _ => (ADD, TAKE),
         };
         for _ in 0..=self.random.below(2) {
             for kind in [add, take] {
@@ -210,7 +218,7 @@ impl Input {
             if self.random.one_in(3) {
                 let structure = self.structure;
                 let any = self.random.next() as u8;
-                let kind = self.random.pick(&[0, 1, 2, 3, 4, 5, 6, 7, 255, any]);
+                let kind = self.random.pick(&[0, 1, 2, 3, 4, 5, 6, 7, 8, 255, any]);
                 if !kind_fits(structure, kind) {
                     let (key, value) = (self.key(), self.value());
                     self.call(kind, key, value);
@@ -246,7 +254,7 @@ impl Input {
     fn refused_opening(&mut self) {
         let any = self.random.next() as u8;
         let bad_size = self.random.pick(&[0, 9, 10, 16, 255, any | 16]);
-        let bad_structure = self.random.pick(&[0, 3, 4, 255, any | 4]);
+        let bad_structure = self.random.pick(&[0, 4, 5, 255, any | 4]);
         let (structure, size) = match self.random.below(3) {
             0 => (self.structure, bad_size),
             1 => (bad_structure, self.size),
@@ -266,8 +274,10 @@ impl Input {
         let kind = match (self.structure, adds) {
             (MAP, true) => PUT,
             (MAP, false) => self.random.pick(&[GET, GET, REMOVE]),
-            (_, true) => PUSH,
-            (_, false) => POP,
+            (STACK, true) => PUSH,
+            (STACK, false) => POP,
+            (_, true) => ADD,
+            (_, false) => TAKE,
         };
         let (key, value) = (self.key(), self.value());
         self.call(kind, key, value);
@@ -319,10 +329,11 @@ impl Input {
     }
 
     fn value(&mut self) -> u64 {
-        match self.random.below(4) {
-            0 => self.random.pick(&EDGE_VALUES),
-            1 => self.random.below(1000),
-            _ => self.random.next(),
+        match (self.values_below, self.random.below(4)) {
+            (Some(bound), _) => self.random.below(bound),
+            (None, 0) => self.random.pick(&EDGE_VALUES),
+            (None, 1) => self.random.below(1000),
+            (None, _) => self.random.next(),
         }
     }
 }

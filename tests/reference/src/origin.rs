@@ -68,6 +68,8 @@ impl Machine {
             REMOVE => self.root = self.remove(self.root, ticket.key),
             PUSH if !full => self.push(ticket.value),
             POP if self.entries > 0 => self.pop(),
+            ADD if !full => self.add_number(ticket.value),
+            TAKE if self.entries > 0 => self.take_smallest(),
             _ => {}
         }
         self.name_own_draws();
@@ -109,7 +111,8 @@ impl Machine {
         }
     }
 
-    fn add(&mut self, key: u32, value: u64, left: OriginLink) {
+    /// A new node, and the link to it.
+    fn add(&mut self, key: u32, value: u64, left: OriginLink) -> OriginLink {
         let origin = (self.calls, self.rounds());
         self.nodes.insert(
             key,
@@ -123,16 +126,15 @@ impl Machine {
         );
         self.fetched.push(key);
         self.entries += 1;
+        OriginLink {
+            height: 1,
+            key,
+            origin,
+        }
     }
 
     fn push(&mut self, value: u64) {
-        let key = self.entries + 1;
-        self.add(key, value, self.root);
-        self.root = OriginLink {
-            height: 1,
-            key,
-            origin: (self.calls, self.rounds()),
-        };
+        self.root = self.add(self.entries + 1, value, self.root);
     }
 
     fn pop(&mut self) {
@@ -141,6 +143,76 @@ impl Machine {
         self.nodes.remove(&top.key);
         self.entries -= 1;
         self.root = top.left;
+    }
+
+    fn add_number(&mut self, value: u64) {
+        let mut position = self.entries + 1;
+        self.fetch_path(position / 2);
+        *self.link_to(position) = self.add(position, value, NO_LINK);
+        while position > 1 && self.number(position) < self.number(position / 2) {
+            self.swap_numbers(position, position / 2);
+            position /= 2;
+        }
+    }
+
+    fn take_smallest(&mut self) {
+        let last = self.entries;
+        self.fetch_path(last);
+        self.swap_numbers(1, last);
+        *self.link_to(last) = NO_LINK;
+        self.nodes.remove(&last);
+        self.entries -= 1;
+        let mut position = 1;
+        loop {
+            let there = |child: &u32| *child <= self.entries;
+            let left = Some(2 * position).filter(there);
+            let right = Some(2 * position + 1).filter(there);
+            for child in left.into_iter().chain(right) {
+                self.fetch_position(child);
+            }
+            let child = match (left, right) {
+                (Some(left), Some(right)) if self.number(right) < self.number(left) => right,
+                (Some(left), _) => left,
+                _ => return,
+            };
+            if self.number(position) <= self.number(child) {
+                return;
+            }
+            self.swap_numbers(position, child);
+            position = child;
+        }
+    }
+
+    /// The heap's positions from the root down to this one; none for 0.
+    fn fetch_path(&mut self, position: u32) {
+        for shift in (0..u32::BITS - position.leading_zeros()).rev() {
+            self.fetch_position(position >> shift);
+        }
+    }
+
+    fn fetch_position(&mut self, position: u32) {
+        let mut link = *self.link_to(position);
+        self.fetch(&mut link);
+        *self.link_to(position) = link;
+    }
+
+    /// The link to a position of the heap: its parent's, or the root link.
+    fn link_to(&mut self, position: u32) -> &mut OriginLink {
+        match (self.nodes.get_mut(&(position / 2)), position % 2) {
+            (None, _) => &mut self.root,
+            (Some(parent), 0) => &mut parent.left,
+            (Some(parent), _) => &mut parent.right,
+        }
+    }
+
+    fn number(&self, position: u32) -> u64 {
+        self.nodes[&position].value
+    }
+
+    fn swap_numbers(&mut self, one: u32, other: u32) {
+        let (a, b) = (self.number(one), self.number(other));
+        self.nodes.get_mut(&one).expect("a position").value = b;
+        self.nodes.get_mut(&other).expect("a position").value = a;
     }
 
     fn get(&mut self, mut link: OriginLink, key: u32) -> OriginLink {
@@ -158,13 +230,7 @@ impl Machine {
 
     fn put(&mut self, mut link: OriginLink, ticket: Ticket) -> OriginLink {
         if link.height == 0 {
-            self.add(ticket.key, ticket.value, NO_LINK);
-            let origin = (self.calls, self.rounds());
-            return OriginLink {
-                height: 1,
-                key: ticket.key,
-                origin,
-            };
+            return self.add(ticket.key, ticket.value, NO_LINK);
         }
         let mut node = self.fetch(&mut link);
         if ticket.key < node.key {

@@ -2,6 +2,9 @@
 
 pub const MAP: u8 = 1;
 pub const STACK: u8 = 2;
+pub const HEAP: u8 = 3;
+/// The structures' names, from number 1 on.
+pub const STRUCTURES: [&str; 3] = ["map", "stack", "heap"];
 pub const GREATEST_SIZE: u8 = 8;
 
 pub const GET: u8 = 1;
@@ -9,6 +12,8 @@ pub const PUT: u8 = 2;
 pub const REMOVE: u8 = 3;
 pub const PUSH: u8 = 4;
 pub const POP: u8 = 5;
+pub const ADD: u8 = 6;
+pub const TAKE: u8 = 7;
 
 pub const TICKET_BYTES: usize = 13;
 pub const SLOT_BYTES: usize = 32;
@@ -92,6 +97,8 @@ pub enum Answer {
     Pushed,
     Popped(u64),
     Empty,
+    Added,
+    Taken(u64),
     Refused(u8),
 }
 
@@ -106,6 +113,8 @@ impl Answer {
             Answer::Pushed => "pushed",
             Answer::Popped(_) => "popped",
             Answer::Empty => "empty",
+            Answer::Added => "added",
+            Answer::Taken(_) => "taken",
             Answer::Refused(_) => "refused",
         }
     }
@@ -116,9 +125,10 @@ impl Answer {
             Answer::Found(value)
             | Answer::Replaced(value)
             | Answer::Removed(value)
-            | Answer::Popped(value) => value,
+            | Answer::Popped(value)
+            | Answer::Taken(value) => value,
             Answer::Refused(cause) => u64::from(cause),
-            Answer::Absent | Answer::New | Answer::Pushed | Answer::Empty => 0,
+            Answer::Absent | Answer::New | Answer::Pushed | Answer::Empty | Answer::Added => 0,
         }
     }
 }
@@ -153,17 +163,22 @@ pub fn tree_bytes(size: u8) -> usize {
 
 /// F of a structure and size, both in range.
 pub fn fetch_rounds(structure: u8, size: u8) -> usize {
-    if structure == STACK {
-        1
-    } else {
-        3 * GREATEST_HEIGHT[usize::from(size) - 1]
+    match structure {
+        MAP => 3 * GREATEST_HEIGHT[usize::from(size) - 1],
+        STACK => 1,
+        _ => 3 * usize::from(size),
     }
+}
+
+pub fn structure_is_known(structure: u8) -> bool {
+    (MAP..=HEAP).contains(&structure)
 }
 
 pub fn kind_fits(structure: u8, kind: u8) -> bool {
     match structure {
         MAP => (GET..=REMOVE).contains(&kind),
         STACK => (PUSH..=POP).contains(&kind),
+        HEAP => (ADD..=TAKE).contains(&kind),
         _ => false,
     }
 }

@@ -5,7 +5,16 @@ use crate::paper::*;
 use crate::Store;
 use std::io::{self, ErrorKind, Read, Write};
 
-pub fn run<S: Store>(mut input: impl Read, mut output: impl Write) -> io::Result<()> {
+pub fn run<S: Store>(input: impl Read, output: impl Write) -> io::Result<()> {
+    run_with(input, output, S::call)
+}
+
+/// The walk program with calls that are made by this function.
+pub fn run_with<S: Store>(
+    mut input: impl Read,
+    mut output: impl Write,
+    mut make: impl FnMut(&mut S, &mut [u8], &[u8], &[u16], &mut [u16]) -> Outcome,
+) -> io::Result<()> {
     let mut opening = [0; 2];
     if read_some(&mut input, &mut opening)? < opening.len() {
         return print(&mut output, "short");
@@ -28,20 +37,24 @@ pub fn run<S: Store>(mut input: impl Read, mut output: impl Write) -> io::Result
         if got < call.len() {
             return print(&mut output, "short");
         }
-        let line = call_line(&mut store, &mut tree, &call, rounds);
-        print(&mut output, &line)?;
+        let (ticket, tape) = call.split_at(TICKET_BYTES);
+        let mut trace = vec![0; 2 * rounds];
+        let outcome = make(
+            &mut store,
+            &mut tree,
+            ticket,
+            &tape_numbers(tape),
+            &mut trace,
+        );
+        print(&mut output, &line(outcome, &trace))?;
     }
 }
 
-fn call_line(store: &mut impl Store, tree: &mut [u8], call: &[u8], rounds: usize) -> String {
-    let (ticket, tape) = call.split_at(TICKET_BYTES);
-    let tape: Vec<u16> = tape
+fn tape_numbers(bytes: &[u8]) -> Vec<u16> {
+    bytes
         .chunks(2)
         .map(|number| u16::from_le_bytes([number[0], number[1]]))
-        .collect();
-    let mut trace = vec![0; 2 * rounds];
-    let outcome = store.call(tree, ticket, &tape, &mut trace);
-    line(outcome, &trace)
+        .collect()
 }
 
 /// Answer word, value or cause, leaves.

@@ -6,7 +6,7 @@ mod common;
 use common::*;
 use reference::listing;
 use reference::paper::*;
-use reference::plain::{path, read_slot, write_slot, Node, Reading, State};
+use reference::plain::{path, read_slot, write_slot, Node, Reading, Side, State};
 use std::collections::BTreeMap;
 
 /// How often each outcome was met, by structure.
@@ -94,15 +94,29 @@ fn damage_link(random: &mut Random, link: &mut Link, keys: &[u32], size: u8) {
 
 /// Changes a field of a node to something plausible.
 fn damage_node(random: &mut Random, node: &mut Node, keys: &[u32], size: u8) {
-    match random.below(9) {
+    match random.below(11) {
         0 => node.key = keys[random.index(keys.len())],
         1 => node.key = node.key.wrapping_add(1),
         2 => node.key = node.key.wrapping_sub(1),
         3 => node.tag = random.below((1 << size) + 1) as u16,
         4 => std::mem::swap(&mut node.left, &mut node.right),
         5 | 6 => damage_link(random, &mut node.left, keys, size),
-        _ => damage_link(random, &mut node.right, keys, size),
+        7 | 8 => damage_link(random, &mut node.right, keys, size),
+        9 => node.value = random.below(8),
+        _ => *node = link_to_child(random, *node, size),
     }
+}
+
+/// A node with a link to one of a heap's positions below it, whether it is
+/// there or not.
+fn link_to_child(random: &mut Random, mut node: Node, size: u8) -> Node {
+    let side = random.pick(&[Side::Left, Side::Right]);
+    *node.link_mut(side) = Link {
+        height: 1,
+        key: node.key.wrapping_mul(2) | side as u32,
+        tag: random.below(1 << size) as u16,
+    };
+    node
 }
 
 fn damage_tree(random: &mut Random, tree: &mut [u8], size: u8) {
@@ -151,7 +165,7 @@ fn add_stray(random: &mut Random, state: &mut State) {
         return;
     }
     let key = match state.structure {
-        STACK => state.entries.wrapping_add(random.below(3) as u32),
+        STACK | HEAP => state.entries.wrapping_add(random.below(3) as u32),
         _ => random.below(u64::from(capacity(state.size)) * 3 / 2 + 1) as u32,
     };
     let tag = random.below(1 << state.size) as u16;
@@ -218,15 +232,24 @@ fn rename(random: &mut Random, state: &mut State, tree: &mut [u8]) {
     }
 }
 
+/// Gives every node of the tree a value of few: a heap is out of order then.
+fn disorder(random: &mut Random, state: &State, tree: &mut [u8]) {
+    for (offset, mut node) in used(tree, state.size) {
+        node.value = random.below(8);
+        tree[offset..offset + SLOT_BYTES].copy_from_slice(&write_slot(&node));
+    }
+}
+
 /// Damages a store, calls it, and opens a closed one again by hand.
 fn damaged_run(random: &mut Random, structure: u8, size: u8, tally: &mut Tally) {
     let mut pair = grown(random, structure, size);
     let tape = random_tape(random);
     for _ in 0..4 {
         for _ in 0..random.below(3) {
-            pair.edit(|state, tree| match random.below(4) {
+            pair.edit(|state, tree| match random.below(5) {
                 0 => damage_state(random, state, tree),
                 1 => rename(random, state, tree),
+                2 => disorder(random, state, tree),
                 _ => damage_tree(random, tree, size),
             });
         }
@@ -283,6 +306,87 @@ fn damaged_stacks() {
         "refused 10",
     ];
     damaged_runs(22, STACK, 4000, &names);
+}
+
+#[test]
+fn damaged_heaps() {
+    let names = [
+        "added",
+        "taken",
+        "empty",
+        "refused 1",
+        "refused 2",
+        "refused 8 fetch",
+        "refused 8 put",
+        "refused 10",
+    ];
+    damaged_runs(30, HEAP, 2000, &names);
+}
+
+/// Numbers in any order are no damage, and both builds move them alike.
+#[test]
+fn disordered_heaps() {
+    let mut random = seeded(32);
+    for size in 1..=GREATEST_SIZE {
+        for _ in 0..20 {
+            let mut pair = grown(&mut random, HEAP, size);
+            for _ in 0..10 {
+                pair.edit(|state, tree| disorder(&mut random, state, tree));
+                for _ in 0..3 {
+                    let outcome = random_call(&mut random, &mut pair, Tape::Uniform);
+                    assert!(!matches!(outcome.answer, Answer::Refused(1..=8)));
+                }
+            }
+        }
+    }
+}
+
+/// One field of one node of a good heap is changed, so that this and nothing
+/// else is damage: every call that fetches the node meets 8.
+#[test]
+fn one_wrong_link_in_a_heap() {
+    let mut random = seeded(33);
+    let mut met = 0;
+    for _ in 0..3000 {
+        let size = 1 + random.below(5) as u8;
+        let mut pair = grown(&mut random, HEAP, size);
+        let used = used(&pair.tree, size);
+        if used.is_empty() {
+            continue;
+        }
+        let (offset, node) = used[random.index(used.len())];
+        let changed = match random.below(3) {
+            0 => link_to_child(&mut random, node, size),
+            1 => Node {
+                left: Link::NONE,
+                ..node
+            },
+            _ => Node {
+                right: Link {
+                    height: 1,
+                    ..node.left
+                },
+                ..node
+            },
+        };
+        let same_shape =
+            |one: Link, other: Link| (one.height, one.key) == (other.height, other.key);
+        if same_shape(node.left, changed.left) && same_shape(node.right, changed.right) {
+            continue;
+        }
+        pair.edit(|_, tree| {
+            tree[offset..offset + SLOT_BYTES].copy_from_slice(&write_slot(&changed));
+        });
+        let entries = pair.plain.entries;
+        let on_path = (0..8).any(|up| entries >> up == node.key);
+        let tape = Tape::Uniform.numbers(&mut random, 2 * fetch_rounds(HEAP, size) + 1);
+        let (outcome, _) = pair.call(take(), &tape);
+        if on_path {
+            assert_eq!(outcome.answer, Answer::Refused(DAMAGE));
+            met += 1;
+        }
+    }
+    assert!(met > 300, "{met}");
 }
 
 /// Fills the waiting list near its limit, and the empty slots of a bucket,
@@ -347,9 +451,9 @@ fn crowded_run(random: &mut Random, structure: u8, size: u8, tally: &mut Tally) 
 fn crowded_stores() {
     let mut random = seeded(23);
     let mut tally = Tally::default();
-    for structure in [MAP, STACK] {
+    for structure in [MAP, STACK, HEAP] {
         for size in 2..=GREATEST_SIZE {
-            for _ in 0..if structure == MAP { 40 } else { 150 } {
+            for _ in 0..if structure == STACK { 150 } else { 40 } {
                 crowded_run(&mut random, structure, size, &mut tally);
             }
         }
@@ -362,14 +466,14 @@ fn crowded_stores() {
 fn odd_calls() {
     let mut random = seeded(24);
     let mut tally = Tally::default();
-    for structure in [MAP, STACK] {
+    for structure in [MAP, STACK, HEAP] {
         for size in 1..=GREATEST_SIZE {
             let mut pair = Pair::open(structure, size);
             let rounds = fetch_rounds(structure, size);
             for _ in 0..300 {
                 let mut ticket = random_ticket(&mut random, structure, size);
                 if random.one_in(5) {
-                    ticket.kind = random.next() as u8 % 8;
+                    ticket.kind = random.next() as u8 % 10;
                 }
                 let ticket = ticket.bytes();
                 let ticket = &ticket[..if random.one_in(8) {

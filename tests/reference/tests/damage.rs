@@ -5,7 +5,7 @@ mod common;
 use common::*;
 use reference::listing;
 use reference::paper::*;
-use reference::plain::{write_slot, Node, Reading};
+use reference::plain::{write_slot, Node, Reading, State};
 
 fn link(height: u8, key: u32, tag: u16) -> Link {
     Link { height, key, tag }
@@ -411,6 +411,241 @@ fn stack_tests() {
     assert!(!good(node(3, 0, link(1, 1, 3), Link::NONE)));
     assert!(!good(node(2, 0, link(1, 1, 3), link(1, 0, 0))));
     assert!(!good(node(1, 0, Link::NONE, link(1, 1, 0))));
+}
+
+/// Size 2, positions 1, 2, 3 with 10, 20, 30, all with tag 0 in leaf bucket 4.
+fn small_heap() -> Pair {
+    let one = node(1, 0, link(1, 2, 0), link(1, 3, 0));
+    let nodes = [
+        (4, 0, one),
+        (4, 1, leaf_node(2, 0)),
+        (4, 2, leaf_node(3, 0)),
+    ];
+    store(HEAP, 2, 3, link(1, 1, 0), &nodes)
+}
+
+/// The leaves that a take reveals on a changed `small_heap`, if it is damaged:
+/// it fetches 1, 3 and 2.
+fn take_at_damage(change: impl FnOnce(&mut State, &mut Vec<u8>)) -> Option<Vec<u16>> {
+    let mut pair = small_heap();
+    pair.edit(change);
+    let (outcome, trace) = pair.call(take(), &TAPE);
+    match outcome.answer {
+        Answer::Taken(_) => None,
+        answer => {
+            assert_eq!(answer, Answer::Refused(8));
+            Some(trace)
+        }
+    }
+}
+
+#[test]
+fn heap_links() {
+    assert_eq!(take_at_damage(|_, _| {}), None);
+    let with_root =
+        |left, right| take_at_damage(|_, tree| place(tree, 4, 0, node(1, 0, left, right)));
+    let (two, three) = (link(1, 2, 0), link(1, 3, 0));
+    assert_eq!(with_root(two, three), None);
+    for (left, right, what) in [
+        (link(1, 3, 0), three, "left key"),
+        (two, link(1, 2, 0), "right key"),
+        (three, two, "keys the other way round"),
+        (link(2, 2, 0), three, "left height"),
+        (two, link(2, 3, 0), "right height"),
+        (Link::NONE, three, "no left link"),
+        (two, Link::NONE, "no right link"),
+    ] {
+        assert_eq!(with_root(left, right), Some(vec![0]), "{what}");
+    }
+}
+
+#[test]
+fn heap_links_beyond_the_count() {
+    let with_links = |key: u32, left, right| {
+        let slot = key as usize - 1;
+        take_at_damage(|_, tree| place(tree, 4, slot, node(key, 0, left, right)))
+    };
+    let none = Link::NONE;
+    assert_eq!(with_links(3, link(1, 6, 0), none), Some(vec![0, 0]));
+    assert_eq!(with_links(3, none, link(1, 7, 0)), Some(vec![0, 0]));
+    // The one that the take fetches while it sinks.
+    assert_eq!(with_links(2, link(1, 4, 0), none), Some(vec![0; 3]));
+    assert_eq!(with_links(2, none, link(1, 5, 0)), Some(vec![0; 3]));
+    // A count that the links do not have.
+    assert_eq!(take_at_damage(|state, _| state.entries = 2), Some(vec![0]));
+    assert_eq!(take_at_damage(|state, _| state.entries = 1), Some(vec![0]));
+}
+
+#[test]
+fn heap_nodes() {
+    let gone = |slot: usize| {
+        take_at_damage(move |_, tree| {
+            let start = BUCKET_BYTES * 3 + SLOT_BYTES * slot;
+            tree[start..start + SLOT_BYTES].fill(0);
+        })
+    };
+    assert_eq!(gone(0), Some(vec![0]));
+    assert_eq!(gone(1), Some(vec![0; 3]));
+    assert_eq!(gone(2), Some(vec![0, 0]));
+    let twice = |bucket, slot, key| {
+        take_at_damage(move |_, tree| place(tree, bucket, slot, leaf_node(key, 2)))
+    };
+    assert_eq!(twice(1, 0, 3), Some(vec![0]));
+    // A held node's key on a later path.
+    assert_eq!(twice(6, 0, 2), Some(vec![0, 0, 0, 1, 2]));
+    let tags = |left, right| {
+        let one = node(1, 0, link(1, 2, left), link(1, 3, right));
+        take_at_damage(move |_, tree| place(tree, 4, 0, one))
+    };
+    assert_eq!(tags(0, 1), Some(vec![0, 1]));
+    assert_eq!(tags(3, 0), Some(vec![0, 0, 3]));
+    assert_eq!(take_at_damage(|state, _| state.root.tag = 1), Some(vec![1]));
+}
+
+/// Damage while a take sinks: the numbers have not moved, only tags.
+#[test]
+fn what_a_take_leaves_at_damage() {
+    let mut pair = small_heap();
+    pair.edit(|_, tree| place(tree, 4, 1, node(2, 0, link(1, 4, 0), Link::NONE)));
+    let (outcome, trace) = pair.call(take(), &TAPE);
+    assert_eq!((outcome.answer, trace), (Answer::Refused(8), vec![0; 3]));
+    assert_eq!((pair.plain.entries, pair.plain.root), (3, link(1, 1, 1)));
+    let one = node(1, 1, link(1, 2, 0), link(1, 3, 2));
+    assert_eq!(pair.plain.waiting(), [one, leaf_node(3, 2)]);
+    let two = node(2, 0, link(1, 4, 0), Link::NONE);
+    assert_eq!(used_nodes(&pair), [(384, two)]);
+}
+
+/// Size 3, positions 1, 2, 3 with these numbers, all with tag 0.
+fn heap_with(numbers: [u64; 3]) -> Pair {
+    let one = node(1, 0, link(1, 2, 0), link(1, 3, 0));
+    let nodes = [one, leaf_node(2, 0), leaf_node(3, 0)];
+    let with = |at: usize| Node {
+        value: numbers[at],
+        ..nodes[at]
+    };
+    let placed = [(8, 0, with(0)), (8, 1, with(1)), (8, 2, with(2))];
+    store(HEAP, 3, 3, link(1, 1, 0), &placed)
+}
+
+/// Heap order is not asked for: the root's number is taken, though others are
+/// smaller, and rising ends at the first parent that is not larger.
+#[test]
+fn heap_out_of_order() {
+    let left = |mut pair: Pair, ticket: Ticket, answer: Answer| -> Vec<u64> {
+        assert_eq!(pair.answer(ticket, &[0; 19]), answer);
+        pair.nodes().values().map(|node| node.value).collect()
+    };
+    let taken = |numbers: [u64; 3]| left(heap_with(numbers), take(), Answer::Taken(numbers[0]));
+    assert_eq!(taken([9, 4, 1]), [1, 4]);
+    assert_eq!(taken([9, 4, 5]), [4, 5]);
+    let added = |number: u64| left(heap_with([10, 3, 20]), add(number), Answer::Added);
+    assert_eq!(added(5), [10, 3, 20, 5]);
+    assert_eq!(added(3), [10, 3, 20, 3]);
+    assert_eq!(added(2), [2, 10, 20, 3]);
+}
+
+/// Damage in a put round of an add: the step stands.
+#[test]
+fn damage_after_an_add() {
+    let one = node(1, 0, link(1, 2, 0), Link::NONE);
+    let mut pair = store(
+        HEAP,
+        2,
+        2,
+        link(1, 1, 0),
+        &[(4, 0, one), (4, 1, leaf_node(2, 0))],
+    );
+    pair.edit(|_, tree| tree[128 * 6] = 3);
+    let tape = [1, 0, 0, 0, 0, 0, 2, 0, 3, 0, 0, 0, 0];
+    let (outcome, trace) = pair.call(add(5), &tape);
+    assert_eq!(outcome.answer, Answer::Refused(8));
+    assert_eq!(trace, [0, 0, 0, 0, 0, 0, 0, 3]);
+    assert_eq!((pair.plain.entries, pair.plain.root), (3, link(1, 1, 1)));
+    let one = Node {
+        value: 5,
+        ..node(1, 1, link(1, 2, 0), link(1, 3, 2))
+    };
+    let three = Node {
+        value: 10,
+        ..leaf_node(3, 2)
+    };
+    let expected = [
+        (0, Reading::Node(three)),
+        (128, Reading::Node(one)),
+        (384, Reading::Node(leaf_node(2, 0))),
+        (768, Reading::Bad),
+    ];
+    assert_eq!(listing::used_slots(&pair.tree, 2), expected);
+}
+
+/// The root bucket is full with nodes that go nowhere else on the path, and 62
+/// wait: the third node that a take holds makes one too many. The numbers have
+/// not moved.
+#[test]
+fn overflow_while_a_take_sinks() {
+    let strays = |from: u32, count: u32| (from..from + count).map(|key| leaf_node(key, 255));
+    let one = node(1, 0, link(1, 2, 0), link(1, 3, 0));
+    let nodes = [
+        (256, 0, one),
+        (256, 1, leaf_node(2, 0)),
+        (256, 2, leaf_node(3, 0)),
+    ];
+    let run = |waiting: u32| {
+        let mut pair = store(HEAP, 8, 3, link(1, 1, 0), &nodes);
+        pair.edit(|state, tree| {
+            for (slot, stray) in strays(500, 4).enumerate() {
+                place(tree, 1, slot, stray);
+            }
+            state.set_waiting(&strays(400, waiting).collect::<Vec<_>>());
+        });
+        let tape: Vec<u16> = (40..89).collect();
+        let (outcome, trace) = pair.call(take(), &tape);
+        (pair, outcome.answer, trace)
+    };
+    assert_eq!(run(61).1, Answer::Taken(10));
+    let (pair, answer, trace) = run(62);
+    assert_eq!((answer, trace), (Answer::Refused(9), vec![0; 3]));
+    assert_eq!(
+        (pair.plain.entries, pair.plain.root, pair.plain.count),
+        (3, link(1, 1, 40), 65)
+    );
+    let one = node(1, 40, link(1, 2, 42), link(1, 3, 41));
+    let fetched = [one, leaf_node(2, 42), leaf_node(3, 41)];
+    assert_eq!(pair.plain.waiting()[..3], fetched);
+}
+
+/// 2, 4, 5 and 6 fill the root bucket, and a stray 7 waits: the 7 that is added
+/// stands second.
+#[test]
+fn added_node_whose_key_waits() {
+    let one = node(1, 0, link(1, 2, 7), link(1, 3, 0));
+    let two = node(2, 7, link(1, 4, 7), link(1, 5, 7));
+    let three = node(3, 0, link(1, 6, 7), Link::NONE);
+    let nodes = [
+        (8, 0, one),
+        (8, 1, three),
+        (1, 0, two),
+        (1, 1, leaf_node(4, 7)),
+        (1, 2, leaf_node(5, 7)),
+        (1, 3, leaf_node(6, 7)),
+    ];
+    let mut pair = store(HEAP, 3, 6, link(1, 1, 0), &nodes);
+    pair.audit();
+    let stray = leaf_node(7, 7);
+    pair.edit(|state, _| state.set_waiting(&[stray]));
+    let (outcome, trace) = pair.call(add(5), &[0; 19]);
+    assert_eq!((outcome.answer, trace), (Answer::Refused(8), vec![0; 10]));
+    assert_eq!((pair.plain.entries, pair.plain.root), (7, link(1, 1, 0)));
+    let right = link(1, 7, 0);
+    let with = |value: u64, node: Node| Node { value, ..node };
+    let left = [
+        with(5, one),
+        with(10, Node { right, ..three }),
+        stray,
+        with(30, leaf_node(7, 0)),
+    ];
+    assert_eq!(pair.plain.waiting(), left);
 }
 
 /// Damage in the put round: the step stands, the new node waits.

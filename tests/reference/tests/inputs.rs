@@ -4,8 +4,12 @@
 use reference::checksum::Checksum;
 use reference::inputs::{input, plan, Plan, PLANS};
 use reference::paper::*;
+use reference::plain::BRANCHES;
 use reference::{fast, plain, walk, Store};
 use std::collections::{BTreeMap, BTreeSet};
+
+/// Each structure, size and plan twice.
+const SEEDS: std::ops::Range<u64> = 0..432;
 
 fn output<S: Store>(input: &[u8]) -> String {
     let mut output = vec![];
@@ -34,9 +38,10 @@ fn tally(seeds: impl Iterator<Item = u64>) -> BTreeMap<String, usize> {
 
 #[test]
 fn every_line_is_reached() {
-    let tally = tally(0..512);
+    let tally = tally(SEEDS);
     let expected = [
         "absent",
+        "added",
         "empty",
         "found",
         "new",
@@ -51,6 +56,7 @@ fn every_line_is_reached() {
         "removed",
         "replaced",
         "short",
+        "taken",
     ];
     assert_eq!(tally.keys().collect::<Vec<_>>(), expected, "{tally:?}");
     assert!(tally.values().all(|&count| count >= 10), "{tally:?}");
@@ -64,14 +70,36 @@ fn every_structure_size_and_plan_is_reached() {
             reached.insert((structure, size, plan(seed) as u8));
         }
     }
-    assert_eq!(reached.len(), 2 * 8 * (PLANS.len() - 1));
+    assert_eq!(reached.len(), 3 * 8 * (PLANS.len() - 1));
 }
 
 #[test]
-fn both_structures_overflow() {
-    for structure in [MAP, STACK] {
-        let seeds = (0..512).filter(|&seed| input(seed).first() == Some(&structure));
+fn every_structure_overflows() {
+    for structure in [MAP, STACK, HEAP] {
+        let seeds = SEEDS.filter(|&seed| input(seed).first() == Some(&structure));
         assert!(tally(seeds)["refused 9"] > 0);
+    }
+}
+
+#[test]
+fn every_branch_of_the_heap_is_met() {
+    let mut met = vec![];
+    for seed in SEEDS.filter(|&seed| input(seed).first() == Some(&HEAP)) {
+        walk::run_with(
+            &input(seed)[..],
+            std::io::sink(),
+            |state: &mut plain::State, tree, ticket, tape, trace| {
+                let (outcome, branches) =
+                    plain::call_with_branches(state, tree, ticket, tape, trace);
+                met.extend(branches);
+                outcome
+            },
+        )
+        .unwrap();
+    }
+    for (branch, name) in BRANCHES {
+        let count = met.iter().filter(|&&one| one == branch).count();
+        assert!(count >= 10, "{name}: {count}");
     }
 }
 

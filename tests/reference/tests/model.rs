@@ -1,5 +1,5 @@
-//! Random runs without damage against a plain table, a plain list and the
-//! origin rule, with a whole-store check.
+//! Random runs without damage against a plain table, a plain list, a plain
+//! collection and the origin rule, with a whole-store check.
 
 mod common;
 
@@ -8,11 +8,13 @@ use reference::origin::{Machine, Origin};
 use reference::paper::*;
 use std::collections::BTreeMap;
 
-/// The plain table and the plain stack.
+/// The plain table, the plain stack and the plain heap.
 struct Model {
     size: u8,
     table: BTreeMap<u32, u64>,
     list: Vec<u64>,
+    /// Numbers with repeats, ascending.
+    collection: Vec<u64>,
 }
 
 impl Model {
@@ -38,7 +40,27 @@ impl Model {
                 self.list.push(value);
                 Answer::Pushed
             }
-            _ => self.list.pop().map_or(Answer::Empty, Answer::Popped),
+            POP => self.list.pop().map_or(Answer::Empty, Answer::Popped),
+            ADD if self.collection.len() == capacity => Answer::Refused(FULL),
+            ADD => {
+                self.collection.push(value);
+                self.collection.sort();
+                Answer::Added
+            }
+            _ if self.collection.is_empty() => Answer::Empty,
+            _ => Answer::Taken(self.collection.remove(0)),
+        }
+    }
+
+    /// The values that a store has in key order; a heap's in any order.
+    fn has_values(&self, structure: u8, mut values: Vec<u64>) -> bool {
+        match structure {
+            MAP => self.table.values().eq(&values),
+            STACK => self.list == values,
+            _ => {
+                values.sort();
+                self.collection == values
+            }
         }
     }
 }
@@ -58,6 +80,7 @@ fn run(random: &mut Random, structure: u8, size: u8, tape: Tape, calls: usize) -
         size,
         table: BTreeMap::new(),
         list: vec![],
+        collection: vec![],
     };
     let mut machine = Machine::new(structure, size);
     let mut tapes = vec![];
@@ -65,7 +88,7 @@ fn run(random: &mut Random, structure: u8, size: u8, tape: Tape, calls: usize) -
     for number in 0..calls {
         let mut ticket = random_ticket(random, structure, size);
         if number % (calls / filling + 1) < calls / 8 {
-            ticket.kind = if structure == MAP { PUT } else { PUSH };
+            ticket.kind = [PUT, PUSH, ADD][usize::from(structure) - 1];
         }
         let length = 2 * fetch_rounds(structure, size) + 1 + random.index(2);
         tapes.push(tape.numbers(random, length));
@@ -81,12 +104,7 @@ fn run(random: &mut Random, structure: u8, size: u8, tape: Tape, calls: usize) -
         }
     }
     let values: Vec<u64> = pair.nodes().values().map(|node| node.value).collect();
-    let expected = if structure == MAP {
-        model.table.into_values().collect()
-    } else {
-        model.list
-    };
-    assert_eq!(values, expected);
+    assert!(model.has_values(structure, values));
     0
 }
 
@@ -118,6 +136,11 @@ fn uniform_stacks() {
 }
 
 #[test]
+fn uniform_heaps() {
+    assert_eq!(runs(25, HEAP, Tape::Uniform, 8), 0);
+}
+
+#[test]
 fn zero_maps() {
     assert!(runs(13, MAP, Tape::Zero, 4) > 0);
 }
@@ -125,6 +148,11 @@ fn zero_maps() {
 #[test]
 fn zero_stacks() {
     assert!(runs(14, STACK, Tape::Zero, 20) > 0);
+}
+
+#[test]
+fn zero_heaps() {
+    assert!(runs(26, HEAP, Tape::Zero, 6) > 0);
 }
 
 #[test]
@@ -137,6 +165,36 @@ fn few_leaf_maps() {
 fn few_leaf_stacks() {
     assert!(runs(17, STACK, Tape::Few(2), 20) > 0);
     runs(18, STACK, Tape::Few(5), 20);
+}
+
+#[test]
+fn few_leaf_heaps() {
+    assert!(runs(27, HEAP, Tape::Few(2), 6) > 0);
+    runs(28, HEAP, Tape::Few(5), 4);
+}
+
+/// A full heap's add answers 10 and moves nothing but places.
+#[test]
+fn full_heaps() {
+    let mut random = seeded(29);
+    for size in 1..=6 {
+        let mut pair = Pair::open(HEAP, size);
+        let rounds = fetch_rounds(HEAP, size);
+        for _ in 0..capacity(size) {
+            let tape = Tape::Uniform.numbers(&mut random, 2 * rounds + 1);
+            assert_eq!(pair.answer(add(random.below(9)), &tape), Answer::Added);
+        }
+        for _ in 0..20 {
+            let before = pair.nodes();
+            let mut tape = Tape::Uniform.numbers(&mut random, 2 * rounds + 1);
+            let (outcome, trace) = pair.call(add(0), &tape);
+            assert_eq!(outcome.answer, Answer::Refused(FULL));
+            assert_eq!(pair.nodes(), before);
+            tape.remove(rounds);
+            let draws: Vec<u16> = tape.iter().map(|number| number % (1 << size)).collect();
+            assert_eq!(trace, draws);
+        }
+    }
 }
 
 /// A full map still walks, and every put answers 10.

@@ -10,10 +10,10 @@ fn grown(structure: u8, size: u8, calls: u64) -> Pair {
     let mut pair = Pair::open(structure, size);
     let tape = vec![0; 2 * fetch_rounds(structure, size) + 1];
     for number in 0..calls {
-        let ticket = if structure == MAP {
-            put(number as u32, number)
-        } else {
-            push(number)
+        let ticket = match structure {
+            MAP => put(number as u32, number),
+            STACK => push(number),
+            _ => add(number),
         };
         assert!(!matches!(pair.answer(ticket, &tape), Answer::Refused(_)));
     }
@@ -25,10 +25,10 @@ fn is_unfit(pair: &Pair, change: impl Fn(&mut State)) -> bool {
     let mut pair = pair.clone();
     pair.edit(|state, _| change(state));
     let tape = vec![0; 200];
-    let ticket = if pair.plain.structure == MAP {
-        get(5)
-    } else {
-        pop()
+    let ticket = match pair.plain.structure {
+        MAP => get(5),
+        STACK => pop(),
+        _ => take(),
     };
     let mut trace = vec![0; 200];
     pair.call_with(&ticket.bytes(), &tape, &mut trace) == Outcome::refused(2)
@@ -38,7 +38,7 @@ fn is_unfit(pair: &Pair, change: impl Fn(&mut State)) -> bool {
 fn unfit_fields() {
     let pair = grown(STACK, 8, 40);
     assert!(!is_unfit(&pair, |_| {}));
-    for structure in [0, 3, 255] {
+    for structure in [0, 4, 255] {
         assert!(is_unfit(&pair, |state| state.structure = structure));
     }
     for size in [0, 9, 64, 255] {
@@ -64,12 +64,34 @@ fn unfit_fields() {
 
 #[test]
 fn unfit_empty_roots() {
-    for structure in [MAP, STACK] {
+    for structure in [MAP, STACK, HEAP] {
         let pair = Pair::open(structure, 3);
         assert!(!is_unfit(&pair, |_| {}));
         assert!(is_unfit(&pair, |state| state.root.tag = 1));
         assert!(is_unfit(&pair, |state| state.root.key = 1));
         assert!(is_unfit(&pair, |state| state.root.height = 1));
+    }
+}
+
+/// With entries, height 1 and key 1, whatever their number.
+#[test]
+fn heap_roots() {
+    let pair = grown(HEAP, 8, 40);
+    assert!(!is_unfit(&pair, |_| {}));
+    for (key, height) in [(0, 1), (2, 1), (40, 1), (1, 0), (1, 2), (1, 6)] {
+        assert!(is_unfit(&pair, |state| {
+            state.root.key = key;
+            state.root.height = height;
+        }));
+    }
+    assert!(is_unfit(&pair, |state| state.root = Link::NONE));
+    assert!(is_unfit(&pair, |state| state.root.tag = 256));
+    assert!(!is_unfit(&pair, |state| state.root.tag = 255));
+    for entries in [1, 39, 41, 255] {
+        assert!(!is_unfit(&pair, |state| state.entries = entries));
+    }
+    for entries in [0, 256, u32::MAX] {
+        assert!(is_unfit(&pair, |state| state.entries = entries));
     }
 }
 
@@ -156,7 +178,7 @@ fn sixty_four_may_wait() {
 fn order_of_causes() {
     let mut random = seeded(31);
     for _ in 0..4000 {
-        let structure = 1 + random.below(2) as u8;
+        let structure = 1 + random.below(3) as u8;
         let size = 1 + random.below(3) as u8;
         let mut pair = grown(structure, size, 1);
         let faults: Vec<bool> = (0..8).map(|_| random.one_in(4)).collect();
@@ -176,8 +198,10 @@ fn order_of_causes() {
         let kind = match (structure, faults[5]) {
             (MAP, false) => GET + random.below(3) as u8,
             (STACK, false) => PUSH + random.below(2) as u8,
-            (MAP, true) => [0, 4, 5, 6, 255][random.index(5)],
-            _ => [0, 1, 2, 3, 6, 255][random.index(6)],
+            (_, false) => ADD + random.below(2) as u8,
+            (MAP, true) => [0, 4, 5, 6, 7, 255][random.index(6)],
+            (STACK, true) => [0, 1, 2, 3, 6, 7, 255][random.index(7)],
+            _ => [0, 1, 2, 3, 4, 5, 8, 255][random.index(8)],
         };
         let mut ticket = Ticket::new(kind, 7, 8).bytes().to_vec();
         if faults[4] {

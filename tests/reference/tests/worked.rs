@@ -6,7 +6,7 @@ use common::*;
 use reference::inputs::call_bytes;
 use reference::origin::Machine;
 use reference::paper::*;
-use reference::plain::{self, passes, path, read_slot, Node, Reading};
+use reference::plain::{self, passes, path, read_slot, Branch, Node, Reading};
 use reference::{fast, listing, walk};
 use std::collections::BTreeSet;
 use std::io::Write;
@@ -190,6 +190,138 @@ fn stack_of_size_8_overflows() {
     assert_eq!(pair.answer(pop(), &[0; 3]), Answer::Refused(1));
 }
 
+/// The numbers by position.
+fn numbers(pair: &Pair) -> Vec<u64> {
+    pair.audit();
+    pair.nodes().values().map(|node| node.value).collect()
+}
+
+#[test]
+fn numbers_of_a_heap() {
+    let mut pair = Pair::open(HEAP, 3);
+    let tape = zero_tape(HEAP, 3);
+    let steps: [(Ticket, Answer, &[u64]); 9] = [
+        (add(40), Answer::Added, &[40]),
+        (add(30), Answer::Added, &[30, 40]),
+        (add(20), Answer::Added, &[20, 40, 30]),
+        (add(10), Answer::Added, &[10, 20, 30, 40]),
+        (add(15), Answer::Added, &[10, 15, 30, 40, 20]),
+        (take(), Answer::Taken(10), &[15, 20, 30, 40]),
+        (take(), Answer::Taken(15), &[20, 40, 30]),
+        (take(), Answer::Taken(20), &[30, 40]),
+        (take(), Answer::Taken(30), &[40]),
+    ];
+    for (ticket, answer, left) in steps {
+        assert_eq!(pair.answer(ticket, &tape), answer);
+        assert_eq!(numbers(&pair), left);
+    }
+    assert_eq!(pair.answer(take(), &tape), Answer::Taken(40));
+    assert_eq!(pair.plain, Pair::open(HEAP, 3).plain);
+    assert_eq!(pair.answer(take(), &tape), Answer::Empty);
+}
+
+/// What a take meets on a heap with these numbers by position.
+fn take_branches(numbers: &[u64]) -> Vec<Branch> {
+    let mut pair = Pair::open(HEAP, 3);
+    let tape = zero_tape(HEAP, 3);
+    for &number in numbers {
+        pair.call(add(number), &tape);
+    }
+    assert_eq!(self::numbers(&pair), numbers);
+    let Pair {
+        mut plain,
+        mut tree,
+        ..
+    } = pair;
+    let ticket = take().bytes();
+    plain::call_with_branches(&mut plain, &mut tree, &ticket, &tape, &mut [0; 18]).1
+}
+
+#[test]
+fn branches_of_takes() {
+    use Branch::*;
+    assert_eq!(take_branches(&[]), [TakeFromEmpty]);
+    assert_eq!(take_branches(&[1]), [TakeOfOne]);
+    assert_eq!(take_branches(&[1, 2]), [TakeOfTwo]);
+    let three = [TakeOfThree, ChildFetched, OnlyLeftChild];
+    assert_eq!(
+        take_branches(&[1, 2, 3]),
+        [&three[..], &[TakeSinksLeft, TakeReachesBottom]].concat()
+    );
+    assert_eq!(
+        take_branches(&[1, 2, 2]),
+        [&three[..], &[TakeStaysAtOnce, TakeStopsAtEqual]].concat()
+    );
+    assert_eq!(
+        take_branches(&[1, 3, 2]),
+        [&three[..], &[TakeStaysAtOnce]].concat()
+    );
+    assert_eq!(
+        take_branches(&[1, 2, 2, 3, 3, 9]),
+        [
+            ChildFetched,
+            ChildHeld,
+            TakeSinksLeft,
+            EqualChildren,
+            ChildFetched,
+            ChildFetched,
+            TakeSinksLeft,
+            EqualChildren,
+            TakeReachesBottom
+        ]
+    );
+    assert_eq!(
+        take_branches(&[1, 9, 2, 10, 11, 4, 3]),
+        [
+            ChildFetched,
+            ChildHeld,
+            TakeSinksRight,
+            ChildFetched,
+            OnlyLeftChild,
+            TakeStopsHalfway
+        ]
+    );
+}
+
+#[test]
+fn origins_of_a_heap() {
+    let own = |call: usize, from: usize| -> Vec<(usize, usize)> {
+        let draws = (from..6).chain(7..13);
+        draws.map(|draw| (call, draw)).collect()
+    };
+    let mut machine = Machine::new(HEAP, 2);
+    assert_eq!(machine.feed(take()), own(1, 0));
+    assert_eq!(machine.feed(add(10)), own(2, 0));
+    // 1 and its link came from the add; then from this fetch.
+    assert_eq!(machine.feed(add(20)), [vec![(2, 6)], own(3, 1)].concat());
+    assert_eq!(machine.feed(add(30)), [vec![(3, 0)], own(4, 1)].concat());
+    // A full heap's add fetches none.
+    assert_eq!(machine.feed(add(5)), own(5, 0));
+    // 1, 3, and 2 as the only child.
+    let named = vec![(4, 0), (4, 6), (3, 6)];
+    assert_eq!(machine.feed(take()), [named, own(6, 3)].concat());
+    let named = vec![(6, 0), (6, 2)];
+    assert_eq!(machine.feed(take()), [named, own(7, 2)].concat());
+    assert_eq!(machine.feed(take()), [vec![(7, 0)], own(8, 1)].concat());
+    assert_eq!(machine.feed(take()), own(9, 0));
+}
+
+#[test]
+fn heap_of_size_8_overflows() {
+    let mut pair = Pair::open(HEAP, 8);
+    let tape = zero_tape(HEAP, 8);
+    for value in 1..=100 {
+        assert_eq!(pair.answer(add(value), &tape), Answer::Added);
+        assert_eq!(pair.plain.count, (value as usize).saturating_sub(36));
+    }
+    let (outcome, trace) = pair.call(add(101), &tape);
+    assert_eq!((outcome.answer, trace), (Answer::Refused(9), vec![0; 25]));
+    assert_eq!(
+        (pair.plain.mark, pair.plain.entries, pair.plain.count),
+        (9, 101, 65)
+    );
+}
+
 #[test]
 fn tags_of_size_2() {
     let mut slot = [0; 32];
@@ -233,20 +365,24 @@ fn openings() {
     for size in [0, 9, 255] {
         assert_eq!(closed(MAP, size, 0), 12);
         assert_eq!(closed(STACK, size, 128 * 1023), 12);
-        assert_eq!(closed(3, size, 128), 11);
+        assert_eq!(closed(HEAP, size, 128), 12);
+        assert_eq!(closed(4, size, 128), 11);
     }
-    for structure in [0, 3, 255] {
+    for structure in [0, 4, 255] {
         assert_eq!(closed(structure, 2, tree_bytes(2)), 11);
     }
     assert_eq!(closed(MAP, 1, 0), 3);
     assert_eq!(closed(MAP, 1, 128 * 3 - 1), 3);
     assert_eq!(closed(STACK, 8, 128 * 511 + 1), 3);
-    let good = Pair::open(STACK, 8);
-    assert_eq!(good.tree, vec![0; 128 * 511]);
-    assert_eq!(
-        (good.plain.mark, good.plain.structure, good.plain.size),
-        (0, 2, 8)
-    );
+    assert_eq!(closed(HEAP, 2, 128 * 8), 3);
+    for structure in [MAP, STACK, HEAP] {
+        let good = Pair::open(structure, 8);
+        assert_eq!(good.tree, vec![0; 128 * 511]);
+        assert_eq!(
+            (good.plain.mark, good.plain.structure, good.plain.size),
+            (0, structure, 8)
+        );
+    }
 }
 
 fn walk_output(input: &[u8]) -> String {
@@ -292,7 +428,8 @@ fn walk_program() {
 #[test]
 fn walk_program_refusals() {
     assert_eq!(walk_output(&[0, 2, 1, 2, 3]), "refused 11\n");
-    assert_eq!(walk_output(&[3, 0]), "refused 11\n");
+    assert_eq!(walk_output(&[4, 0]), "refused 11\n");
+    assert_eq!(walk_output(&[3, 0]), "refused 12\n");
     assert_eq!(walk_output(&[1, 0]), "refused 12\n");
     assert_eq!(walk_output(&[2, 9, 0]), "refused 12\n");
     assert_eq!(walk_output(&[3]), "short\n");

@@ -17,7 +17,20 @@ stack-test-requires c κs = search needs
 
 returns-2 : tie.Need-returns-2
 unfolding test
-returns-2 c = rw (ne-eqb (c .before .before .args .structure) 1 (c .before .if1 .left)) (c .stack-test .ensures)
+returns-2 c =
+    let a = c .before .before .before .args in
+    rw (ne-eqb (a .structure) 1 (c .before .before .if1 .left), eq-eqb (a .structure) 2 (c .before .if2 .taken)) (c .stack-test .ensures)
+
+heap-test-requires : tie.Need-heap-test-requires
+heap-test-requires c κs = search needs
+
+returns-3 : tie.Need-returns-3
+unfolding test
+returns-3 c =
+    let a = c .before .before .before .args in
+    rw (ne-eqb (a .structure) 1 (c .before .before .if1 .left), ne-eqb (a .structure) 2 (c .before .if2 .left)) (c .heap-test .ensures)
 
 pub passes-spec : {M : Type 1} → statement M
-passes-spec = tie.close (tie.spec map-test-requires returns stack-test-requires returns-2)
+passes-spec =
+    tie.close
+    (tie.spec map-test-requires returns stack-test-requires returns-2 heap-test-requires returns-3)

@@ -6,6 +6,8 @@
 //! Tapes are uniform. The map's calls are get, put and remove alike, of half
 //! as many keys again as there is room for, so that it is three quarters full
 //! in the long run; the stack's are push and pop alike, so that it is half full.
+//! The heap's are the more often add the emptier it is, so that it is about five
+//! eighths full.
 
 use reference::fast;
 use reference::inputs::call_bytes;
@@ -31,12 +33,12 @@ fn generate(random: &mut Random, structure: u8, size: u8, calls: u64) -> (Vec<u8
     let rounds = fetch_rounds(structure, size);
     let mut tree = vec![0; tree_bytes(size)];
     let mut state = fast::open(structure, size, &mut tree);
-    assert_eq!(state.mark, 0, "structure 1 or 2, size 1 to 8");
+    assert_eq!(state.mark, 0, "structure 1 to 3, size 1 to 8");
     let (mut with_tapes, mut with_leaves) = (vec![structure, size], vec![structure, size]);
     // A tape, and a trace with room for one more number, so that both have 2F + 1.
     let (mut tape, mut trace) = (vec![0; 2 * rounds + 1], vec![0; 2 * rounds + 1]);
     for _ in 0..calls {
-        let ticket = ticket(random, structure, size);
+        let ticket = ticket(random, structure, size, state.entries);
         tape.fill_with(|| random.next() as u16);
         let outcome = fast::call(&mut state, &mut tree, &ticket.bytes(), &tape, &mut trace);
         assert_eq!(outcome.leaves, 2 * rounds, "an overflow: take another seed");
@@ -46,11 +48,14 @@ fn generate(random: &mut Random, structure: u8, size: u8, calls: u64) -> (Vec<u8
     (with_tapes, with_leaves)
 }
 
-fn ticket(random: &mut Random, structure: u8, size: u8) -> Ticket {
+fn ticket(random: &mut Random, structure: u8, size: u8, entries: u32) -> Ticket {
+    let room = u64::from(capacity(size));
     let kind = match structure {
         MAP => random.pick(&[GET, PUT, REMOVE]),
-        _ => random.pick(&[PUSH, POP]),
+        STACK => random.pick(&[PUSH, POP]),
+        _ if 4 * u64::from(entries) <= random.below(5 * room) => ADD,
+        _ => TAKE,
     };
-    let key = random.below(u64::from(capacity(size)) * 3 / 2 + 1) as u32;
+    let key = random.below(room * 3 / 2 + 1) as u32;
     Ticket::new(kind, key, random.next())
 }

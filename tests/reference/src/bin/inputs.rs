@@ -1,7 +1,9 @@
 //! Random inputs for the walk program: `inputs DIRECTORY SEED COUNT` writes,
 //! for each of COUNT seeds from SEED on, the input to DIRECTORY/SEED.input and
 //! what the walk program over `plain` prints for it to DIRECTORY/SEED.output.
+//! Then it prints how often a heap's calls met each branch, a line a branch.
 
+use reference::plain::BRANCHES;
 use reference::{inputs, plain, walk};
 use std::{env, fs, io};
 
@@ -13,12 +15,26 @@ fn main() -> io::Result<()> {
     };
     let seed: u64 = seed.parse().expect("a seed");
     let count: u64 = count.parse().expect("a count");
+    let mut met = vec![];
     for seed in (0..count).map(|at| seed.wrapping_add(at)) {
         let input = inputs::input(seed);
         let mut output = vec![];
-        walk::run::<plain::State>(&input[..], &mut output)?;
+        walk::run_with(
+            &input[..],
+            &mut output,
+            |state: &mut plain::State, tree, ticket, tape, trace| {
+                let (outcome, branches) =
+                    plain::call_with_branches(state, tree, ticket, tape, trace);
+                met.extend(branches);
+                outcome
+            },
+        )?;
         fs::write(format!("{directory}/{seed}.input"), input)?;
         fs::write(format!("{directory}/{seed}.output"), output)?;
+    }
+    for (branch, name) in BRANCHES {
+        let count = met.iter().filter(|&&one| one == branch).count();
+        println!("{count} {name}");
     }
     Ok(())
 }

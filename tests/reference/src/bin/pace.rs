@@ -8,14 +8,13 @@ use std::time::{Duration, Instant};
 
 fn main() {
     println!("structure size    fast ns/call  ns/round   plain ns/call");
-    for structure in [MAP, STACK] {
+    for (structure, name) in (1..).zip(STRUCTURES) {
         for size in 1..=GREATEST_SIZE {
             let rounds = 2 * fetch_rounds(structure, size);
             let quick = pace::<fast::State>(structure, size);
             let slow = pace::<plain::State>(structure, size);
             println!(
-                "{:9} {size:4} {quick:15.0} {:9.0} {slow:15.0}",
-                if structure == MAP { "map" } else { "stack" },
+                "{name:9} {size:4} {quick:15.0} {:9.0} {slow:15.0}",
                 quick / rounds as f64,
             );
         }
@@ -53,7 +52,8 @@ fn ticket(random: &mut Random, structure: u8, size: u8) -> Ticket {
     let draw = random.next();
     let kind = match structure {
         MAP => GET + (draw % 3) as u8,
-        _ => PUSH + (draw % 2) as u8,
+        STACK => PUSH + (draw % 2) as u8,
+        _ => ADD + (draw % 2) as u8,
     };
     Ticket::new(kind, (draw >> 8) as u32 % (2 << size), draw)
 }

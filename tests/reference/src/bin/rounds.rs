@@ -3,9 +3,10 @@
 //!
 //! `rounds stack 2 'push 50 : 1 2 3' 'pop : 0 1 1'`
 //!
-//! The map's calls are `get K`, `put K V` and `remove K`. After the colon
-//! comes the tape; one with too few numbers is repeated from its start, and
-//! none at all is all 0. A first word `last` prints the slots only at the end.
+//! The map's calls are `get K`, `put K V` and `remove K`, the heap's `add V`
+//! and `take`. After the colon comes the tape; one with too few numbers is
+//! repeated from its start, and none at all is all 0. A first word `last`
+//! prints the slots only at the end.
 
 use reference::paper::*;
 use reference::{listing, plain, walk};
@@ -17,10 +18,11 @@ fn main() {
         words.remove(0);
     }
     let [structure, size, calls @ ..] = words.as_slice() else {
-        eprintln!("usage: rounds [last] map|stack SIZE 'CALL : TAPE' ...");
+        eprintln!("usage: rounds [last] map|stack|heap SIZE 'CALL : TAPE' ...");
         std::process::exit(2);
     };
-    let structure = if structure == "map" { MAP } else { STACK };
+    let known = STRUCTURES.iter().position(|name| name == structure);
+    let structure = 1 + known.expect("map, stack or heap") as u8;
     let size: u8 = size.parse().expect("a size");
     assert!((1..=GREATEST_SIZE).contains(&size), "a size from 1 to 8");
     let mut tree = vec![0; tree_bytes(size)];
@@ -72,6 +74,8 @@ fn read_ticket(words: &str) -> Ticket {
         ["remove", key] => Ticket::new(REMOVE, number(key) as u32, 0),
         ["push", value] => Ticket::new(PUSH, 0, number(value)),
         ["pop"] => Ticket::new(POP, 0, 0),
+        ["add", value] => Ticket::new(ADD, 0, number(value)),
+        ["take"] => Ticket::new(TAKE, 0, 0),
         _ => panic!("no such call: {words:?}"),
     }
 }

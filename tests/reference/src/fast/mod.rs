@@ -1,5 +1,6 @@
 //! The store written for speed: fixed arrays, no allocation in a call.
 
+mod heap;
 mod map;
 mod node;
 mod rounds;
@@ -28,7 +29,8 @@ pub fn call(
     let mut rounds = Rounds::new(state, tree, tape, trace);
     let result = match structure {
         MAP => map::call(&mut rounds, ticket),
-        _ => stack::call(&mut rounds, ticket),
+        STACK => stack::call(&mut rounds, ticket),
+        _ => heap::call(&mut rounds, ticket),
     };
     rounds.end();
     let leaves = rounds.leaves;

@@ -74,6 +74,12 @@ impl Node {
             && right_absent_is_zero
     }
 
+    /// Words 0 and 1: all but tags and value.
+    #[inline]
+    pub fn shape(&self) -> [u64; 2] {
+        [self.words[0], self.words[1]]
+    }
+
     #[inline]
     pub fn key(&self) -> u32 {
         (self.words[0] >> 32) as u32

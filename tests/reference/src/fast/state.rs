@@ -26,7 +26,7 @@ impl State {
     };
 
     pub fn is_fit(&self) -> bool {
-        matches!(self.structure, MAP | STACK)
+        matches!(self.structure, MAP..=HEAP)
             && matches!(self.size, 1..=GREATEST_SIZE)
             && self.entries < 1 << self.size
             && self.count <= WAITING_LIMIT
@@ -50,11 +50,13 @@ impl State {
         if self.entries == 0 {
             return self.root == Link::NONE;
         }
-        let shape_is_fit = if self.structure == MAP {
-            let height = self.root.height.min(13);
-            LEAST_ENTRIES[usize::from(height)] <= self.entries && self.entries < 1 << height
-        } else {
-            self.root.height == 1 && self.root.key == self.entries
+        let shape_is_fit = match self.structure {
+            MAP => {
+                let height = self.root.height.min(13);
+                LEAST_ENTRIES[usize::from(height)] <= self.entries && self.entries < 1 << height
+            }
+            STACK => self.root.height == 1 && self.root.key == self.entries,
+            _ => self.root.height == 1 && self.root.key == 1,
         };
         shape_is_fit && self.root.tag >> self.size == 0
     }
@@ -65,9 +67,9 @@ const LEAST_ENTRIES: [u32; 14] = [0, 1, 2, 4, 7, 12, 20, 33, 54, 88, 143, 232, 3
 
 pub fn open(structure: u8, size: u8, tree: &mut [u8]) -> State {
     let mark = match (structure, size) {
-        (MAP | STACK, 1..=GREATEST_SIZE) if tree.len() == tree_bytes(size) => 0,
-        (MAP | STACK, 1..=GREATEST_SIZE) => TREE_LENGTH,
-        (MAP | STACK, _) => BAD_SIZE,
+        (MAP..=HEAP, 1..=GREATEST_SIZE) if tree.len() == tree_bytes(size) => 0,
+        (MAP..=HEAP, 1..=GREATEST_SIZE) => TREE_LENGTH,
+        (MAP..=HEAP, _) => BAD_SIZE,
         _ => BAD_STRUCTURE,
     };
     if mark != 0 {

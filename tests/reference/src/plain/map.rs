@@ -25,14 +25,7 @@ pub fn step(run: &Run, ticket: Ticket) -> Result<Done, Way> {
         _ => walk.remove(vec![], run.root)?,
     };
     if ticket.kind == PUT && run.entries == capacity(run.size) {
-        let nodes = run.held.iter().map(|held| held.node).collect();
-        let answer = Answer::Refused(FULL);
-        return Ok(Done {
-            entries: run.entries,
-            root: run.root,
-            nodes,
-            answer,
-        });
+        return Ok(Done::unchanged(run, Answer::Refused(FULL)));
     }
     let entries = match walk.answer {
         Answer::New => run.entries + 1,
@@ -44,6 +37,7 @@ pub fn step(run: &Run, ticket: Ticket) -> Result<Done, Way> {
         root,
         nodes: walk.nodes,
         answer: walk.answer,
+        branches: vec![],
     })
 }
 

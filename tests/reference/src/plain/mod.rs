@@ -1,11 +1,14 @@
 //! The store written for reading: Vecs, copies and recursion.
 
+mod branch;
+mod heap;
 mod map;
 mod round;
 mod slot;
 mod stack;
 mod state;
 
+pub use branch::{Branch, BRANCHES};
 pub use slot::{passes, path, read_slot, write_slot, Node, Reading, Side};
 pub use state::{open, State};
 
@@ -20,8 +23,19 @@ pub fn call(
     tape: &[u16],
     trace: &mut [u16],
 ) -> Outcome {
+    call_with_branches(state, tree, ticket, tape, trace).0
+}
+
+/// A call, and what a heap's step met in it.
+pub fn call_with_branches(
+    state: &mut State,
+    tree: &mut [u8],
+    ticket: &[u8],
+    tape: &[u16],
+    trace: &mut [u16],
+) -> (Outcome, Vec<Branch>) {
     if let Some(cause) = refusal(state, tree, ticket, tape, trace) {
-        return Outcome::refused(cause);
+        return (Outcome::refused(cause), vec![]);
     }
     let mut run = Run {
         structure: state.structure,
@@ -34,6 +48,7 @@ pub fn call(
         tape,
         trace,
         leaves: 0,
+        branches: vec![],
     };
     let result = run.rounds(Ticket::read(ticket));
     let held = run.held.iter().map(|held| held.node).collect();
@@ -45,10 +60,8 @@ pub fn call(
         state.mark = cause;
         Answer::Refused(cause)
     });
-    Outcome {
-        answer,
-        leaves: run.leaves,
-    }
+    let leaves = run.leaves;
+    (Outcome { answer, leaves }, run.branches)
 }
 
 /// The first of the causes 1 to 7 that holds.

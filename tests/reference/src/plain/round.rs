@@ -1,7 +1,7 @@
 //! Rounds over the tree and the waiting nodes.
 
 use super::slot::{passes, path, read_slot, write_slot, Node, Reading, Side};
-use super::{map, stack};
+use super::{heap, map, stack, Branch};
 use crate::paper::*;
 
 /// The turns from the root to a node, as the store stood before the step.
@@ -21,6 +21,21 @@ pub struct Done {
     /// The held nodes as changed, a new one among them, a removed one not.
     pub nodes: Vec<Node>,
     pub answer: Answer,
+    /// Of a heap alone.
+    pub branches: Vec<Branch>,
+}
+
+impl Done {
+    /// A step that changes nothing; the held nodes wait again.
+    pub fn unchanged(run: &Run, answer: Answer) -> Done {
+        Done {
+            entries: run.entries,
+            root: run.root,
+            nodes: run.held.iter().map(|held| held.node).collect(),
+            answer,
+            branches: vec![],
+        }
+    }
 }
 
 /// A call under way.
@@ -35,6 +50,8 @@ pub struct Run<'a> {
     pub tape: &'a [u16],
     pub trace: &'a mut [u16],
     pub leaves: usize,
+    /// What the step met.
+    pub branches: Vec<Branch>,
 }
 
 impl Run<'_> {
@@ -50,6 +67,7 @@ impl Run<'_> {
             .unwrap_or_else(|_| panic!("F fetch rounds are enough"));
         self.entries = done.entries;
         self.root = done.root;
+        self.branches = done.branches;
         self.held.clear();
         self.wait(done.nodes);
         for round in 0..rounds {
@@ -62,7 +80,8 @@ impl Run<'_> {
     fn step(&self, ticket: Ticket) -> Result<Done, Way> {
         match self.structure {
             MAP => map::step(self, ticket),
-            _ => stack::step(self, ticket),
+            STACK => stack::step(self, ticket),
+            _ => heap::step(self, ticket),
         }
     }
 
@@ -136,7 +155,8 @@ impl Run<'_> {
         node.tag == link.tag
             && match self.structure {
                 MAP => map::is_sound(node, link) && self.is_between(way, node.key),
-                _ => stack::is_sound(node),
+                STACK => stack::is_sound(node),
+                _ => heap::is_sound(node, self.entries),
             }
     }
 

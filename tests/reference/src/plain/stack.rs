@@ -22,7 +22,7 @@ pub fn step(run: &Run, ticket: Ticket) -> Result<Done, Way> {
 
 fn push(run: &Run, value: u64) -> Done {
     if run.entries == capacity(run.size) {
-        return unchanged(run, Answer::Refused(FULL));
+        return Done::unchanged(run, Answer::Refused(FULL));
     }
     let key = run.entries + 1;
     let tag = run.draw(1);
@@ -38,12 +38,13 @@ fn push(run: &Run, value: u64) -> Done {
         root: top.link_here_in_stack(),
         nodes: vec![top],
         answer: Answer::Pushed,
+        branches: vec![],
     }
 }
 
 fn pop(run: &Run) -> Result<Done, Way> {
     if run.entries == 0 {
-        return Ok(unchanged(run, Answer::Empty));
+        return Ok(Done::unchanged(run, Answer::Empty));
     }
     let top = &run.held.first().ok_or(Way::new())?.node;
     Ok(Done {
@@ -51,16 +52,8 @@ fn pop(run: &Run) -> Result<Done, Way> {
         root: top.left,
         nodes: vec![],
         answer: Answer::Popped(top.value),
+        branches: vec![],
     })
-}
-
-fn unchanged(run: &Run, answer: Answer) -> Done {
-    Done {
-        entries: run.entries,
-        root: run.root,
-        nodes: vec![],
-        answer,
-    }
 }
 
 impl Node {

@@ -47,7 +47,7 @@ impl State {
     }
 
     pub fn is_fit(&self) -> bool {
-        (self.structure == MAP || self.structure == STACK)
+        structure_is_known(self.structure)
             && (1..=GREATEST_SIZE).contains(&self.size)
             && self.entries <= capacity(self.size)
             && self.places_are_fit()
@@ -73,13 +73,14 @@ impl State {
         usize::from(self.root.tag) < leaf_count(self.size)
             && match self.structure {
                 MAP => height_possible(self.root.height, self.entries),
-                _ => self.root.height == 1 && self.root.key == self.entries,
+                STACK => self.root.height == 1 && self.root.key == self.entries,
+                _ => self.root.height == 1 && self.root.key == 1,
             }
     }
 }
 
 pub fn open(structure: u8, size: u8, tree: &mut [u8]) -> State {
-    if structure != MAP && structure != STACK {
+    if !structure_is_known(structure) {
         return State::closed(BAD_STRUCTURE);
     }
     if !(1..=GREATEST_SIZE).contains(&size) {

@@ -177,7 +177,8 @@ impl Pair {
                 audit_subtree(&nodes, self.plain.root, -1, 1 << 32),
                 nodes.len()
             ),
-            _ => audit_stack(&nodes, self.plain.root),
+            STACK => audit_stack(&nodes, self.plain.root),
+            _ => audit_heap(&nodes, self.plain.root),
         }
     }
 }
@@ -212,6 +213,23 @@ fn audit_stack(nodes: &BTreeMap<u32, Node>, mut link: Link) {
     assert_eq!(link, Link::NONE);
 }
 
+fn audit_heap(nodes: &BTreeMap<u32, Node>, root: Link) {
+    let link_to = |key: u32| {
+        nodes.get(&key).map_or(Link::NONE, |node| Link {
+            height: 1,
+            key,
+            tag: node.tag,
+        })
+    };
+    assert!(nodes.keys().copied().eq(1..=nodes.len() as u32));
+    assert_eq!(root, link_to(1));
+    for (&position, node) in nodes {
+        assert_eq!(node.left, link_to(2 * position));
+        assert_eq!(node.right, link_to(2 * position + 1));
+        assert!(position == 1 || nodes[&(position / 2)].value <= node.value);
+    }
+}
+
 pub fn get(key: u32) -> Ticket {
     Ticket::new(GET, key, 0)
 }
@@ -232,20 +250,27 @@ pub fn pop() -> Ticket {
     Ticket::new(POP, 0, 0)
 }
 
-/// A random call of the structure; keys lie somewhat beyond the capacity.
+pub fn add(value: u64) -> Ticket {
+    Ticket::new(ADD, 0, value)
+}
+
+pub fn take() -> Ticket {
+    Ticket::new(TAKE, 0, 0)
+}
+
+/// A random call of the structure; keys lie somewhat beyond the capacity, and
+/// half of the values are small, so that equal ones meet.
 pub fn random_ticket(random: &mut Random, structure: u8, size: u8) -> Ticket {
     let kind = match structure {
         MAP => [GET, PUT, PUT, PUT, REMOVE][random.index(5)],
-        _ => [PUSH, PUSH, PUSH, POP, POP][random.index(5)],
+        STACK => [PUSH, PUSH, PUSH, POP, POP][random.index(5)],
+        _ => [ADD, ADD, ADD, TAKE, TAKE][random.index(5)],
     };
-    random_ticket_of(random, kind, size)
-}
-
-pub fn random_ticket_of(random: &mut Random, kind: u8, size: u8) -> Ticket {
     let spread = u64::from(capacity(size)) * 3 / 2 + 1;
     let key = match random.below(40) {
         0 => u32::MAX - random.below(2) as u32,
         _ => random.below(spread) as u32,
     };
-    Ticket::new(kind, key, random.next())
+    let bound = [8, u64::MAX][random.index(2)];
+    Ticket::new(kind, key, random.below(bound))
 }

@@ -70,7 +70,7 @@ module _ (c : tie.After-without Inv-loop μ-loop) where
       let asked = sym (told .before .before .wanted .ensures .0) ∙ ap toWanted (told .next .given .1) in
       let passed = sym (tested .passes .ensures) ∙ not-false (tested .passes .result) (c .before .if2 .left) in
       tested-low (structureOf (looped .before .structure-of .result)) (start .args .memory .entries) (toWant (told .next .given .0 .0)) (toNode n) 100 passed (omega arith)
-      (wanted-low (toOp (start .args .op)) (λ i. start .args .tag) 15 (start .args .memory .entries) (toLink (start .args .memory .root)) (nodesOf (heldIn (looped .loop .held) (looped .loop .count))) 100 (low .root-low) (low .low) asked)
+      (wanted-low (toOp (start .args .op)) (λ i. start .args .tag) 15 (start .args .memory .entries) (toLink (start .args .memory .root)) (nodesOf (heldIn (looped .loop .held) (looped .loop .count))) 100 (omega arith) (low .root-low) (low .low) asked)
 
 structure-of-requires : tie.Need-structure-of-requires Inv-loop μ-loop
 structure-of-requires c κs = search needs

@@ -1,3 +1,4 @@
+pub mod NodeLaws
 pub mod Way
 pub mod WayLaws
 pub mod FetchTestLaws

@@ -25,8 +25,7 @@ use Rattle.run_laws.specs.Calls.{memoryOf}
 use Rattle.run_laws.specs.Answers.{StepsTo}
 use Rattle.run_laws.specs.StackRepresents.{countdown, Cell}
 use Rattle.heap_laws.specs.HeapTree.{Complete, Sorted, numbersIn, positionsIn, Frame, bare, plug, position, heapLink, heapNodes, HoldsHeap, aside, Passes, Came}
-use Rattle.heap_laws.specs.Ways.{along}
-use Rattle.heap_laws.specs.Plugs.{outline-complete, outline-positions, outline-link, complete-part, complete-grow, list-plug, numbers-list, positions-list}
+use Rattle.heap_laws.specs.Plugs.{complete-same, positions-same, complete-part, complete-one, numbers-one, positions-one}
 use Rattle.heap_laws.specs.Order.{Fits, Spread, ordered-split}
 use Rattle.heap_laws.specs.Descend.{descend-safe}
 use Rattle.heap_laws.specs.Rising.{Risen, rise-stored, rise-tags, topmost-link}
@@ -91,20 +90,17 @@ module _ {T : Type 0} (nil : T) (limit : ℕ) (vs : List ℕ) (m : Memory T) (h 
     with-cell = plug (node leaf c leaf) fs
 
     cell-complete : Complete (suc (m .entries)) 1 (bare with-cell)
-    unfolding along bare
-    cell-complete =
-        complete-grow (m .entries) fs leaf (node leaf c leaf) [] last (λ beyond. omega (arith, last)) (rw same (h .complete))
+    cell-complete = complete-one (m .entries) fs c last .more (rw same (h .complete))
 
     cell-numbers : Perm (numbersIn (bare with-cell)) (enter (c .value) vs)
-    unfolding bare numbersIn
     cell-numbers =
-        trans (list-plug numbers-list fs (node leaf c leaf))
+        trans (numbers-one fs c)
         (trans (cons (c .value) (rw (← same) at (h .numbers))) (perm-sym (enter-perm (c .value) vs)))
 
     cell-positions : Perm (positionsIn 1 (bare with-cell)) (countdown (suc (m .entries)))
-    unfolding bare positionsIn countdown
+    unfolding countdown
     cell-positions =
-        trans (rw (last, same) at (list-plug positions-list fs (node leaf c leaf))) (cons (suc (m .entries)) (h .positions))
+        trans (rw (last, same) at (positions-one fs c)) (cons (suc (m .entries)) (h .positions))
 
     cell-risen : {path : List (Pass T)} → Passes nil fs path
         → Risen nil fs (node leaf c leaf) (rise (newNode nil (c .value) (c .tag) (m .entries)) path ++ aside nil fs)
@@ -123,15 +119,13 @@ module _ {T : Type 0} (nil : T) (limit : ℕ) (vs : List ℕ) (m : Memory T) (h 
         let risen = cell-risen passes in
         record {
           tree = risen .tree;
-          complete = outline-complete (suc (m .entries)) 1 with-cell (risen .tree) (sym (risen .alike)) cell-complete;
+          complete = complete-same 1 (bare with-cell) (bare (risen .tree)) (sym (risen .alike)) (suc (m .entries)) cell-complete;
           ordered = risen .ordered;
           numbers = trans (risen .numbers) cell-numbers;
           sorted = enter-sorted (c .value) vs (h .sorted);
-          positions = rw (outline-positions 1 (risen .tree) with-cell (risen .alike)) cell-positions;
+          positions = rw (positions-same 1 (bare (risen .tree)) (bare with-cell) (risen .alike)) cell-positions;
           counted = ap suc (h .counted) ∙ sym (enter-length (c .value) vs);
-          linked =
-              topmost-link nil passes new (node leaf c leaf) (rw last)
-              ∙ outline-link nil 1 with-cell (risen .tree) (sym (risen .alike));
+          linked = topmost-link nil passes new (node leaf c leaf) (rw last) ∙ sym (risen .linked);
           stored = trans (perm-append-left (rise new path) there) (risen .stored);
           fits = rw (enter-length (c .value) vs) room;
         }

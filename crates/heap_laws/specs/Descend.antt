@@ -32,15 +32,11 @@ module _ {T : Type 0} (nil : T) where
   sides-there false i l r rest = sides-below nil false i r l rest
 
   -- The links of a node on the side s and on the other.
-  child-link : (s : Bool) (i : ℕ) (l : Tree (Cell T)) (c : Cell T) (r : Tree (Cell T))
-      → child s (heapNode nil i l c r) ≡ heapLink nil (childPosition s i) (pick s l r)
-  child-link true i l c r = refl
-  child-link false i l c r = refl
-
-  other-link : (s : Bool) (i : ℕ) (l : Tree (Cell T)) (c : Cell T) (r : Tree (Cell T))
-      → child (not s) (heapNode nil i l c r) ≡ heapLink nil (childPosition (not s) i) (pick s r l)
-  other-link true i l c r = refl
-  other-link false i l c r = refl
+  links : (s : Bool) (i : ℕ) (l : Tree (Cell T)) (c : Cell T) (r : Tree (Cell T))
+      → (child s (heapNode nil i l c r) ≡ heapLink nil (childPosition s i) (pick s l r))
+      × (child (not s) (heapNode nil i l c r) ≡ heapLink nil (childPosition (not s) i) (pick s r l))
+  links true i l c r = (refl, refl)
+  links false i l c r = (refl, refl)
 
   -- The node in its frame is the node, but for the tag.
   bare-frame : (s : Bool) (l : Tree (Cell T)) (c : Cell T) (r : Tree (Cell T)) (d : T)
@@ -85,10 +81,10 @@ module _ {T : Type 0} (nil : T) where
         let m = retag d (heapNode nil i l c r) in
         let f = frameOf s l c r d in
         let p : PassOf nil i f (record { node = m; way = s }) =
-        record { way = refl; key = refl; value = refl; tag = refl; other = other-link s i l (f .cell) r } in
+        record { way = refl; key = refl; value = refl; tag = refl; other = links s i l (f .cell) r .1 } in
         descend-rest ss (f ∷ fs) (pick s l r) (beneath m s) (record { node = m; way = s } ∷ path) leads
         (bare-plug fs (joined f (pick s l r)) (node l c r) (bare-frame s l c r d) ∙ same) (one-passed p passes)
-        (child-link s i l (f .cell) r) (sides-there s i l r (aside nil fs)) (cons d retagged))
+        (links s i l (f .cell) r .0) (sides-there s i l r (aside nil fs)) (cons d retagged))
 
   -- The way from the root to a position of the tree, or to the next one.
   pub descend-safe : (n q : ℕ) (t : Tree (Cell T)) (ns : List (Node T)) → Complete n 1 (bare t) → 1 ≤ q → q ≤ suc n

@@ -1,13 +1,14 @@
 -- What a memory that holds a heap tells: its keys are the positions, its pairs are those of the plain heap, and its root is position 1.
 use mathlib.Core.Path.{_≡_, refl, sym, _∙_, ap, ap₂}
-use mathlib.Core.List.{List, [], _∷_, _++_, map, map-append, map-map, List·Memᴰ}
-use Prim.Native.Nat.{ℕ, zero, suc, _≤_, _<_}
+use mathlib.Core.Bool.{true, false}
+use mathlib.Core.List.{List, [], _∷_, map, map-append, map-map}
+use Prim.Native.Nat.{ℕ, zero, suc, _≤_}
 use native.Mathlib.Nat.{le-refl}
 use native.Mathlib.Omega.{arith}
 use lib.ListN.{length, length-map}
 use Rattle.list_spec.specs.Perm.{Perm, trans}
 use Rattle.list_spec.specs.Distinct.{Distinct, All}
-use Rattle.list_laws.specs.PermLaws.{perm-sym, perm-of-eq, perm-map, perm-length, perm-of-map}
+use Rattle.list_laws.specs.PermLaws.{perm-sym, perm-of-eq, perm-map, perm-of-map}
 use Rattle.list_laws.specs.DistinctLaws.{all-nil, all-cons, distinct-perm}
 use Rattle.balance_spec.specs.Tree.{Tree, leaf, node}
 use Rattle.method_spec.specs.Node.{Node, absent}
@@ -17,7 +18,6 @@ use Rattle.method_spec.specs.Heap.{childPosition}
 use Rattle.method_spec.specs.Call.{Memory}
 use Rattle.run_laws.specs.Fetches.{keys}
 use Rattle.run_laws.specs.StackRepresents.{countdown, Cell}
-use mathlib.Core.Bool.{true, false}
 use Rattle.heap_laws.specs.HeapTree.{Complete, numbersIn, positionsIn, bare, heapLink, heapNodes, HoldsHeap}
 
 -- ---- 1 to n
@@ -54,16 +54,12 @@ module _ {T : Type 0} (nil : T) where
   node-keys : (i : ℕ) (t : Tree (Cell T)) → keys (heapNodes nil i t) ≡ positionsIn i (bare t)
   unfolding heapNodes positionsIn bare
   node-keys i leaf = refl
-  node-keys i (node l c r) =
-      rw (map-append (λ (n : Node T). n .key) (heapNodes nil (childPosition true i) l) (heapNodes nil (childPosition false i) r),
-      node-keys (childPosition true i) l, node-keys (childPosition false i) r)
+  node-keys i (node l c r) = rw (map-append, node-keys (childPosition true i) l, node-keys (childPosition false i) r)
 
   node-numbers : (i : ℕ) (t : Tree (Cell T)) → map (λ (n : Node T). n .value) (heapNodes nil i t) ≡ numbersIn (bare t)
   unfolding heapNodes numbersIn bare
   node-numbers i leaf = refl
-  node-numbers i (node l c r) =
-      rw (map-append (λ (n : Node T). n .value) (heapNodes nil (childPosition true i) l) (heapNodes nil (childPosition false i) r),
-      node-numbers (childPosition true i) l, node-numbers (childPosition false i) r)
+  node-numbers i (node l c r) = rw (map-append, node-numbers (childPosition true i) l, node-numbers (childPosition false i) r)
 
   module _ {limit : ℕ} {vs : List ℕ} {m : Memory T} (h : HoldsHeap nil limit vs m) where
     pub heap-keys : Perm (keys (m .nodes)) (countdown (m .entries))
@@ -83,8 +79,7 @@ module _ {T : Type 0} (nil : T) where
         let pair : Node T → Pair = λ n. record { key = n .key; value = n .value } in
         let pairs = map pair (m .nodes) in
         let r = perm-of-map (λ (p : Pair). p .key) heap-keys pairs (map-map (λ (p : Pair). p .key) pair (m .nodes)) in
-        let valued = map-map (λ (p : Pair). p .value) pair (m .nodes) in
-        (
+        let valued = map-map (λ (p : Pair). p .value) pair (m .nodes) in (
           map (λ (p : Pair). p .value) (r .0),
           (
             trans (perm-sym heap-numbers) (trans (perm-of-eq (sym valued)) (perm-map (λ (p : Pair). p .value) (r .1 .0))),

@@ -1,7 +1,7 @@
 -- What the heap supplies to the theory of runs: its memories represent what its plain machine holds, with three rounds for each level.
 use mathlib.Core.Path.{refl}
 use mathlib.Core.List.{List, []}
-use Prim.Native.Nat.{ℕ, _≤_, _<_, _*_, _^_}
+use Prim.Native.Nat.{ℕ, _<_, _^_}
 use native.Mathlib.Omega.{arith}
 use lib.Pow.{pow-pos}
 use Rattle.list_spec.specs.Perm.{trans}
@@ -19,7 +19,6 @@ use Rattle.run_laws.specs.Answers.{StepsTo, Represents}
 use Rattle.run_laws.specs.StackRepresents.{countdown}
 use Rattle.heap_laws.specs.HeapTree.{numbersIn, positionsIn, bare, heapLink, heapNodes, HoldsHeap}
 use Rattle.heap_laws.specs.HeapFacts.{heap-distinct}
-use Rattle.heap_laws.specs.Descend.{descend-safe}
 use Rattle.heap_laws.specs.Adding.{add-safe}
 use Rattle.heap_laws.specs.Taking.{take-safe}
 
@@ -51,7 +50,7 @@ module _ {T : Type 0} (nil : T) where
           → Safe (test heap (m .entries)) (StepsTo (HoldsHeap nil (capacity k)) (plain (capacity k) op vs) (sparesOf heap spares))
           (program nil op spares (capacity k) (m .entries) (m .root)) [] (m .nodes)
       safe-step vs m h (add value) spares = add-safe nil (capacity k) vs m h value (spares 0)
-      safe-step vs m h take spares = take-safe nil (descend-safe nil) (capacity k) vs m h (spares 0)
+      safe-step vs m h take spares = take-safe nil (capacity k) vs m h (spares 0)
 
   pub empty-heap : (limit : ℕ) → HoldsHeap nil limit [] (emptyMemory nil)
   unfolding emptyMemory heapLink heapNodes bare numbersIn positionsIn countdown

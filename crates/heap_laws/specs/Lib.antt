@@ -3,7 +3,6 @@ pub mod HeapTree
 pub mod HeapFacts
 pub mod Plugs
 pub mod Order
-pub mod Plugged
 pub mod Descend
 pub mod Rising
 pub mod Adding

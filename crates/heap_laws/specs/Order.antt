@@ -1,14 +1,22 @@
--- Order around a place: which trees may stand there, so that the whole is in order.
+-- Trees in order: their least number, and which trees may stand in a place, so that the whole is in order.
+use mathlib.Core.Path.{_≡_, refl}
 use mathlib.Core.Bool.{Bool, true, false}
-use mathlib.Core.List.{List, [], _∷_}
+use mathlib.Core.List.{List, [], _∷_, List·Memᴰ·head}
 use Prim.Native.Nat.{ℕ, _≤_}
+use native.Mathlib.Nat.{le-refl}
 use native.Mathlib.Omega.{arith}
+use Rattle.list_spec.specs.Perm.{Perm}
+use Rattle.list_spec.specs.Distinct.{All}
+use Rattle.list_laws.specs.PermLaws.{perm-sym, perm-member}
+use Rattle.list_laws.specs.DistinctLaws.{all-nil, all-cons, all-append}
 use Rattle.balance_spec.specs.Tree.{Tree, leaf, node}
 use Rattle.run_laws.specs.StackRepresents.{Cell}
-use Rattle.heap_laws.specs.HeapTree.{AtLeast, Ordered, Frame, bare, joined, plug}
-use Rattle.heap_laws.specs.Plugs.{joinedOn}
+use Rattle.heap_laws.specs.HeapTree.{AtLeast, Ordered, numbersIn, Sorted, Frame, bare, joined, plug}
+use Rattle.heap_laws.specs.Plugs.{joinedOn, lift}
 
-pub least-zero : (t : Tree ℕ) → AtLeast 0 t
+-- ---- the least number
+
+least-zero : (t : Tree ℕ) → AtLeast 0 t
 least-zero leaf = tt
 least-zero (node l v r) = omega arith
 
@@ -16,7 +24,31 @@ pub least-less : {v w : ℕ} (t : Tree ℕ) → v ≤ w → AtLeast w t → AtLe
 least-less leaf le h = tt
 least-less (node l u r) le h = omega arith
 
+-- What may stand over a tree in order is at most every number in it.
+least-all : (b : ℕ) (t : Tree ℕ) → Ordered t → AtLeast b t → All (λ v. b ≤ v) (numbersIn t)
+unfolding numbersIn
+least-all b leaf h low = all-nil (λ v. b ≤ v)
+least-all b (node l v r) h low =
+    all-cons {P = λ v. b ≤ v} low
+    (all-append (numbersIn l) (least-all b l (h .1 .1 .0) (least-less l low (h .0))) (least-all b r (h .1 .1 .1) (least-less r low (h .1 .0))))
+
+-- Its top number, if there is one, is w.
+abbrev pub TopIs : ℕ → Tree ℕ → Type 0
+TopIs w leaf = Unit {0}
+TopIs w (node l v r) = v ≡ w
+
+-- It is the first of the numbers in ascending order.
+pub top-first : (w : ℕ) (ws : List ℕ) (t : Tree ℕ) → Ordered t → Perm (numbersIn t) (w ∷ ws) → Sorted (w ∷ ws) → TopIs w t
+unfolding numbersIn
+top-first w ws leaf ordered numbers sorted = tt
+top-first w ws (node l v r) ordered numbers sorted =
+    let most : v ≤ w = least-all v (node l v r) ordered (le-refl v) w (perm-member (perm-sym numbers) (List·Memᴰ·head refl)) in
+    let least : w ≤ v = all-cons {P = λ x. w ≤ x} (le-refl w) (sorted .0) v (perm-member numbers (List·Memᴰ·head refl)) in
+    omega arith
+
 module _ {T : Type 0} where
+  -- ---- order around a place
+
   -- The number over a place; over the root every number may stand.
   abbrev pub nearest : List (Frame T) → ℕ
   nearest [] = 0
@@ -74,3 +106,14 @@ module _ {T : Type 0} where
       go : (s : Bool) → Fits fs (joinedOn s f t)
       go true = record { ordered = (h .least, (steady .0 .least, (h .ordered, steady .0 .other))); least = steady .0 .rising }
       go false = record { ordered = (steady .0 .least, (h .least, (steady .0 .other, h .ordered))); least = steady .0 .rising }
+
+  -- Without what stands in a place, a tree in order stays so, and its top number stays if any does.
+  pub ordered-without : (fs : List (Frame T)) (t : Tree (Cell T)) → Ordered (bare (plug t fs)) → Ordered (bare (plug leaf fs))
+  unfolding bare
+  ordered-without fs t h = ordered-join fs leaf (ordered-split fs t h .0) (record { ordered = tt; least = tt })
+
+  pub top-without : (fs : List (Frame T)) (t : Tree (Cell T)) (w : ℕ) → TopIs w (bare (plug t fs)) → TopIs w (bare (plug leaf fs))
+  unfolding bare
+  top-without fs t w =
+      lift {R = λ i t u. TopIs w (bare t) → TopIs w (bare u)}
+      (record { left = λ i c o t u some r h. h; right = λ i c o t u some r h. h }) fs t leaf (λ h. tt)

@@ -1,230 +1,228 @@
--- A tree in its place under the nodes that were passed: what depends on what of it.
+-- A tree in its place under the nodes that a way passed: what is true of the whole, by what is true of the tree.
 use mathlib.Core.Path.{_≡_, refl, sym, _∙_}
 use mathlib.Core.Bool.{Bool, true, false, not}
-use mathlib.Core.List.{List, [], _∷_, _++_, append-nil}
-use Prim.Native.Nat.{ℕ, suc, _≤_}
+use mathlib.Core.List.{List, [], _∷_, _++_}
+use Prim.Native.Nat.{ℕ, zero, suc, _*_, _^_, _≤_, _<_}
+use native.Mathlib.Nat.{mul-assoc, mul-comm, pow-succ'}
 use native.Mathlib.Omega.{arith}
+use lib.ListN.{length}
 use Rattle.list_spec.specs.Choice.{pick}
-use Rattle.list_spec.specs.Perm.{Perm, trans}
-use Rattle.list_laws.specs.PermLaws.{perm-sym, perm-of-eq, perm-append-left, perm-append-right, perm-append-assoc, perm-append-swap, perm-front}
-use Rattle.list_laws.specs.Shuffle.{part, _&_, shuffle}
-use Rattle.balance_spec.specs.Tree.{Tree, leaf, node}
-use Rattle.method_spec.specs.Node.{Node}
-use Rattle.method_spec.specs.Heap.{childPosition}
+use Rattle.list_spec.specs.Perm.{Perm, cons, swap, trans}
+use Rattle.list_laws.specs.PermLaws.{perm-refl, perm-sym, perm-front, perm-append-left, perm-append-right, perm-append-assoc, perm-append-comm}
+use Rattle.balance_spec.specs.Tree.{Tree, leaf, node, height}
+use Rattle.method_spec.specs.Node.{Node, Link, child, withChild}
+use Rattle.method_spec.specs.Heap.{childPosition, Pass}
 use Rattle.run_laws.specs.StackRepresents.{Cell}
-use Rattle.heap_laws.specs.HeapTree.{Complete, numbersIn, positionsIn, Frame, bare, joined, plug, position, heapLink, heapNodes}
-use Rattle.heap_laws.specs.Ways.{along, child-up, along-once}
+use Rattle.heap_laws.specs.HeapTree.{Complete, numbersIn, positionsIn, Frame, bare, joined, plug, position, heapLink, heapNode, heapNodes, PassOf}
+use Rattle.heap_laws.specs.Ways.{along, child-up, along-turn, ways-part}
+
+-- ---- the shape of a tree
+
+-- The tree with zeros for its numbers.
+unfoldable pub shape : Tree ℕ → Tree ℕ
+shape leaf = leaf
+shape (node l v r) = node (shape l) 0 (shape r)
+
+shape-complete : (n i : ℕ) (t : Tree ℕ) → Complete n i t ≡ Complete n i (shape t)
+unfolding shape
+shape-complete n i leaf = refl
+shape-complete n i (node l v r) = rw (shape-complete n (2 * i) l, shape-complete n (suc (2 * i)) r)
+
+shape-positions : (i : ℕ) (t : Tree ℕ) → positionsIn i t ≡ positionsIn i (shape t)
+unfolding shape positionsIn
+shape-positions i leaf = refl
+shape-positions i (node l v r) = rw (shape-positions (2 * i) l, shape-positions (suc (2 * i)) r)
+
+-- The shape says whether a tree is complete, and what its positions are.
+module _ (i : ℕ) (t u : Tree ℕ) (same : shape t ≡ shape u) where
+  pub complete-same : (n : ℕ) → Complete n i t → Complete n i u
+  complete-same n h = rw (shape-complete n i u, ← same, ← shape-complete n i t) h
+
+  pub positions-same : positionsIn i t ≡ positionsIn i u
+  positions-same = rw (shape-positions i t, same, shape-positions i u)
+
+-- The positions d levels below i start at i * 2^d.
+pub complete-height : (n i d : ℕ) (t : Tree ℕ) → Complete n i t → n < i * 2 ^ d → height t ≤ d
+unfolding height
+complete-height n i d leaf h low = omega arith
+complete-height n i zero (node l v r) h low = let z : ⊥ = omega arith in absurd z
+complete-height n i (suc d) (node l v r) h low =
+    let e : i * 2 ^ suc d ≡ 2 * i * 2 ^ d = rw (pow-succ' 2 d, mul-comm 2 i, mul-assoc i 2 (2 ^ d)) in
+    let left = complete-height n (2 * i) d l (h .1 .0) (omega arith) in
+    let right = complete-height n (suc (2 * i)) d r (h .1 .1) (omega arith) in
+    omega arith
+
+-- The tree t at position i is complete up to n exactly where u is up to the next position.
+pub record Grows (n i : ℕ) (t u : Tree ℕ) : Type 0 where
+  pub more : Complete n i t → Complete (suc n) i u
+  pub fewer : Complete (suc n) i u → Complete n i t
+
+grows-node : {n i : ℕ} {a b l r : Tree ℕ} (v : ℕ) → (i ≡ suc n → ⊥) → Grows n (2 * i) a l → Grows n (suc (2 * i)) b r
+    → Grows n i (node a v b) (node l v r)
+grows-node v other left right =
+    record {
+      more = λ h. (omega (arith, h .0), (left .more (h .1 .0), right .more (h .1 .1)));
+      fewer = λ h. (omega (arith, h .0, other), (left .fewer (h .1 .0), right .fewer (h .1 .1)));
+    }
+
+-- A part that the next position is not under is complete up to n exactly where it is up to the next position.
+grows-beside : (n i : ℕ) (t : Tree ℕ) → ((ss : List Bool) → along i ss ≡ suc n → ⊥) → Grows n i t t
+unfolding along
+grows-beside n i leaf beside = record { more = λ h. omega (arith, beside []); fewer = λ h. omega arith }
+grows-beside n i (node l v r) beside =
+    grows-node v (beside []) (grows-beside n (2 * i) l (λ ss. beside (true ∷ ss))) (grows-beside n (suc (2 * i)) r (λ ss. beside (false ∷ ss)))
+
+-- ---- a tree on either side
 
 -- What is true of both is true of the chosen one.
 pub either : {A : Type 0} (P : A → Type 0) (s : Bool) {a b : A} → P a → P b → P (pick s a b)
 either P true p q = p
 either P false p q = q
 
--- ---- trees of numbers
+-- The lists of a tree on the side s and of one on the other, from left to right.
+pub both-sides : {A B : Type 0} (s : Bool) (x y : A) (list : Bool → A → List B)
+    → Perm (list s x ++ list (not s) y) (list true (pick s x y) ++ list false (pick s y x))
+both-sides true x y list = perm-refl (list true x ++ list false y)
+both-sides false x y list = perm-append-comm (list false x) (list true y)
 
--- A part that the next position is not under.
-complete-beside : (n i : ℕ) (t : Tree ℕ) → ((ss : List Bool) → along i ss ≡ suc n → ⊥) → Complete n i t → Complete (suc n) i t
-unfolding along
-complete-beside n i leaf beside h = omega (arith, beside [])
-complete-beside n i (node l v r) beside h = (
-  omega (arith, h .0),
-  (
-    complete-beside n (childPosition true i) l (λ ss. beside (true ∷ ss)) (h .1 .0),
-    complete-beside n (childPosition false i) r (λ ss. beside (false ∷ ss)) (h .1 .1),
-  ),
-)
+-- What one of two lists has more, both have more together, beside what stands at the node over them.
+module _ {A : Type 0} (a b : A) {xs ys : List A} (zs : List A) (more : Perm xs (a ∷ ys)) where
+  front-left : Perm (b ∷ (xs ++ zs)) (a ∷ b ∷ (ys ++ zs))
+  front-left = trans (cons b (perm-append-right zs more)) (swap b a (ys ++ zs))
 
--- Ways that part at a position do not meet.
-ways-part : (s : Bool) (i : ℕ) → 1 ≤ i → (ss us : List Bool) → along (childPosition s i) ss ≡ along (childPosition (not s) i) us → ⊥
-unfolding along
-ways-part true i some ss us e =
-    let same = along-once i (true ∷ ss) (false ∷ us) some e in
-    let z : _≡_ {A = ℕ} 0 1 = cc in
-    omega arith
-ways-part false i some ss us e =
-    let same = along-once i (false ∷ ss) (true ∷ us) some e in
-    let z : _≡_ {A = ℕ} 0 1 = cc in
-    omega arith
-
--- A list of what stands at the nodes of a tree: none at a leaf, and first what stands at the top.
-pub record Lists {X : Type 0} (at : ℕ → ℕ → X) (list : ℕ → Tree ℕ → List X) : Type 0 where
-  pub none : (i : ℕ) → list i leaf ≡ []
-  pub some : (i : ℕ) (l : Tree ℕ) (v : ℕ) (r : Tree ℕ)
-      → list i (node l v r) ≡ at i v ∷ (list (childPosition true i) l ++ list (childPosition false i) r)
-
-pub numbers-list : Lists (λ i v. v) (λ i t. numbersIn t)
-unfolding numbersIn
-numbers-list = record { none = λ i. refl; some = λ i l v r. refl }
-
-pub positions-list : Lists (λ i v. i) positionsIn
-unfolding positionsIn
-positions-list = record { none = λ i. refl; some = λ i l v r. refl }
+  front-right : Perm (b ∷ (zs ++ xs)) (a ∷ b ∷ (zs ++ ys))
+  front-right = trans (cons b (trans (perm-append-left zs more) (perm-front zs a ys))) (swap b a (zs ++ ys))
 
 module _ {T : Type 0} where
-  -- ---- one level
+  -- ---- one node over a tree
 
   -- The tree t on the side s of the node that was passed.
   abbrev pub joinedOn : Bool → Frame T → Tree (Cell T) → Tree (Cell T)
   joinedOn s f t = pick s (node t (f .cell) (f .other)) (node (f .other) (f .cell) t)
 
-  -- The sides of the node that was passed, over the tree t.
-  pub joined-sides : (f : Frame T) (t : Tree (Cell T))
-      → joined f t ≡ node (pick (f .way) t (f .other)) (f .cell) (pick (f .way) (f .other) t)
-  joined-sides f t = go (f .way)
-    where
-      go : (s : Bool) → joinedOn s f t ≡ node (pick s t (f .other)) (f .cell) (pick s (f .other) t)
-      go true = refl
-      go false = refl
+  pub joined-sides : (s : Bool) (f : Frame T) (t : Tree (Cell T))
+      → joinedOn s f t ≡ node (pick s t (f .other)) (f .cell) (pick s (f .other) t)
+  joined-sides true f t = refl
+  joined-sides false f t = refl
 
   pub position-some : (fs : List (Frame T)) → 1 ≤ position fs
   unfolding position
   position-some [] = omega arith
   position-some (f ∷ fs) = omega (arith, child-up (f .way) (position fs) (position-some fs), position-some fs)
 
-  -- ---- what is the same under the same nodes
+  pub position-low : (fs : List (Frame T)) → position fs < 2 ^ suc (length fs)
+  unfolding position
+  position-low [] = omega arith
+  position-low (f ∷ fs) = go (f .way) (position-low fs)
+    where
+      go : (s : Bool) → position fs < 2 ^ suc (length fs) → childPosition s (position fs) < 2 ^ suc (suc (length fs))
+      go true h = omega arith
+      go false h = omega arith
 
-  -- A value of trees that each level takes from that of the tree on the way.
-  plug-same : {X : Type 0} (of : Tree (Cell T) → X)
-      → ((f : Frame T) (t u : Tree (Cell T)) → of t ≡ of u → of (joined f t) ≡ of (joined f u))
-      → (fs : List (Frame T)) (t u : Tree (Cell T)) → of t ≡ of u → of (plug t fs) ≡ of (plug u fs)
-  unfolding plug
-  plug-same of level [] t u e = e
-  plug-same of level (f ∷ fs) t u e = plug-same of level fs (joined f t) (joined f u) (level f t u e)
+  -- ---- two trees in one place
 
-  -- The numbers of the whole depend on no tag.
+  -- What is true of two trees at a position is true of a node over the one and over the other, on either side.
+  pub record Lifts (R : ℕ → Tree (Cell T) → Tree (Cell T) → Type 0) : Type 0 where
+    pub left : (i : ℕ) (c : Cell T) (o t u : Tree (Cell T)) → 1 ≤ i → R (2 * i) t u → R i (node t c o) (node u c o)
+    pub right : (i : ℕ) (c : Cell T) (o t u : Tree (Cell T)) → 1 ≤ i → R (suc (2 * i)) t u → R i (node o c t) (node o c u)
+
+  -- Then what is true of two trees in a place is true of the whole trees.
+  pub lift : {R : ℕ → Tree (Cell T) → Tree (Cell T) → Type 0} → Lifts R
+      → (fs : List (Frame T)) (t u : Tree (Cell T)) → R (position fs) t u → R 1 (plug t fs) (plug u fs)
+  unfolding plug position
+  lift h [] t u r = r
+  lift {R} h (f ∷ fs) t u r = lift h fs (joined f t) (joined f u) (go (f .way) r)
+    where
+      go : (s : Bool) → R (childPosition s (position fs)) t u → R (position fs) (joinedOn s f t) (joinedOn s f u)
+      go true = h .left (position fs) (f .cell) (f .other) t u (position-some fs)
+      go false = h .right (position fs) (f .cell) (f .other) t u (position-some fs)
+
   pub bare-plug : (fs : List (Frame T)) (t u : Tree (Cell T)) → bare t ≡ bare u → bare (plug t fs) ≡ bare (plug u fs)
   unfolding bare
-  bare-plug = plug-same bare (λ f t u e. go f t u e (f .way))
-    where
-      go : (f : Frame T) (t u : Tree (Cell T)) → bare t ≡ bare u → (s : Bool)
-          → bare (joinedOn s f t) ≡ bare (joinedOn s f u)
-      go f t u e true = rw e
-      go f t u e false = rw e
+  bare-plug =
+      lift {R = λ i t u. bare t ≡ bare u}
+      (record { left = λ i c o t u some e. rw e; right = λ i c o t u some e. rw e })
 
-  -- A tree with its tags alone: its shape, and where each tag stands.
-  unfoldable pub outline : Tree (Cell T) → Tree T
-  outline leaf = leaf
-  outline (node l c r) = node (outline l) (c .tag) (outline r)
+  pub shape-plug : (fs : List (Frame T)) (t u : Tree (Cell T)) → shape (bare t) ≡ shape (bare u)
+      → shape (bare (plug t fs)) ≡ shape (bare (plug u fs))
+  unfolding bare shape
+  shape-plug =
+      lift {R = λ i t u. shape (bare t) ≡ shape (bare u)}
+      (record { left = λ i c o t u some e. rw e; right = λ i c o t u some e. rw e })
 
-  pub outline-plug : (fs : List (Frame T)) (t u : Tree (Cell T)) → outline t ≡ outline u → outline (plug t fs) ≡ outline (plug u fs)
-  unfolding outline
-  outline-plug = plug-same outline (λ f t u e. go f t u e (f .way))
-    where
-      go : (f : Frame T) (t u : Tree (Cell T)) → outline t ≡ outline u → (s : Bool)
-          → outline (joinedOn s f t) ≡ outline (joinedOn s f u)
-      go f t u e true = rw e
-      go f t u e false = rw e
-
-  -- ---- what the outline says
-
-  leaf-is-none : {l r : Tree T} {d : T} → leaf ≡ node l d r → ⊥
-  leaf-is-none e = let z : _≡_ {A = ℕ} 0 1 = cc in omega arith
-
-  pub outline-complete : (n i : ℕ) (t u : Tree (Cell T)) → outline t ≡ outline u → Complete n i (bare t) → Complete n i (bare u)
-  unfolding outline bare
-  outline-complete n i leaf leaf e h = h
-  outline-complete n i leaf (node l c r) e h = absurd (leaf-is-none e)
-  outline-complete n i (node l c r) leaf e h = absurd (leaf-is-none (sym e))
-  outline-complete n i (node l c r) (node a d b) e h = (
-    h .0,
-    (
-      outline-complete n (childPosition true i) l a (cc) (h .1 .0),
-      outline-complete n (childPosition false i) r b (cc) (h .1 .1),
-    ),
-  )
-
-  pub outline-positions : (i : ℕ) (t u : Tree (Cell T)) → outline t ≡ outline u → positionsIn i (bare t) ≡ positionsIn i (bare u)
-  unfolding outline bare positionsIn
-  outline-positions i leaf leaf e = refl
-  outline-positions i leaf (node l c r) e = absurd (leaf-is-none e)
-  outline-positions i (node l c r) leaf e = absurd (leaf-is-none (sym e))
-  outline-positions i (node l c r) (node a d b) e =
-      rw (outline-positions (childPosition true i) l a (cc), outline-positions (childPosition false i) r b (cc))
-
-  pub outline-link : (nil : T) (i : ℕ) (t u : Tree (Cell T)) → outline t ≡ outline u → heapLink nil i t ≡ heapLink nil i u
-  unfolding outline heapLink
-  outline-link nil i leaf leaf e = refl
-  outline-link nil i leaf (node l c r) e = absurd (leaf-is-none e)
-  outline-link nil i (node l c r) leaf e = absurd (leaf-is-none (sym e))
-  outline-link nil i (node l c r) (node a d b) e = cc
-
-  -- ---- complete trees
-
-  -- The part of a complete tree that stands at a place.
-  pub complete-part : (n : ℕ) (fs : List (Frame T)) (t : Tree (Cell T)) → Complete n 1 (bare (plug t fs)) → Complete n (position fs) (bare t)
-  unfolding plug position bare
-  complete-part n [] t h = h
-  complete-part n (f ∷ fs) t h = go (f .way) (complete-part n fs (joined f t) h)
-    where
-      go : (s : Bool) → Complete n (position fs) (bare (joinedOn s f t)) → Complete n (childPosition s (position fs)) (bare t)
-      go true h = h .1 .0
-      go false h = h .1 .1
-
-  -- A complete tree with a new part, which has the next position.
-  pub complete-grow : (n : ℕ) (fs : List (Frame T)) (t u : Tree (Cell T)) (ss : List Bool) → along (position fs) ss ≡ suc n
-      → (Complete n (position fs) (bare t) → Complete (suc n) (position fs) (bare u))
-      → Complete n 1 (bare (plug t fs)) → Complete (suc n) 1 (bare (plug u fs))
-  unfolding plug position bare along
-  complete-grow n [] t u ss there grown h = grown h
-  complete-grow n (f ∷ fs) t u ss there grown h =
-      complete-grow n fs (joined f t) (joined f u) (f .way ∷ ss) there (go (f .way) there grown) h
-    where
-      i : ℕ
-      i = position fs
-
-      beside : (s : Bool) → along (childPosition s i) ss ≡ suc n
-          → Complete n (childPosition (not s) i) (bare (f .other)) → Complete (suc n) (childPosition (not s) i) (bare (f .other))
-      beside s there =
-          complete-beside n (childPosition (not s) i) (bare (f .other))
-          (λ us e. ways-part s i (position-some fs) ss us (there ∙ sym e))
-
-      go : (s : Bool) → along (childPosition s i) ss ≡ suc n
-          → (Complete n (childPosition s i) (bare t) → Complete (suc n) (childPosition s i) (bare u))
-          → Complete n i (bare (joinedOn s f t)) → Complete (suc n) i (bare (joinedOn s f u))
-      go true there grown h = (omega (arith, h .0), (grown (h .1 .0), beside true there (h .1 .1)))
-      go false there grown h = (omega (arith, h .0), (beside false there (h .1 .0), grown (h .1 .1)))
-
-  -- ---- lists
-
-  -- The list of the whole is that of the tree and that of what is around it.
-  pub list-plug : {X : Type 0} {at : ℕ → ℕ → X} {list : ℕ → Tree ℕ → List X} → Lists at list
-      → (fs : List (Frame T)) (t : Tree (Cell T))
-      → Perm (list 1 (bare (plug t fs))) (list (position fs) (bare t) ++ list 1 (bare (plug leaf fs)))
-  unfolding plug position bare
-  list-plug {list = list} lists [] t = rw (lists .none 1) (perm-of-eq (sym (append-nil (list 1 (bare t)))))
-  list-plug {X} {at} {list} lists (f ∷ fs) t =
-      trans (list-plug lists fs (joined f t))
-      (trans (perm-append-right around (go (f .way)))
-      (trans (perm-append-assoc (list (position (f ∷ fs)) (bare t)) (list i (bare (joined f leaf))) around)
-      (perm-append-left (list (position (f ∷ fs)) (bare t)) (perm-sym (list-plug lists fs (joined f leaf))))))
-    where
-      i : ℕ
-      i = position fs
-
-      v : ℕ
-      v = f .cell .value
-
-      o : Tree ℕ
-      o = bare (f .other)
-
-      around : List X
-      around = list 1 (bare (plug leaf fs))
-
-      go : (s : Bool)
-          → Perm (list i (bare (joinedOn s f t))) (list (childPosition s i) (bare t) ++ list i (bare (joinedOn s f leaf)))
-      go true =
-          rw (lists .some i (bare t) v o, lists .some i leaf v o, lists .none)
-          (perm-sym (perm-front (list (childPosition true i) (bare t)) (at i v) (list (childPosition false i) o)))
-      go false =
-          rw (lists .some i o v (bare t), lists .some i o v leaf, lists .none, append-nil)
-          (shuffle ((at i v ∷ []) ∷ list (childPosition true i) o ∷ list (childPosition false i) (bare t) ∷ [])
-          (part 0 & (part 1 & part 2)) (part 2 & (part 0 & part 1)) refl)
+  pub link-plug : (nil : T) (fs : List (Frame T)) (t u : Tree (Cell T)) → heapLink nil 1 t ≡ heapLink nil 1 u
+      → heapLink nil 1 (plug t fs) ≡ heapLink nil 1 (plug u fs)
+  unfolding heapLink
+  link-plug nil =
+      lift {R = λ i t u. heapLink nil 1 t ≡ heapLink nil 1 u}
+      (record { left = λ i c o t u some e. refl; right = λ i c o t u some e. refl })
 
   pub numbers-plug : (fs : List (Frame T)) (t u : Tree (Cell T)) → Perm (numbersIn (bare t)) (numbersIn (bare u))
       → Perm (numbersIn (bare (plug t fs))) (numbersIn (bare (plug u fs)))
-  numbers-plug fs t u p =
-      trans (list-plug numbers-list fs t)
-      (trans (perm-append-right (numbersIn (bare (plug leaf fs))) p) (perm-sym (list-plug numbers-list fs u)))
+  unfolding bare numbersIn
+  numbers-plug =
+      lift {R = λ i t u. Perm (numbersIn (bare t)) (numbersIn (bare u))}
+      (record {
+        left = λ i c o t u some p. cons (c .value) (perm-append-right (numbersIn (bare o)) p);
+        right = λ i c o t u some p. cons (c .value) (perm-append-left (numbersIn (bare o)) p);
+      })
+
+  -- A node in an empty place adds its number and its position to those of the whole.
+  pub numbers-one : (fs : List (Frame T)) (c : Cell T)
+      → Perm (numbersIn (bare (plug (node leaf c leaf) fs))) (c .value ∷ numbersIn (bare (plug leaf fs)))
+  unfolding bare numbersIn
+  numbers-one fs c =
+      lift {R = λ i t u. Perm (numbersIn (bare t)) (c .value ∷ numbersIn (bare u))}
+      (record {
+        left = λ i d o t u some. front-left (c .value) (d .value) (numbersIn (bare o));
+        right = λ i d o t u some. front-right (c .value) (d .value) (numbersIn (bare o));
+      }) fs (node leaf c leaf) leaf (perm-refl (c .value ∷ []))
+
+  pub positions-one : (fs : List (Frame T)) (c : Cell T)
+      → Perm (positionsIn 1 (bare (plug (node leaf c leaf) fs))) (position fs ∷ positionsIn 1 (bare (plug leaf fs)))
+  unfolding bare positionsIn
+  positions-one fs c =
+      lift {R = λ i t u. Perm (positionsIn i (bare t)) (position fs ∷ positionsIn i (bare u))}
+      (record {
+        left = λ i d o t u some. front-left (position fs) i (positionsIn (suc (2 * i)) (bare o));
+        right = λ i d o t u some. front-right (position fs) i (positionsIn (2 * i) (bare o));
+      }) fs (node leaf c leaf) leaf (perm-refl (position fs ∷ []))
+
+  -- ---- complete trees
+
+  -- The parts of a complete tree beneath a node that was passed; and the part at a place.
+  pub complete-sides : (s : Bool) (n i : ℕ) (f : Frame T) (t : Tree (Cell T)) → Complete n i (bare (joinedOn s f t))
+      → Complete n (childPosition s i) (bare t) × Complete n (childPosition (not s) i) (bare (f .other))
+  unfolding bare
+  complete-sides true n i f t h = h .1
+  complete-sides false n i f t h = (h .1 .1, h .1 .0)
+
+  pub complete-part : (n : ℕ) (fs : List (Frame T)) (t : Tree (Cell T)) → Complete n 1 (bare (plug t fs)) → Complete n (position fs) (bare t)
+  unfolding plug position
+  complete-part n [] t h = h
+  complete-part n (f ∷ fs) t h = complete-sides (f .way) n (position fs) f t (complete-part n fs (joined f t) h) .0
+
+  -- Where the empty place has the next position, the whole with a node there is complete up to it exactly where the whole was before.
+  pub complete-one : (n : ℕ) (fs : List (Frame T)) (c : Cell T) → position fs ≡ suc n
+      → Grows n 1 (bare (plug leaf fs)) (bare (plug (node leaf c leaf) fs))
+  unfolding along bare
+  complete-one n fs c at =
+      lift {R = λ i t u. ((ss : List Bool) × (along i ss ≡ suc n)) × Grows n i (bare t) (bare u)}
+      (record {
+        left = λ i d o t u some r.
+            ((true ∷ (r .0 .0), r .0 .1), grows-node (d .value) (before true some (r .0)) (r .1) (beside true o some (r .0)));
+        right = λ i d o t u some r.
+            ((false ∷ (r .0 .0), r .0 .1), grows-node (d .value) (before false some (r .0)) (beside false o some (r .0)) (r .1));
+      }) fs leaf (node leaf c leaf) (([], at), record { more = λ h. omega arith; fewer = λ h. omega arith }) .1
+    where
+      -- Where the way goes on from position i to the next position, i is not it, and the other side is not over it.
+      before : {i : ℕ} (s : Bool) → 1 ≤ i → (ss : List Bool) × (along (childPosition s i) ss ≡ suc n) → i ≡ suc n → ⊥
+      before {i} s some way z = omega (arith, along-turn i s (way .0) some)
+
+      beside : {i : ℕ} (s : Bool) (o : Tree (Cell T)) → 1 ≤ i → (ss : List Bool) × (along (childPosition s i) ss ≡ suc n)
+          → Grows n (childPosition (not s) i) (bare o) (bare o)
+      beside {i} s o some way =
+          grows-beside n (childPosition (not s) i) (bare o) (λ us e. ways-part s i some (way .0) us (way .1 ∙ sym e))
 
 module _ {T : Type 0} (nil : T) where
   -- ---- nodes
@@ -237,8 +235,17 @@ module _ {T : Type 0} (nil : T) where
   pub sides-below : (s : Bool) (i : ℕ) (u o : Tree (Cell T)) (rest : List (Node T))
       → Perm (sideNodes i (pick s u o) (pick s o u) ++ rest)
       (heapNodes nil (childPosition s i) u ++ (heapNodes nil (childPosition (not s) i) o ++ rest))
-  sides-below true i u o rest = perm-append-assoc (heapNodes nil (childPosition true i) u) (heapNodes nil (childPosition false i) o) rest
-  sides-below false i u o rest =
-      let a = heapNodes nil (childPosition true i) o in
-      let b = heapNodes nil (childPosition false i) u in
-      trans (perm-append-assoc a b rest) (perm-append-swap a b rest)
+  sides-below s i u o rest =
+      let nodes : Bool → Tree (Cell T) → List (Node T) = λ s. heapNodes nil (childPosition s i) in
+      trans (perm-append-right rest (perm-sym (both-sides s u o nodes))) (perm-append-assoc (nodes s u) (nodes (not s) o) rest)
+
+  -- The node that was passed, with its new link on the way, is the node over u.
+  pub pass-node : {i : ℕ} {f : Frame T} {p : Pass T} (l : Link T) (u : Tree (Cell T)) → PassOf nil i f p
+      → l ≡ heapLink nil (childPosition (f .way) i) u
+      → withChild (f .way) (p .node) l ≡ heapNode nil i (pick (f .way) u (f .other)) (f .cell) (pick (f .way) (f .other) u)
+  pass-node {i} {f} {p} l u pass link = go (f .way) (pass .other) link
+    where
+      go : (s : Bool) → child (not s) (p .node) ≡ heapLink nil (childPosition (not s) i) (f .other) → l ≡ heapLink nil (childPosition s i) u
+          → withChild s (p .node) l ≡ heapNode nil i (pick s u (f .other)) (f .cell) (pick s (f .other) u)
+      go true other link = cc (pass .key, pass .value, pass .tag)
+      go false other link = cc (pass .key, pass .value, pass .tag)

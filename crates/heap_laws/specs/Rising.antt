@@ -1,5 +1,4 @@
--- A number rises from its place: the nodes made are those of a tree in order, with the same numbers, in which every tag stands where it
--- stood.
+-- A number rises from its place: the nodes made are those of a tree in order, with the same shape, root link and numbers.
 use mathlib.Core.Path.{_≡_, refl, _∙_, ap}
 use mathlib.Core.Bool.{Bool, true, false, not}
 use mathlib.Core.List.{List, [], _∷_, _++_, append-nil}
@@ -12,12 +11,12 @@ use Rattle.list_spec.specs.Perm.{Perm, cons, swap, trans}
 use Rattle.list_laws.specs.PermLaws.{perm-refl, perm-sym, perm-of-eq, perm-append-left, perm-front}
 use Rattle.list_laws.specs.Shuffle.{part, _&_, shuffle}
 use Rattle.balance_spec.specs.Tree.{Tree, node}
-use Rattle.method_spec.specs.Node.{Node, child, withChild, withValue, linkOne}
+use Rattle.method_spec.specs.Node.{Node, Link, withChild, withValue, linkOne}
 use Rattle.method_spec.specs.Heap.{childPosition, Pass, over, settled, rise, topmost}
 use Rattle.run_laws.specs.Fetches.{tags}
 use Rattle.run_laws.specs.StackRepresents.{Cell}
 use Rattle.heap_laws.specs.HeapTree.{AtLeast, Ordered, numbersIn, Frame, bare, joined, plug, position, frameTags, heapLink, heapNode, heapNodes, aside, PassOf, Passes, none-passed, one-passed}
-use Rattle.heap_laws.specs.Plugs.{either, sideNodes, sides-below, joinedOn, joined-sides, outline, outline-plug, numbers-plug}
+use Rattle.heap_laws.specs.Plugs.{shape, either, joinedOn, joined-sides, shape-plug, link-plug, numbers-plug, sideNodes, sides-below, pass-node}
 use Rattle.heap_laws.specs.Order.{least-less, Above, Steady, Fits, Spread, spread-fits, ordered-join}
 
 module _ {T : Type 0} (nil : T) where
@@ -27,13 +26,7 @@ module _ {T : Type 0} (nil : T) where
   over-node : {i : ℕ} {f : Frame T} {p : Pass T} (n : Node T) (u : Tree (Cell T)) → PassOf nil i f p
       → linkOne n ≡ heapLink nil (childPosition (f .way) i) u
       → over p n ≡ heapNode nil i (pick (f .way) u (f .other)) (f .cell) (pick (f .way) (f .other) u)
-  over-node {i} {f} {p} n u pass link = rw (pass .way) (go (f .way) (pass .other) link)
-    where
-      go : (s : Bool) → child (not s) (p .node) ≡ heapLink nil (childPosition (not s) i) (f .other)
-          → linkOne n ≡ heapLink nil (childPosition s i) u
-          → withChild s (p .node) (linkOne n) ≡ heapNode nil i (pick s u (f .other)) (f .cell) (pick s (f .other) u)
-      go true other link = cc (pass .key, pass .value, pass .tag)
-      go false other link = cc (pass .key, pass .value, pass .tag)
+  over-node n u pass link = rw (pass .way) (pass-node nil (linkOne n) u pass link)
 
   -- The top node of a tree on the way joins those that stand beneath the node that was passed.
   one-below : (s : Bool) (i : ℕ) (l : Tree (Cell T)) (c : Cell T) (r o : Tree (Cell T)) (out rest : List (Node T))
@@ -59,7 +52,7 @@ module _ {T : Type 0} (nil : T) where
       let u = node l c r in
       let a = pick (f .way) u (f .other) in
       let b = pick (f .way) (f .other) u in
-      rw (over-node (heapNode nil (childPosition (f .way) i) l c r) u pass refl, joined-sides f u)
+      rw (over-node (heapNode nil (childPosition (f .way) i) l c r) u pass refl, joined-sides (f .way) f u)
       (trans (one-below (f .way) i l c r (f .other) (settled (heapNode nil i a (f .cell) b) ps) (aside nil fs))
       (settled-stored passes a (f .cell) b))
 
@@ -69,7 +62,8 @@ module _ {T : Type 0} (nil : T) where
   pub record Risen (fs : List (Frame T)) (u : Tree (Cell T)) (out : List (Node T)) : Type 0 where
     pub tree : Tree (Cell T)
     pub ordered : Ordered (bare tree)
-    pub alike : outline tree ≡ outline (plug u fs)
+    pub alike : shape (bare tree) ≡ shape (bare (plug u fs))
+    pub linked : heapLink nil 1 tree ≡ heapLink nil 1 (plug u fs)
     pub numbers : Perm (numbersIn (bare tree)) (numbersIn (bare (plug u fs)))
     pub stored : Perm out (heapNodes nil 1 tree)
 
@@ -81,6 +75,7 @@ module _ {T : Type 0} (nil : T) where
         tree = plug u fs;
         ordered = ordered-join fs u steady fits;
         alike = refl;
+        linked = refl;
         numbers = perm-refl (numbersIn (bare (plug u fs)));
         stored = stored;
       }
@@ -97,44 +92,33 @@ module _ {T : Type 0} (nil : T) where
       let u = node l (lowered f c) r in
       node (pick s u (f .other)) (raised f c) (pick s (f .other) u)
 
-  changed-outline : (f : Frame T) (l : Tree (Cell T)) (c : Cell T) (r : Tree (Cell T))
-      → outline (changed (f .way) f l c r) ≡ outline (joined f (node l c r))
-  unfolding outline
-  changed-outline f l c r = go (f .way)
-    where
-      go : (s : Bool) → outline (changed s f l c r) ≡ outline (joinedOn s f (node l c r))
-      go true = refl
-      go false = refl
+  changed-shape : (s : Bool) (f : Frame T) (l : Tree (Cell T)) (c : Cell T) (r : Tree (Cell T))
+      → shape (bare (changed s f l c r)) ≡ shape (bare (joinedOn s f (node l c r)))
+  unfolding bare shape
+  changed-shape true f l c r = refl
+  changed-shape false f l c r = refl
 
-  changed-numbers : (f : Frame T) (l : Tree (Cell T)) (c : Cell T) (r : Tree (Cell T))
-      → Perm (numbersIn (bare (changed (f .way) f l c r))) (numbersIn (bare (joined f (node l c r))))
+  changed-numbers : (s : Bool) (f : Frame T) (l : Tree (Cell T)) (c : Cell T) (r : Tree (Cell T))
+      → Perm (numbersIn (bare (changed s f l c r))) (numbersIn (bare (joinedOn s f (node l c r))))
   unfolding numbersIn bare
-  changed-numbers f l c r = go (f .way)
-    where
-      sides : List ℕ
-      sides = numbersIn (bare l) ++ numbersIn (bare r)
-
-      other : List ℕ
-      other = numbersIn (bare (f .other))
-
-      go : (s : Bool) → Perm (numbersIn (bare (changed s f l c r))) (numbersIn (bare (joinedOn s f (node l c r))))
-      go true = swap (c .value) (f .cell .value) (sides ++ other)
-      go false =
-          shuffle ((c .value ∷ []) ∷ (f .cell .value ∷ []) ∷ sides ∷ other ∷ [])
-          (part 0 & (part 3 & (part 1 & part 2))) (part 1 & (part 3 & (part 0 & part 2))) refl
+  changed-numbers true f l c r = swap (c .value) (f .cell .value) _
+  changed-numbers false f l c r =
+      shuffle ((c .value ∷ []) ∷ (f .cell .value ∷ []) ∷ (numbersIn (bare l) ++ numbersIn (bare r)) ∷ numbersIn (bare (f .other)) ∷ [])
+      (part 0 & (part 3 & (part 1 & part 2))) (part 1 & (part 3 & (part 0 & part 2))) refl
 
   -- The number has changed places, and rises on from there.
   rises : {f : Frame T} {fs : List (Frame T)} {l : Tree (Cell T)} {c : Cell T} {r : Tree (Cell T)} {out more : List (Node T)}
       → Perm more out → Risen fs (changed (f .way) f l c r) out → Risen (f ∷ fs) (node l c r) more
-  unfolding plug
+  unfolding plug heapLink
   rises {f} {fs} {l} {c} {r} same h =
       let u = changed (f .way) f l c r in
       let t = joined f (node l c r) in
       record {
         tree = h .tree;
         ordered = h .ordered;
-        alike = h .alike ∙ outline-plug fs u t (changed-outline f l c r);
-        numbers = trans (h .numbers) (numbers-plug fs u t (changed-numbers f l c r));
+        alike = h .alike ∙ shape-plug fs u t (changed-shape (f .way) f l c r);
+        linked = h .linked ∙ link-plug nil fs u t (rw (joined-sides (f .way) f (node l c r)));
+        numbers = trans (h .numbers) (numbers-plug fs u t (changed-numbers (f .way) f l c r));
         stored = trans same (h .stored);
       }
 
@@ -221,21 +205,18 @@ module _ {T : Type 0} (nil : T) where
   unfolding topmost plug position heapLink
   topmost-link none-passed n u link = link
   topmost-link (one-passed {f} {p} {fs} {ps} pass passes) n u link =
-      topmost-link passes (p .node) (joined f u) (rw (pass .key, pass .tag, joined-sides f u) refl)
+      topmost-link passes (p .node) (joined f u) (rw (pass .key, pass .tag, joined-sides (f .way) f u) refl)
 
-  over-tag : (p : Pass T) (n : Node T) → over p n .tag ≡ p .node .tag
-  over-tag p n = go (p .way)
-    where
-      go : (s : Bool) → withChild s (p .node) (linkOne n) .tag ≡ p .node .tag
-      go true = refl
-      go false = refl
+  over-tag : (s : Bool) (m : Node T) (l : Link T) → withChild s m l .tag ≡ m .tag
+  over-tag true m l = refl
+  over-tag false m l = refl
 
   settled-tags : {fs : List (Frame T)} {path : List (Pass T)} → Passes nil fs path → (n : Node T)
       → tags (settled n path) ≡ n .tag ∷ frameTags fs
   unfolding settled
   settled-tags none-passed n = refl
   settled-tags (one-passed {f} {p} {fs} {ps} pass passes) n =
-      ap (λ (ts : List T). n .tag ∷ ts) (settled-tags passes (over p n) ∙ rw (over-tag p n, pass .tag))
+      ap (λ (ts : List T). n .tag ∷ ts) (settled-tags passes (over p n) ∙ rw (over-tag (p .way) (p .node) (linkOne n), pass .tag))
 
   -- The nodes made have the tags of the nodes passed and of the one that they started from.
   pub rise-tags : {fs : List (Frame T)} {path : List (Pass T)} → Passes nil fs path → (n : Node T)
@@ -248,5 +229,5 @@ module _ {T : Type 0} (nil : T) where
       go : (test : Bool) → tags (rise (withValue (n .value) (over p n)) ps) ≡ over p n .tag ∷ frameTags fs
           → tags (pick test (withValue (p .node .value) n ∷ rise (withValue (n .value) (over p n)) ps) (n ∷ settled (over p n) ps))
           ≡ n .tag ∷ frameTags (f ∷ fs)
-      go true higher = ap (λ (ts : List T). n .tag ∷ ts) (higher ∙ rw (over-tag p n, pass .tag))
+      go true higher = ap (λ (ts : List T). n .tag ∷ ts) (higher ∙ rw (over-tag (p .way) (p .node) (linkOne n), pass .tag))
       go false higher = settled-tags (one-passed pass passes) n

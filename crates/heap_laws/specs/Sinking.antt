@@ -8,7 +8,7 @@ use lib.Dec.{ltb, leb}
 use borrow.Author.Tests.{ltb-true, ltb-false, leb-true, leb-false}
 use Rattle.list_spec.specs.Choice.{pick}
 use Rattle.list_spec.specs.Perm.{Perm, cons, trans}
-use Rattle.list_laws.specs.PermLaws.{perm-refl, perm-sym, perm-of-eq, perm-append, perm-append-left, perm-append-right, perm-append-comm, perm-append-swap, perm-append-assoc}
+use Rattle.list_laws.specs.PermLaws.{perm-refl, perm-sym, perm-of-eq, perm-append, perm-append-left, perm-append-right, perm-append-swap, perm-append-assoc}
 use Rattle.list_laws.specs.Shuffle.{part, _&_, shuffle}
 use Rattle.balance_spec.specs.Tree.{Tree, leaf, node, height}
 use Rattle.method_spec.specs.Node.{Node, absent, child, withChild, withValue, linkOne}
@@ -19,7 +19,7 @@ use Rattle.run_laws.specs.SafeLaws.{safe-then, safe-pick}
 use Rattle.run_laws.specs.Fetches.{tags}
 use Rattle.run_laws.specs.StackRepresents.{Cell}
 use Rattle.heap_laws.specs.HeapTree.{AtLeast, Ordered, numbersIn, bare, heapLink, heapNode, heapNodes, node-passes}
-use Rattle.heap_laws.specs.Plugged.{shape}
+use Rattle.heap_laws.specs.Plugs.{shape, both-sides}
 use Rattle.heap_laws.specs.Spine.{Spine, bottom, unseen, seen, Topped, no-top, with-top, topped-spine, stored-spine, hidden, hidden-all, passed-sides, spine-nodes}
 
 module _ {T : Type 0} (nil : T) where
@@ -155,12 +155,6 @@ module _ {T : Type 0} (nil : T) where
             (part 1 & (part 0 & (part 2 & part 3))) (part 2 & ((part 0 & part 1) & part 3)) refl));
       }
 
-  -- Two trees on the side s and on the other, from left to right.
-  either-side : {A : Type 0} (s : Bool) (x y : Tree (Cell T)) (g : Bool → Tree (Cell T) → List A)
-      → Perm (g s x ++ g (not s) y) (g true (pick s x y) ++ g false (pick s y x))
-  either-side true x y g = perm-refl (g true x ++ g false y)
-  either-side false x y g = perm-append-comm (g false x) (g true y)
-
   -- The tree x′ in the place of x beside y, on the side s: the node over them, their shapes and their order.
   node-again : (s : Bool) (i w : ℕ) (c : Cell T) (m : Node T) (x x′ y : Tree (Cell T))
       → m ≡ heapNode nil i (pick s x y) c (pick s y x)
@@ -211,12 +205,12 @@ module _ {T : Type 0} (nil : T) where
         ordered = ordered-sides s w x′ y (h .low w (omega arith) (ox .0) (ox .1 .0)) ly (h .ordered) oy;
         low = λ b _ hl hr. low-side s b x y hl hr;
         numbers =
-            trans (cons w (perm-sym (either-side s x′ y (λ _ t. numbersIn (bare t)))))
+            trans (cons w (perm-sym (both-sides s x′ y (λ _ t. numbersIn (bare t)))))
             (trans (cons w (perm-append-right (numbersIn (bare y)) (h .numbers)))
             (trans
             (shuffle ((w ∷ []) ∷ (v ∷ []) ∷ numbersIn (bare xl) ∷ numbersIn (bare xr) ∷ numbersIn (bare y) ∷ [])
             (part 0 & ((part 1 & (part 2 & part 3)) & part 4)) (part 1 & ((part 0 & (part 2 & part 3)) & part 4)) refl)
-            (cons v (either-side s x y (λ _ t. numbersIn (bare t))))));
+            (cons v (both-sides s x y (λ _ t. numbersIn (bare t))))));
         stored =
             trans (perm-of-eq (ap (λ (q : Node T). q ∷ ((passed others ++ out) ++ ns)) same))
             (cons top
@@ -228,7 +222,7 @@ module _ {T : Type 0} (nil : T) where
             ((part 1 & (part 0 & part 2)) & part 3) refl)
             (perm-append-right rest
             (trans (perm-append-left nx (spine-nodes nil (topped-spine nil ty)))
-            (either-side s x′ y (λ side t. heapNodes nil (childPosition side i) t))))))));
+            (both-sides s x′ y (λ side t. heapNodes nil (childPosition side i) t))))))));
         tagged =
             rw (tag, map-append (λ (q : Node T). q .tag) (passed others) out)
             (trans (h .tagged)

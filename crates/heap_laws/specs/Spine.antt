@@ -5,15 +5,15 @@ use mathlib.Core.List.{List, [], _∷_, _++_, append-nil}
 use Prim.Native.Nat.{ℕ, suc, _*_}
 use Rattle.list_spec.specs.Choice.{pick}
 use Rattle.list_spec.specs.Perm.{Perm, cons, trans}
-use Rattle.list_laws.specs.PermLaws.{perm-refl, perm-sym, perm-of-eq, perm-front, perm-append, perm-append-left, perm-append-right, perm-append-comm}
+use Rattle.list_laws.specs.PermLaws.{perm-refl, perm-sym, perm-of-eq, perm-front, perm-append, perm-append-right, perm-append-comm, perm-append-assoc}
 use Rattle.list_laws.specs.Shuffle.{part, _&_, shuffle}
 use Rattle.balance_spec.specs.Tree.{Tree, leaf, node}
-use Rattle.method_spec.specs.Node.{Node, Link, child, withChild, linkOne}
+use Rattle.method_spec.specs.Node.{Node, Link, withChild, linkOne}
 use Rattle.method_spec.specs.Heap.{childPosition, Pass, downward, passed}
 use Rattle.run_laws.specs.Fetches.{tags}
 use Rattle.run_laws.specs.StackRepresents.{Cell}
-use Rattle.heap_laws.specs.HeapTree.{Complete, Frame, bare, joined, plug, position, frameTags, heapLink, heapNode, heapNodes, aside, PassOf, Passes, none-passed, one-passed}
-use Rattle.heap_laws.specs.Plugged.{Sides}
+use Rattle.heap_laws.specs.HeapTree.{Complete, Frame, bare, joined, plug, position, frameTags, heapLink, heapNode, heapNodes, aside, Passes, none-passed, one-passed}
+use Rattle.heap_laws.specs.Plugs.{joinedOn, joined-sides, complete-part, complete-sides, pass-node}
 
 module _ {T : Type 0} (nil : T) where
   -- Of a tree at position i the nodes of the list are at hand, from the top downward. What is not at hand is as it was stored, with the
@@ -76,56 +76,21 @@ module _ {T : Type 0} (nil : T) where
 
   -- ---- the nodes of a way, as a take has them at hand
 
-  -- A passed node with its new link l on the way; over a tree t there, if that is the link to it.
-  module _ (i : ℕ) (l : Link T) (f : Frame T) (p : Pass T) (h : PassOf nil i f p) where
-    abbrev passing : Pass T
-    passing = record { node = withChild (f .way) (p .node) l; way = f .way }
+  -- The node m over the tree t on the side s is at hand, and so is what was at hand of t; the other side is not.
+  topped-joined : (s : Bool) {n i : ℕ} (f : Frame T) {t : Tree (Cell T)} {m : Node T} {below : List (Pass T)}
+      → m ≡ heapNode nil i (pick s t (f .other)) (f .cell) (pick s (f .other) t)
+      → Spine n (childPosition s i) t below → Complete n (childPosition (not s) i) (bare (f .other))
+      → Topped n i (joinedOn s f t) (record { node = m; way = s } ∷ below)
+  topped-joined true f e spine side = with-top e spine (stored-spine (f .other) side)
+  topped-joined false f e spine side = with-top e (stored-spine (f .other) side) spine
 
-    topped-joined : {n : ℕ} (t : Tree (Cell T)) {below : List (Pass T)} → l ≡ heapLink nil (childPosition (f .way) i) t
-        → Spine n (childPosition (f .way) i) t below
-        → Complete n (childPosition (not (f .way)) i) (bare (f .other)) → Topped n i (joined f t) (passing ∷ below)
-    topped-joined {n} t {below} link spine side = go (f .way) (h .other) link spine side
-      where
-        go : (s : Bool) → child (not s) (p .node) ≡ heapLink nil (childPosition (not s) i) (f .other)
-            → l ≡ heapLink nil (childPosition s i) t → Spine n (childPosition s i) t below
-            → Complete n (childPosition (not s) i) (bare (f .other))
-            → Topped n i (pick s (node t (f .cell) (f .other)) (node (f .other) (f .cell) t))
-            (record { node = withChild s (p .node) l; way = s } ∷ below)
-        go true other link spine side =
-            let e : withChild true (p .node) l ≡ heapNode nil i t (f .cell) (f .other) = cc in
-            with-top e spine (stored-spine (f .other) side)
-        go false other link spine side =
-            let e : withChild false (p .node) l ≡ heapNode nil i (f .other) (f .cell) t = cc in
-            with-top e (stored-spine (f .other) side) spine
-
-    link-joined : (t : Tree (Cell T)) → linkOne (passing .node) ≡ heapLink nil i (joined f t)
-    unfolding heapLink
-    link-joined t = go (f .way)
-      where
-        go : (s : Bool) → linkOne (withChild s (p .node) l) ≡ heapLink nil i (pick s (node t (f .cell) (f .other)) (node (f .other) (f .cell) t))
-        go true = cc
-        go false = cc
-
-    tag-joined : passing .node .tag ≡ f .cell .tag
-    tag-joined = go (f .way)
-      where
-        go : (s : Bool) → withChild s (p .node) l .tag ≡ f .cell .tag
-        go true = h .tag
-        go false = h .tag
-
-    hidden-joined : (t : Tree (Cell T)) (below : List (Pass T)) → Perm (hidden i (joined f t) (passing ∷ below))
-        (hidden (childPosition (f .way) i) t below ++ heapNodes nil (childPosition (not (f .way)) i) (f .other))
-    unfolding hidden
-    hidden-joined t below = go (f .way)
-      where
-        go : (s : Bool)
-            → Perm
-            (hidden i (pick s (node t (f .cell) (f .other)) (node (f .other) (f .cell) t)) (record { node = withChild s (p .node) l; way = s } ∷ below))
-            (hidden (childPosition s i) t below ++ heapNodes nil (childPosition (not s) i) (f .other))
-        go true = perm-append-left (hidden (2 * i) t below) (perm-of-eq (hidden-all (suc (2 * i)) (f .other)))
-        go false =
-            trans (perm-append-right (hidden (suc (2 * i)) t below) (perm-of-eq (hidden-all (2 * i) (f .other))))
-            (perm-append-comm (heapNodes nil (2 * i) (f .other)) (hidden (suc (2 * i)) t below))
+  hidden-joined : (s : Bool) (i : ℕ) (f : Frame T) (t : Tree (Cell T)) (m : Node T) (below : List (Pass T))
+      → Perm (hidden i (joinedOn s f t) (record { node = m; way = s } ∷ below))
+      (hidden (childPosition s i) t below ++ heapNodes nil (childPosition (not s) i) (f .other))
+  unfolding hidden
+  hidden-joined true i f t m below = perm-of-eq (rw (hidden-all (suc (2 * i)) (f .other)))
+  hidden-joined false i f t m below =
+      rw (hidden-all (2 * i) (f .other)) (perm-append-comm (heapNodes nil (2 * i) (f .other)) (hidden (suc (2 * i)) t below))
 
   -- The list is at hand of the whole tree, where `below` is at hand of the tree t at the place.
   pub record Downward (n : ℕ) (fs : List (Frame T)) (t : Tree (Cell T)) (below ps : List (Pass T)) : Type 0 where
@@ -133,34 +98,34 @@ module _ {T : Type 0} (nil : T) where
     pub rest : Perm (hidden 1 (plug t fs) ps) (hidden (position fs) t below ++ aside nil fs)
     pub tagged : Perm (tags (passed ps)) (tags (passed below) ++ frameTags fs)
 
-  -- So it is of the nodes of a way, each with its link to the next.
-  pub downward-hand : (n : ℕ) {fs : List (Frame T)} {path : List (Pass T)} → Passes nil fs path → Sides n fs
-      → (t : Tree (Cell T)) (below : List (Pass T)) → Topped n (position fs) t below
+  -- So it is of the nodes of a way, each with its link to the next, where the tree o stood at the place.
+  pub downward-hand : (n : ℕ) {fs : List (Frame T)} {path : List (Pass T)} → Passes nil fs path
+      → (o : Tree (Cell T)) → Complete n 1 (bare (plug o fs)) → (t : Tree (Cell T)) (below : List (Pass T)) → Topped n (position fs) t below
       → (l : Link T) → l ≡ heapLink nil (position fs) t → Downward n fs t below (downward l path below)
-  unfolding plug position aside downward
-  downward-hand n none-passed sides t below topped l link =
+  unfolding plug position aside downward heapLink
+  downward-hand n none-passed o complete t below topped l link =
       record {
         topped = topped;
         rest = perm-of-eq (sym (append-nil (hidden 1 t below)));
         tagged = perm-of-eq (sym (append-nil (tags (passed below))));
       }
-  downward-hand n (one-passed {f} {p} {fs} {ps} h more) sides t below topped l link =
+  downward-hand n (one-passed {f} {p} {fs} {ps} h more) o complete t below topped l link =
       let i = position fs in
-      let q = passing i l f p h in
+      let m = withChild (f .way) (p .node) l in
+      let e = pass-node nil l t h link in
+      let side = complete-sides (f .way) n i f o (complete-part n fs (joined f o) complete) .1 in
       let over =
-      downward-hand n more (sides .1 .1) (joined f t) (q ∷ below) (topped-joined i l f p h t link (topped-spine topped) (sides .1 .0))
-      (linkOne (q .node)) (link-joined i l f p h t) in
-      let at : ℕ = childPosition (f .way) i in
-      let beside = heapNodes nil (childPosition (not (f .way)) i) (f .other) in
+      downward-hand n more (joined f o) complete (joined f t) (record { node = m; way = f .way } ∷ below)
+      (topped-joined (f .way) f e (topped-spine topped) side) (linkOne m) (rw (joined-sides (f .way) f t) (ap linkOne e)) in
       rw (h .way)
       (record {
         topped = over .topped;
         rest =
             trans (over .rest)
-            (trans (perm-append-right (aside nil fs) (hidden-joined i l f p h t below))
-            (shuffle (hidden at t below ∷ beside ∷ aside nil fs ∷ []) ((part 0 & part 1) & part 2) (part 0 & (part 1 & part 2)) refl));
+            (trans (perm-append-right (aside nil fs) (hidden-joined (f .way) i f t m below))
+            (perm-append-assoc (hidden (childPosition (f .way) i) t below) (heapNodes nil (childPosition (not (f .way)) i) (f .other)) (aside nil fs)));
         tagged =
             trans (over .tagged)
-            (trans (perm-of-eq (ap (λ (x : T). x ∷ (tags (passed below) ++ frameTags fs)) (tag-joined i l f p h)))
+            (trans (perm-of-eq (ap (λ (n : Node T). n .tag ∷ (tags (passed below) ++ frameTags fs)) e))
             (perm-sym (perm-front (tags (passed below)) (f .cell .tag) (frameTags fs))));
       })

@@ -1,23 +1,20 @@
 -- A take of the heap is safe, and does what the plain heap does.
 use mathlib.Core.Path.{_≡_, refl, sym, ap}
 use mathlib.Core.List.{List, [], _∷_, _++_, append-nil}
-use Prim.Native.Nat.{ℕ, zero, suc, _*_, _^_, _≤_, _<_}
-use native.Mathlib.Nat.{le-refl}
+use Prim.Native.Nat.{ℕ, suc, _*_, _^_, _≤_, _<_}
 use native.Mathlib.Omega.{arith}
 use lib.Dec.{eqb}
 use lib.ListN.{length, length-map}
 use borrow.Author.Tests.{eqb-true, eqb-false}
 use Rattle.list_spec.specs.Perm.{Perm, cons, swap, trans}
-use Rattle.list_spec.specs.Distinct.{All}
 use Rattle.list_laws.specs.PermLaws.{perm-refl, perm-sym, perm-of-eq, perm-front, perm-length, perm-singleton, perm-append-comm, perm-cancel}
-use Rattle.list_laws.specs.DistinctLaws.{all-nil, all-cons, all-perm}
 use Rattle.balance_spec.specs.Tree.{Tree, leaf, node, height}
 use Rattle.method_spec.specs.Node.{Node, Link, absent, linkOne}
 use Rattle.method_spec.specs.Prog.{want}
 use Rattle.method_spec.specs.Answer.{take, taken, empty}
 use Rattle.method_spec.specs.Plain.{plain, taken-from}
-use Rattle.method_spec.specs.Map.{Outcome, start}
-use Rattle.method_spec.specs.Heap.{wayTo, Pass, Reached, descend, downward, passed, replaceRoot, takeProg, heapTest}
+use Rattle.method_spec.specs.Map.{Outcome}
+use Rattle.method_spec.specs.Heap.{Pass, Reached, downward, passed, replaceRoot, takeProg, heapTest}
 use Rattle.method_spec.specs.Call.{Memory}
 use Rattle.method_spec.specs.Safe.{Safe, ends, meets}
 use Rattle.run_laws.specs.SafeLaws.{safe-then, safe-pick}
@@ -25,15 +22,11 @@ use Rattle.run_laws.specs.Fetches.{tags}
 use Rattle.run_laws.specs.Answers.{StepsTo}
 use Rattle.run_laws.specs.StackRepresents.{countdown, Cell}
 use Rattle.heap_laws.specs.HeapTree.{Complete, Ordered, numbersIn, positionsIn, Sorted, Frame, bare, plug, position, frameTags, heapLink, heapNode, heapNodes, HoldsHeap, aside, Came, node-passes}
-use Rattle.heap_laws.specs.Plugged.{shape, complete-same, positions-same, complete-height, TopIs, top-first, positionsOver, numbers-plug, positions-plug, Sides, complete-parts, complete-plug, sides-fewer, ordered-without, top-without, position-low}
+use Rattle.heap_laws.specs.Plugs.{shape, complete-same, positions-same, complete-height, position-low, numbers-one, positions-one, complete-part, complete-one}
+use Rattle.heap_laws.specs.Order.{TopIs, top-first, ordered-without, top-without}
+use Rattle.heap_laws.specs.Descend.{descend-safe}
 use Rattle.heap_laws.specs.Spine.{Topped, no-top, with-top, hidden, downward-hand}
 use Rattle.heap_laws.specs.Sinking.{Stock, Sank, sink-safe}
-
-countdown-low : (k : ℕ) → All (λ i. i ≤ k) (countdown k)
-unfolding countdown
-countdown-low zero = all-nil (λ i. i ≤ 0)
-countdown-low (suc k) =
-    all-cons {P = λ i. i ≤ suc k} (le-refl (suc k)) (λ i at. let h = countdown-low k i at in omega arith)
 
 -- ---- without the last position
 
@@ -65,27 +58,17 @@ module _ {T : Type 0} (nil : T) (limit w : ℕ) (ws : List ℕ) (m : Memory T) (
   -- So it is where a way came to the last position.
   shrunk : (fs : List (Frame T)) (z : Cell T) → position fs ≡ suc (length ws)
       → bare (plug (node leaf z leaf) fs) ≡ bare (h .tree) → Shrunk limit w ws (z .value) (bare (plug leaf fs))
-  unfolding bare numbersIn positionsIn countdown
+  unfolding bare countdown
   shrunk fs z at same =
       let k = length ws in
       let last = node leaf z leaf in
       let counted : m .entries ≡ suc k = h .counted in
-      let complete : Complete (suc k) 1 (bare (plug last fs)) = rw same (rw counted at (h .complete)) in
-      let left : Perm (positionsOver fs) (countdown k) =
-      perm-cancel
-      (trans (perm-of-eq (ap (λ (i : ℕ). i ∷ positionsOver fs) (sym at)))
-      (trans (perm-sym (positions-plug fs last))
-      (trans (perm-of-eq (ap (positionsIn 1) same)) (rw counted at (h .positions))))) in
       record {
-        complete =
-            complete-plug k fs leaf (omega arith)
-            (sides-fewer (suc k) k fs (omega arith) (all-perm (perm-sym left) (countdown-low k)) (complete-parts (suc k) fs last complete .1));
+        complete = complete-one k fs z at .fewer (rw same (rw counted at (h .complete)));
         ordered = ordered-without fs last (rw same (h .ordered));
         top = top-without fs last w (rw same (top-first w ws (bare (h .tree)) (h .ordered) (h .numbers) (h .sorted)));
-        numbers =
-            trans (cons (z .value) (numbers-plug fs leaf))
-            (trans (perm-sym (numbers-plug fs last)) (trans (perm-of-eq (ap numbersIn same)) (h .numbers)));
-        positions = trans (positions-plug fs leaf) left;
+        numbers = trans (rw same at (perm-sym (numbers-one fs z))) (h .numbers);
+        positions = perm-cancel (trans (rw (at, same) at (perm-sym (positions-one fs z))) (rw counted at (h .positions)));
         sorted = h .sorted .1;
         fits = omega (arith, h .fits);
       }
@@ -142,11 +125,11 @@ module _ {T : Type 0} (nil : T) (limit w : ℕ) (ws : List ℕ) (tag : T) where
           contents =
               record {
                 tree = s .tree;
-                complete = complete-same (bare (node l c r)) (bare (s .tree)) same 1 (length ws) (h .complete);
+                complete = complete-same 1 (bare (node l c r)) (bare (s .tree)) same (length ws) (h .complete);
                 ordered = s .ordered;
                 numbers = trans (s .numbers) (perm-cancel numbers);
                 sorted = h .sorted;
-                positions = trans (perm-of-eq (sym (positions-same (bare (node l c r)) (bare (s .tree)) same 1))) (h .positions);
+                positions = trans (perm-of-eq (sym (positions-same 1 (bare (node l c r)) (bare (s .tree)) same))) (h .positions);
                 counted = refl;
                 linked = cc (s .linked);
                 stored = trans (s .stored) (perm-of-eq (append-nil (heapNodes nil 1 (s .tree))));
@@ -182,9 +165,9 @@ module _ {T : Type 0} (nil : T) (limit w : ℕ) (ws : List ℕ) (tag : T) where
       (want (r .end) (λ n. replaceRoot nil (suc (length ws)) n (downward (absent nil) (r .path) []))) held ns
   unfolding heapLink heapNodes hidden bare
   last-safe m h r held ns came =
-      let parts = complete-parts (suc k) fs (came .focus) (rw (came .same) (rw counted at (h .complete))) in
-      go (came .focus) (last-single (suc k) (omega arith) (came .focus) (rw (came .at) at (parts .0))) (came .same) (came .ends) (came .there)
-      (parts .1)
+      let complete : Complete (suc k) 1 (bare (plug (came .focus) fs)) = rw (came .same) (rw counted at (h .complete)) in
+      go (came .focus) (last-single (suc k) (omega arith) (came .focus) (rw (came .at) at (complete-part (suc k) fs (came .focus) complete)))
+      (came .same) (came .ends) (came .there) complete
     where
       k : ℕ
       k = length ws
@@ -199,10 +182,10 @@ module _ {T : Type 0} (nil : T) (limit w : ℕ) (ws : List ℕ) (tag : T) where
       ps = downward (absent nil) (r .path) []
 
       go : (focus : Tree (Cell T)) → Single focus → bare (plug focus fs) ≡ bare (h .tree) → r .end .link ≡ heapLink nil (suc k) focus
-          → Perm ns (heapNodes nil (suc k) focus ++ aside nil fs) → Sides (suc k) fs
+          → Perm ns (heapNodes nil (suc k) focus ++ aside nil fs) → Complete (suc k) 1 (bare (plug focus fs))
           → Safe (heapTest (suc k)) Done (want (r .end) (λ n. replaceRoot nil (suc k) n ps)) held ns
-      go focus (single z) same link there sides =
-          let down = downward-hand nil (suc k) (came .passes) sides leaf [] no-top (absent nil) refl in
+      go focus (single z) same link there complete =
+          let down = downward-hand nil (suc k) (came .passes) focus complete leaf [] no-top (absent nil) refl in
           let left = shrunk nil limit w ws m h fs z (came .at) same in
           let at = came .at in
           let few : k < 1 * 2 ^ suc (length fs) = omega (arith, position-low fs) in
@@ -231,17 +214,12 @@ module _ {T : Type 0} (nil : T) where
   none-taken limit m h tag =
       record { contents = h; answers = refl; retagged = record { dropped = tag ∷ []; among = perm-refl (tag ∷ []) } }
 
--- The way down is safe: see its own file.
-module _ {T : Type 0} (nil : T)
-    (descend-safe : (n q : ℕ) (t : Tree (Cell T)) (ns : List (Node T)) → Complete n 1 (bare t) → 1 ≤ q → q ≤ suc n
-    → Perm ns (heapNodes nil 1 t)
-    → Safe (heapTest n) (Came nil q t) (descend (wayTo q) (start (heapLink nil 1 t)) []) [] ns) where
   pub take-safe : (limit : ℕ) (vs : List ℕ) (m : Memory T) → HoldsHeap nil limit vs m → (tag : T)
       → Safe (heapTest (m .entries)) (StepsTo (HoldsHeap nil limit) (plain limit take vs) (tag ∷ [])) (takeProg nil (m .entries) (m .root)) []
       (m .nodes)
   unfolding takeProg
   take-safe limit [] m h tag =
-      safe-pick (eqb (m .entries) 0) (λ _. ends (none-taken nil limit m h tag))
+      safe-pick (eqb (m .entries) 0) (λ _. ends (none-taken limit m h tag))
       (λ t. absurd (eqb-false (m .entries) 0 t (h .counted)))
   take-safe limit (w ∷ ws) m h tag =
       let n = suc (length ws) in
@@ -251,5 +229,5 @@ module _ {T : Type 0} (nil : T)
       (λ _.
       rw (counted, h .linked)
       (safe-then _
-      (descend-safe n n (h .tree) (m .nodes) (rw counted at (h .complete)) (omega arith) (omega arith) (h .stored))
+      (descend-safe nil n n (h .tree) (m .nodes) (rw counted at (h .complete)) (omega arith) (omega arith) (h .stored))
       (last-safe nil limit w ws tag m h)))

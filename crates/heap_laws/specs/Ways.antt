@@ -1,12 +1,10 @@
--- Ways from the root: the turns to a position lead there, every position has one way, and its length is the position's level.
-use mathlib.Core.Path.{_≡_, refl, sym, _∙_, ap, subst}
-use mathlib.Core.Bool.{Bool, true, false}
+-- Ways from the root: the turns to a position lead there, and every position has one way.
+use mathlib.Core.Path.{_≡_, refl, sym, _∙_, ap}
+use mathlib.Core.Bool.{Bool, true, false, not}
 use mathlib.Core.List.{List, [], _∷_, _++_, append-nil, append-assoc, append-cancel-left}
-use Prim.Native.Nat.{ℕ, zero, suc, _*_, _/_, _%_, _^_, _≤_, _<_}
-use native.Mathlib.Numerals.{add-one}
+use Prim.Native.Nat.{ℕ, zero, suc, _*_, _/_, _%_, _≤_, _<_}
 use native.Mathlib.Omega.{arith}
 use lib.Dec.{eqb, leb}
-use lib.ListN.{length, length-append}
 use borrow.Author.Tests.{eqb-true, eqb-false, leb-true, leb-false, le-leb, lt-leb}
 use Rattle.list_spec.specs.Choice.{pick}
 use Rattle.method_spec.specs.Heap.{childPosition, turnsTo, wayTo}
@@ -88,29 +86,24 @@ half-child i = go (eqb (i % 2) 0) refl
     go true e = let even = eqb-true (i % 2) 0 e in omega arith
     go false e = let odd = eqb-false (i % 2) 0 e in omega (arith, odd)
 
--- What is true of the root, and of every child of a position where it is of that position, is true of all positions.
-by-halves : (P : ℕ → Type 0) → P 1 → ((s : Bool) (i : ℕ) → 1 ≤ i → P i → P (childPosition s i)) → (q : ℕ) → 1 ≤ q → P q
-by-halves P first next q some = below q q (omega arith) some
-  where
-    below : (fuel q : ℕ) → q ≤ fuel → 1 ≤ q → P q
-    below zero q few some = let z : ⊥ = omega arith in absurd z
-    below (suc fuel) q few some = go (leb q 1) refl (below fuel (q / 2))
-      where
-        go : (b : Bool) → leb q 1 ≡ b → (q / 2 ≤ fuel → 1 ≤ q / 2 → P (q / 2)) → P q
-        go true e half =
-            let one = leb-true q 1 e in
-            let same : 1 ≡ q = omega arith in
-            subst P same first
-        go false e half =
-            let more = leb-false q 1 e in
-            subst P (half-child q) (next (eqb (q % 2) 0) (q / 2) (omega arith) (half (omega arith) (omega arith)))
-
 -- The way to a position leads there.
 pub along-way : (q : ℕ) → 1 ≤ q → along 1 (wayTo q) ≡ q
 unfolding along turnsTo
-along-way =
-    by-halves (λ q. along 1 (wayTo q) ≡ q) refl
-    (λ s i some ih. rw (way-child s i some, along-append 1 (wayTo i) (s ∷ []), ih))
+along-way q some = below q q (omega arith) some
+  where
+    below : (fuel q : ℕ) → q ≤ fuel → 1 ≤ q → along 1 (wayTo q) ≡ q
+    below zero q few some = let z : ⊥ = omega arith in absurd z
+    below (suc fuel) q few some = go (leb q 1) refl (below fuel (q / 2))
+      where
+        go : (b : Bool) → leb q 1 ≡ b → (q / 2 ≤ fuel → 1 ≤ q / 2 → along 1 (wayTo (q / 2)) ≡ q / 2) → along 1 (wayTo q) ≡ q
+        go true e half =
+            let one = leb-true q 1 e in
+            let same : q ≡ 1 = omega arith in
+            rw same
+        go false e half =
+            let more = leb-false q 1 e in
+            let turn = eqb (q % 2) 0 in
+            rw (way-last q (omega arith), along-append 1 (wayTo (q / 2)) (turn ∷ []), half (omega arith) (omega arith)) (half-child q)
 
 -- A way goes on from where it led.
 pub way-along : (i : ℕ) (ss : List Bool) → 1 ≤ i → wayTo (along i ss) ≡ wayTo i ++ ss
@@ -125,24 +118,14 @@ pub along-once : (i : ℕ) (ss us : List Bool) → 1 ≤ i → along i ss ≡ al
 along-once i ss us some e =
     append-cancel-left (wayTo i) ss us (sym (way-along i ss some) ∙ ap wayTo e ∙ way-along i us some)
 
--- ---- the length of a way
-
--- A position with a way of n turns is at least 2^n and below 2^(n + 1).
-abbrev AtLevel : ℕ → ℕ → Type 0
-AtLevel n q = (2 ^ n ≤ q) × (q < 2 ^ suc n)
-
-way-level : (q : ℕ) → 1 ≤ q → AtLevel (length (wayTo q)) q
-unfolding turnsTo
-way-level =
-    by-halves (λ q. AtLevel (length (wayTo q)) q) (omega arith)
-    (λ s i some ih. rw (way-child s i some, length-append, add-one) (go s i (length (wayTo i)) ih))
-  where
-    go : (s : Bool) (i n : ℕ) → AtLevel n i → AtLevel (suc n) (childPosition s i)
-    go true i n h = omega arith
-    go false i n h = omega arith
-
-pub way-lower : (q : ℕ) → 1 ≤ q → 2 ^ length (wayTo q) ≤ q
-way-lower q some = way-level q some .0
-
-pub way-upper : (q : ℕ) → 1 ≤ q → q < 2 ^ suc (length (wayTo q))
-way-upper q some = way-level q some .1
+-- Ways that part at a position do not meet.
+pub ways-part : (s : Bool) (i : ℕ) → 1 ≤ i → (ss us : List Bool) → along (childPosition s i) ss ≡ along (childPosition (not s) i) us → ⊥
+unfolding along
+ways-part true i some ss us e =
+    let same = along-once i (true ∷ ss) (false ∷ us) some e in
+    let z : _≡_ {A = ℕ} 0 1 = cc in
+    omega arith
+ways-part false i some ss us e =
+    let same = along-once i (false ∷ ss) (true ∷ us) some e in
+    let z : _≡_ {A = ℕ} 0 1 = cc in
+    omega arith

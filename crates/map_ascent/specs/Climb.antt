@@ -1,7 +1,7 @@
 -- The way up, as the code goes it.
 use Prim.Native.Nat.{ℕ, suc, _+_, _*_, _-_, _≤_}
 use mathlib.Core.Path.{_≡_}
-use mathlib.Core.List.{List, _++_}
+use mathlib.Core.List.{List}
 use lib.ListN.{length, drop}
 use Rattle.method_spec.specs.Node.{Node}
 use Rattle.method_spec.specs.Map.{Step, Built, start}
@@ -18,12 +18,6 @@ use Rattle.map_changes.specs.declared.Bottom.{Bottom}
 use Rattle.map_descent.specs.PathTo.{pathTo}
 use Rattle.map_changes.specs.Bottom.{wayUp}
 use Rattle.map_ascent.specs.declared.Climbed.{Climbed}
-
--- More nodes after the first `count` of a row.
-pub record Lists (ws : List ℕ) (count : ℕ) (more : List (Node ℕ)) (ws′ : List ℕ) (count′ : ℕ) : Type 0 where
-  pub first : nodesOf (heldIn ws′ count′) ≡ nodesOf (heldIn ws count) ++ more
-  pub long : length ws′ ≡ words
-  pub counted : count′ ≡ count + length more
 
 -- A climb's subtree at hand, and the nodes that are done with, in the first places of a row.
 abbrev pub climbedIn : List ℕ → Climbed → Built ℕ

@@ -13,7 +13,6 @@ use Rattle.method_spec.specs.Map.{Step, Sub, listed, start, climb, unwind, rais
 use Rattle.slot_spec.specs.declared.Node as node
 use Rattle.slot_spec.specs.declared.Link as link
 use Rattle.slot_spec.specs.Row.{nodesFrom}
-use Rattle.slot_laws.specs.RowLaws.{row-length}
 use Rattle.leaf_spec.specs.Convert.{toLink, toNode}
 use Rattle.operation_spec.specs.declared.Want as want
 use Rattle.operation_spec.specs.declared.Wanted.the-variants.{Done, Fetch}
@@ -21,8 +20,8 @@ use Rattle.operation_spec.specs.Resume.{resume, finished, follow, Ends}
 use Rattle.operations.specs.ResumeLaws.{resume-bind}
 use Rattle.node_rows.specs.Row.{places, words}
 use Rattle.node_rows.specs.Heights.{Low, Lows}
-use Rattle.node_rows.specs.Held.{Held, heldIn, nodesOf, HeldFrom}
-use Rattle.node_rows.specs.HeldLaws.{held-length, lows-drop, first-more}
+use Rattle.node_rows.specs.Held.{Held, heldIn, nodesOf, HeldFrom, Lists}
+use Rattle.node_rows.specs.HeldLaws.{held-length, lows-drop, lists-nothing, lists-node}
 use Rattle.map_nodes.specs.declared.Kid.{Kid}
 use Rattle.map_nodes.specs.declared.Kid.the-variants.{Away, Here}
 use Rattle.map_nodes.specs.declared.Step as step
@@ -40,7 +39,7 @@ use Rattle.map_descent.specs.Walk.{Walks}
 use Rattle.map_descent.specs.PathTo.{stepTo, pathTo}
 use Rattle.map_descent.specs.PathLaws.{path-more}
 use Rattle.map_changes.specs.Bottom.{Ready, wayUp}
-use Rattle.map_ascent.specs.Climb.{Lists, stepsTo, ClimbsTo, Climbing}
+use Rattle.map_ascent.specs.Climb.{stepsTo, ClimbsTo, Climbing}
 
 -- ---- the method's way up
 
@@ -69,28 +68,11 @@ room-for-one count e h = let room = rw e at h in omega arith
 
 module _ (ws : List ℕ) (count : ℕ) (long : length ws ≡ words) {k : Kid} where
   pub lists-none : k ≡ Away → Lists ws count (listed (toKid k)) ws count
-  lists-none e =
-      rw e
-      record { first = sym (append-nil (nodesOf (heldIn ws count))); long = long; counted = sym (add-zero count) }
+  lists-none e = rw e (lists-nothing ws long count)
 
   pub lists-one : {n : node.Node} {ws′ : List ℕ} → k ≡ Here n → count < places → nodesFrom ws′ ≡ set (nodesFrom ws) count n → length ws′ ≡ words
       → Lists ws count (listed (toKid k)) ws′ (count + 1)
-  lists-one {n} e h stored long′ =
-      rw e
-      record {
-        first = rw (add-one count, stored) (first-more toNode (nodesFrom ws) count n (omega (arith, row-length places ws long)));
-        long = long′;
-        counted = refl;
-      }
-
-pub lists-then : (ws : List ℕ) (i : ℕ) {ws′ ws″ : List ℕ} {j k : ℕ} {out more : List (Node ℕ)}
-    → Lists ws i out ws′ j → Lists ws′ j more ws″ k → Lists ws i (out ++ more) ws″ k
-lists-then ws i {out = out} {more = more} u v =
-    record {
-      first = v .first ∙ ap (λ (l : List (Node ℕ)). l ++ more) (u .first) ∙ append-assoc (nodesOf (heldIn ws i)) out more;
-      long = v .long;
-      counted = omega (arith, u .counted, v .counted, length-append out more);
-    }
+  lists-one e h stored long′ = rw e (lists-node ws long count h stored long′)
 
 -- What a level is done with, counted.
 pub level-room : (aside : Kid) (o : Others)

@@ -15,12 +15,12 @@ ghost use Prim.Native.Nat.{_+_, _≤_};
 ghost use lib.ListN.{length};
 ghost use Rattle.method_spec.specs.Map.{listed};
 ghost use Rattle.node_rows.specs.Row.{places, words};
-ghost use Rattle.node_rows.specs.Held.{heldIn};
+ghost use Rattle.node_rows.specs.Held.{heldIn, Lists};
 ghost use Rattle.map_nodes.specs.Method.{toKid};
 ghost use Rattle.rotations.specs.Raise.{listOf};
 ghost use Rattle.map_descent.specs.Walk.{Walks};
 ghost use Rattle.map_changes.specs.Bottom.{Ready};
-ghost use Rattle.map_ascent.specs.Climb.{Lists, ClimbsTo};
+ghost use Rattle.map_ascent.specs.Climb.{ClimbsTo};
 
 // One more node in a row's next place, if it is at hand: how many there are then.
 pub fn list_kid(made: &mut [u64; ROW], count: usize, kid: Kid) -> usize

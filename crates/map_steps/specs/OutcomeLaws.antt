@@ -20,7 +20,8 @@ use Rattle.operation_spec.specs.Method.{toWant, toWanted, toAnswer, toOutcome}
 use Rattle.operation_spec.specs.Resume.{Resumed, missing, finished, resume, resumedAs, follow, wantedOf, outcomeOf}
 use Rattle.operations.specs.ResumeLaws.{resume-map}
 use Rattle.node_rows.specs.Row.{places, words}
-use Rattle.node_rows.specs.Held.{Held, heldIn, nodesOf}
+use Rattle.node_rows.specs.Held.{Held, heldIn, nodesOf, Lists}
+use Rattle.node_rows.specs.HeldLaws.{lists-then}
 use Rattle.map_nodes.specs.declared.Kid.{Kid}
 use Rattle.map_nodes.specs.declared.Kid.the-variants.{Away, Here}
 use Rattle.map_nodes.specs.Method.{toKid, toSub}
@@ -28,8 +29,7 @@ use Rattle.map_nodes.specs.Upward.{upward}
 use Rattle.map_changes.specs.declared.Bottom.{Bottom}
 use Rattle.map_changes.specs.Bottom.{wayUp}
 use Rattle.map_ascent.specs.declared.Climbed.{Climbed}
-use Rattle.map_ascent.specs.Climb.{Lists, climbedIn, ClimbsTo}
-use Rattle.map_ascent.specs.ClimbLaws.{lists-then}
+use Rattle.map_ascent.specs.Climb.{climbedIn, ClimbsTo}
 use Rattle.map_steps.specs.Outcome.{fromBottom, RoomToFinish}
 
 -- ---- the last nodes

@@ -15,6 +15,7 @@ use Rattle.method_spec.specs.Answer.{Structure, map, stack, heap, Op, ge
 use Rattle.method_spec.specs.Map.{walk, single, double, turn, raise, climb, unwind, unwound, getStep, getProg, putStep, putProg, lowest, takeOut, removeStep, removeProg}
 use Rattle.method_spec.specs.Stack.{pushProg, popProg}
 use Rattle.method_spec.specs.Heap.{turnsTo, wayTo, descend, settled, rise, topmost, addProg, downward, childOf, sink, replaceRoot, takeProg}
+use Rattle.method_spec.specs.Plain.{plain, plainAnswers, enter, taken-from}
 use Rattle.method_spec.specs.Rounds.{rounds, spare, putDraw, draws}
 use Rattle.method_spec.specs.Call.{capacity, program, emptyMemory, takeKey, fetches, drawsFrom, stepped, answered, call, run, Ran}
 use Rattle.method_spec.specs.Origin.{drawn, origins, names, leafOf, leafRun}
@@ -215,6 +216,12 @@ full-heap-names : names (rounds heap 1) 1 (add 5 ∷ add 6 ∷ [])
     ∷ drawn 2 0 ∷ drawn 2 1 ∷ drawn 2 2 ∷ drawn 2 4 ∷ drawn 2 5 ∷ drawn 2 6 ∷ []
 unfolding after
 full-heap-names = refl
+
+-- The plain heap of the same calls: the smallest first, equal ones as often as they were added.
+plain-heap : plainAnswers 3 (add 3 ∷ add 5 ∷ add 3 ∷ add 9 ∷ take ∷ take ∷ take ∷ take ∷ []) []
+    ≡ added ∷ added ∷ added ∷ full ∷ taken 3 ∷ taken 3 ∷ taken 5 ∷ empty ∷ []
+unfolding plainAnswers plain enter taken-from
+plain-heap = refl
 
 -- Equal numbers stay: 4 is added below 4. Whole memory: the link to position 2 has its new node's tag, draw 6 of the second call.
 equal-numbers : after 2 (λ d. d) (add 4 ∷ add 4 ∷ []) .memory

@@ -1,11 +1,12 @@
 -- The held nodes one by one: the next of those not taken, and that none is left.
 use Prim.Native.Nat.{ℕ, zero, suc, _+_, _≤_, _<_}
 use native.Mathlib.Omega.{arith}
-use mathlib.Core.Path.{_≡_, _∙_, ap, subst}
-use mathlib.Core.List.{List, [], _∷_, _++_, map, map-append}
-use lib.ListN.{length, getD, take, drop, set, length-take, length-map, drop-of-length-le, List·getD-map}
+use mathlib.Core.Path.{_≡_, refl, sym, _∙_, ap, subst}
+use mathlib.Core.List.{List, [], _∷_, _++_, map, map-append, append-nil, append-assoc}
+use lib.ListN.{length, getD, take, drop, set, length-take, length-map, length-append, drop-of-length-le, List·getD-map}
 use lib.Seq.{drop-cons, getD-take, take-suc-set}
 use Rattle.method_spec.specs.Node.{Node}
+use native.Mathlib.Nat.{add-zero}
 use native.Mathlib.Numerals.{add-one}
 use Rattle.slot_spec.specs.declared.Node as node
 use Rattle.slot_spec.specs.Slot.{noNode}
@@ -13,7 +14,7 @@ use Rattle.leaf_spec.specs.Convert.{toNode}
 use Rattle.slot_spec.specs.Row.{nodesFrom}
 use Rattle.slot_laws.specs.RowLaws.{row-length}
 use Rattle.node_rows.specs.Row.{places, words}
-use Rattle.node_rows.specs.Held.{Held, heldIn, nodesOf, heldAt}
+use Rattle.node_rows.specs.Held.{Held, heldIn, nodesOf, heldAt, Lists}
 use Rattle.node_rows.specs.Heights.{Low, Lows}
 
 module _ {T : Type 0} (most : ℕ) where
@@ -71,3 +72,22 @@ module _ (ws : List ℕ) (sized : length ws ≡ words) where
   row-more more i n k e =
       let r = row-places in
       ap (λ (xs : List node.Node). map toNode (take (suc i) xs)) e ∙ first-more toNode (nodesFrom ws) i n (omega arith)
+
+  -- None, or one node more.
+  module _ (count : ℕ) where
+    pub lists-nothing : Lists ws count [] ws count
+    lists-nothing = record { first = sym (append-nil (nodesOf (heldIn ws count))); long = sized; counted = sym (add-zero count) }
+
+    pub lists-node : {n : node.Node} {ws′ : List ℕ} → count < places → nodesFrom ws′ ≡ set (nodesFrom ws) count n → length ws′ ≡ words
+        → Lists ws count (toNode n ∷ []) ws′ (count + 1)
+    lists-node {n} {ws′} k e long =
+        record { first = rw (add-one count) (row-more ws′ count n k e); long = long; counted = refl }
+
+pub lists-then : (ws : List ℕ) (i : ℕ) {ws′ ws″ : List ℕ} {j k : ℕ} {out more : List (Node ℕ)}
+    → Lists ws i out ws′ j → Lists ws′ j more ws″ k → Lists ws i (out ++ more) ws″ k
+lists-then ws i {out = out} {more = more} u v =
+    record {
+      first = v .first ∙ ap (λ (l : List (Node ℕ)). l ++ more) (u .first) ∙ append-assoc (nodesOf (heldIn ws i)) out more;
+      long = v .long;
+      counted = omega (arith, u .counted, v .counted, length-append out more);
+    }

@@ -218,10 +218,10 @@ module _ (k h entries : ℕ) where
   rests-sunk rest v n x y held value f fx fy h = (
     all-cons {P = NodeFits k b} (with-value-fits f value) (all-append {P = NodeFits k b} (passed x) (passes-nodes x fx) (passes-nodes y fy)),
     trans
-    (perm-of-eq (ap (λ (ps : List Pair). number v ∷ (ps ++ rest)) (numbers-append (passed x) (passed y))))
-    (trans
-    (cons (number v)
-    (shuffle (numbersOf (passed x) ∷ numbersOf (passed y) ∷ rest ∷ []) ((part 0 & part 1) & part 2) (part 0 & (part 1 & part 2)) refl)) h),
+        (perm-of-eq (ap (λ (ps : List Pair). number v ∷ (ps ++ rest)) (numbers-append (passed x) (passed y))))
+        (trans
+        (cons (number v)
+        (shuffle (numbersOf (passed x) ∷ numbersOf (passed y) ∷ rest ∷ []) ((part 0 & part 1) & part 2) (part 0 & (part 1 & part 2)) refl)) h),
   )
 
   module _ (v : ℕ) (value : v < 2 ^ 64) (further : Pass ℕ → List (Pass ℕ) → Prog ℕ (List (Node ℕ)))
@@ -244,11 +244,11 @@ module _ (k h entries : ℕ) where
         (yields-then _ (sinks (up ++ (aside ++ rest)) c below held (parted .0) before)
         (λ out given s. ends (
           all-cons {P = NodeFits k b} (with-value-fits f (first-fits (parted .0) .own .value))
-          (all-append {P = NodeFits k b} (passed others) (passes-nodes others (parted .1 .0)) (s .0)),
+              (all-append {P = NodeFits k b} (passed others) (passes-nodes others (parted .1 .0)) (s .0)),
           trans (perm-of-eq (ap (λ (ps : List Pair). number (c .node .value) ∷ (ps ++ rest)) (numbers-append (passed others) out)))
-          (trans
-          (shuffle (up ∷ aside ∷ numbersOf out ∷ rest ∷ []) (part 0 & ((part 1 & part 2) & part 3)) (part 2 & (part 0 & (part 1 & part 3))) refl)
-          (s .1)),
+              (trans
+              (shuffle (up ∷ aside ∷ numbersOf out ∷ rest ∷ []) (part 0 & ((part 1 & part 2) & part 3)) (part 2 & (part 0 & (part 1 & part 3))) refl)
+              (s .1)),
         )))
         (ends (rests-sunk rest v n x y held value f fx fy h))
 

@@ -9,10 +9,11 @@ use Rattle.method_spec.specs.Node.{Link}
 use Rattle.method_spec.specs.Prog.{Want, Prog, after}
 use Rattle.method_spec.specs.Map.{Outcome, getProg, putProg, removeProg}
 use Rattle.method_spec.specs.Stack.{pushProg, popProg}
+use Rattle.method_spec.specs.Heap.{addProg, takeProg}
 use Rattle.method_spec.specs.Call.{program}
 use Rattle.slot_spec.specs.declared.Link as link
 use Rattle.operation_spec.specs.declared.Op.{Op}
-use Rattle.operation_spec.specs.declared.Op.the-variants.{Get, Put, Remove, Push, Pop}
+use Rattle.operation_spec.specs.declared.Op.the-variants.{Get, Put, Remove, Push, Pop, Add, Take}
 use Rattle.operation_spec.specs.Method.{toOp, wantedIn, outcomeIn}
 use Rattle.operation_spec.specs.Resume.{resume, wantedOf, outcomeOf}
 use Rattle.operations.specs.ResumeLaws.{wanted-after, outcome-after}
@@ -59,6 +60,14 @@ module _ (op : Op) (tag limit entries : ℕ) (l : Link ℕ) where
   pub program-pop : op ≡ Pop → programOf ≡ popProg entries l
   unfolding program
   program-pop e = ap at e
+
+  pub program-add : {value : ℕ} → op ≡ Add value → programOf ≡ addProg 0 value tag entries limit l
+  unfolding program
+  program-add e = ap at e
+
+  pub program-take : op ≡ Take → programOf ≡ takeProg 0 entries l
+  unfolding program
+  program-take e = ap at e
 
 -- The next wanted node and the outcome of a program, by any other that is the same.
 module _ {p q : Prog ℕ (Outcome ℕ)} (e : p ≡ q) (h : Held) where

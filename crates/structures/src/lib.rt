@@ -1,4 +1,8 @@
 // What an operation wants next of the nodes fetched for it so far, and its step once it wants none.
+use heap_steps::add;
+use heap_steps::add_wanted;
+use heap_steps::take;
+use heap_steps::take_wanted;
 use map_operations::get;
 use map_operations::put;
 use map_operations::remove;
@@ -63,6 +67,8 @@ pub fn wanted(
         ),
         Op::Push(_) => Wanted::Done,
         Op::Pop => pop_wanted(entries, root, held, count),
+        Op::Add(_) => add_wanted(limit, entries, root, held, count),
+        Op::Take => take_wanted(entries, root, held, count, made),
     }
 }
 
@@ -111,5 +117,7 @@ pub fn step(
         ),
         Op::Push(value) => push(value, tag, limit, entries, root, made),
         Op::Pop => pop(entries, root, held, count),
+        Op::Add(value) => add(value, tag, limit, entries, root, held, count, made),
+        Op::Take => take(entries, root, held, count, made),
     }
 }

@@ -1,18 +1,10 @@
 use native.Mathlib.Omega.{arith}
 use Rattle.leaf_spec.specs.Convert.{toLink}
 use Rattle.node_rows.specs.Held.{heldIn, nodesOf}
-use Rattle.structures.specs.OperationLaws.{walks-of, program-get, program-put, program-remove, program-push, program-pop, outcome-by, outcome-up}
+use Rattle.structures.specs.OperationLaws.{walks-of, program-get, program-put, program-remove, program-push, program-pop, program-add, program-take, outcome-by, outcome-up}
 use borrow.Author.Needs.{needs}
 use Rattle.structures.proofs.step.Statement.{statement}
 use Rattle.structures.proofs.step.Tie as tie
-use Rattle.structures.proofs.step.Reads as reads
-use Rattle.structures.proofs.step.Lts as lts
-use Rattle.map_steps.proofs.map_step.Reads as map-step-reads
-use Rattle.map_operations.proofs.get.Reads as get-reads
-use Rattle.map_operations.proofs.put.Reads as put-reads
-use Rattle.map_operations.proofs.remove.Reads as remove-reads
-use Rattle.stack_steps.proofs.pop.Reads as pop-reads
-use Rattle.stack_steps.proofs.push.Reads as push-reads
 
 enum-known-op : tie.Need-enum-known-op
 enum-known-op c = search needs
@@ -52,6 +44,18 @@ enum-told c = search needs
 
 pop-requires : tie.Need-pop-requires
 pop-requires c κs = let s = c .before .before in (s .pre .0 .sized, omega (arith, s .pre .0 .few))
+
+enum-known-op-5 : tie.Need-enum-known-op-5
+enum-known-op-5 c = search needs
+
+add-requires : tie.Need-add-requires
+add-requires c κs = let s = c .before .before .before .before in (s .pre .0 .sized, s .pre .1, omega (arith, s .pre .0 .few))
+
+enum-told-2 : tie.Need-enum-told-2
+enum-told-2 c = search needs
+
+take-requires : tie.Need-take-requires
+take-requires c κs = let s = c .before .before .before in (s .pre .0 .sized, s .pre .1, omega (arith, s .pre .0 .few))
 
 returns : tie.Need-returns
 returns c =
@@ -98,6 +102,22 @@ returns-5 c =
       (omega arith, s .pre .1),
     )
 
+returns-6 : tie.Need-returns-6
+returns-6 c =
+    let a = c .before .before .before .before .before .args in
+    let h = heldIn (a .held .now) (a .count) in (
+      outcome-by (program-add (a .op) (a .tag) (a .limit) (a .entries) (toLink (a .root)) (c .before .before .before .op5 .given .1)) h (toLink (a .root)) (a .entries) (c .add .ensures .0),
+      c .add .ensures .1,
+    )
+
+returns-7 : tie.Need-returns-7
+returns-7 c =
+    let a = c .before .before .before .before .args in
+    let h = heldIn (a .held .now) (a .count) in (
+      outcome-by (program-take (a .op) (a .tag) (a .limit) (a .entries) (toLink (a .root)) (c .before .before .enum-told2 .given .1)) h (toLink (a .root)) (a .entries) (c .take .ensures .0),
+      c .take .ensures .1,
+    )
+
 pub step-spec : {M : Type 1} → statement M
 step-spec =
     tie.close
@@ -115,8 +135,14 @@ step-spec =
     push-requires
     enum-told
     pop-requires
+    enum-known-op-5
+    add-requires
+    enum-told-2
+    take-requires
     returns
     returns-2
     returns-3
     returns-4
-    returns-5)
+    returns-5
+    returns-6
+    returns-7)

@@ -1,17 +1,10 @@
 use native.Mathlib.Omega.{arith}
 use Rattle.leaf_spec.specs.Convert.{toLink}
 use Rattle.node_rows.specs.Held.{heldIn}
-use Rattle.structures.specs.OperationLaws.{walks-of, program-get, program-put, program-remove, program-push, program-pop, push-wants-none, wanted-by, wanted-up}
+use Rattle.structures.specs.OperationLaws.{walks-of, program-get, program-put, program-remove, program-push, program-pop, program-add, program-take, push-wants-none, wanted-by, wanted-up}
 use borrow.Author.Needs.{needs}
 use Rattle.structures.proofs.wanted.Statement.{statement}
 use Rattle.structures.proofs.wanted.Tie as tie
-use Rattle.structures.proofs.wanted.Reads as reads
-use Rattle.structures.proofs.wanted.Lts as lts
-use Rattle.map_steps.proofs.map_wanted.Reads as map-wanted-reads
-use Rattle.map_operations.proofs.get.Reads as get-reads
-use Rattle.map_operations.proofs.put.Reads as put-reads
-use Rattle.map_operations.proofs.remove.Reads as remove-reads
-use Rattle.stack_steps.proofs.pop_wanted.Reads as pop-wanted-reads
 
 enum-known-op : tie.Need-enum-known-op
 enum-known-op c = search needs
@@ -48,6 +41,18 @@ enum-told-2 c = search needs
 
 pop-wanted-requires : tie.Need-pop-wanted-requires
 pop-wanted-requires c κs = let s = c .before .before in (s .pre .0 .sized, omega (arith, s .pre .0 .few))
+
+enum-told-3 : tie.Need-enum-told-3
+enum-told-3 c = search needs
+
+add-wanted-requires : tie.Need-add-wanted-requires
+add-wanted-requires c κs = let s = c .before .before in (s .pre .0 .sized, omega (arith, s .pre .0 .few))
+
+enum-told-4 : tie.Need-enum-told-4
+enum-told-4 c = search needs
+
+take-wanted-requires : tie.Need-take-wanted-requires
+take-wanted-requires c κs = let s = c .before .before .before in (s .pre .0 .sized, s .pre .1, omega (arith, s .pre .0 .few))
 
 returns : tie.Need-returns
 returns c =
@@ -90,6 +95,19 @@ returns-5 c =
     let h = heldIn (a .held .now) (a .count) in
     (wanted-by (program-pop (a .op) (a .tag) (a .limit) (a .entries) (toLink (a .root)) (c .before .enum-told2 .given .1)) h (c .pop-wanted .ensures), s .pre .1)
 
+returns-6 : tie.Need-returns-6
+returns-6 c =
+    let s = c .before .before .before in
+    let a = s .args in
+    let h = heldIn (a .held .now) (a .count) in
+    (wanted-by (program-add (a .op) (a .tag) (a .limit) (a .entries) (toLink (a .root)) (c .before .enum-told3 .given .1)) h (c .add-wanted .ensures _ (a .tag)), s .pre .1)
+
+returns-7 : tie.Need-returns-7
+returns-7 c =
+    let a = c .before .before .before .before .args in
+    let h = heldIn (a .held .now) (a .count) in
+    (wanted-by (program-take (a .op) (a .tag) (a .limit) (a .entries) (toLink (a .root)) (c .before .before .enum-told4 .given .1)) h (c .take-wanted .ensures .0), c .take-wanted .ensures .1)
+
 pub wanted-spec : {M : Type 1} → statement M
 wanted-spec =
     tie.close
@@ -106,8 +124,14 @@ wanted-spec =
     enum-told
     enum-told-2
     pop-wanted-requires
+    enum-told-3
+    add-wanted-requires
+    enum-told-4
+    take-wanted-requires
     returns
     returns-2
     returns-3
     returns-4
-    returns-5)
+    returns-5
+    returns-6
+    returns-7)

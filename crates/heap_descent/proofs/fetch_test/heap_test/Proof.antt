@@ -26,12 +26,12 @@ link-good-requires-2 : tie.Need-link-good-requires-2
 link-good-requires-2 c κs = search needs
 
 returns : tie.Need-returns
-returns c = 
+returns c =
     let a = c .before .before .before .before .before .before .args in
     c .link-good2 .ensures ∙ sym (left-link-good (a .entries) (toWant (a .want)) (toNode (a .n)) (cc))
 
 returns-2 : tie.Need-returns-2
-returns-2 c = 
+returns-2 c =
     let a = c .before .before .before .before .before .args in
     sym (left-link-bad (a .entries) (toWant (a .want)) (toNode (a .n)) (cc))
 

@@ -19,7 +19,7 @@ cast-t6 : tie.Need-cast-t6
 cast-t6 c = search needs
 
 returns : tie.Need-returns
-returns c = 
+returns c =
     (refl, way-leads (c .args .position) (search needs))
 
 pub way-to-spec : {M : Type 1} → statement M

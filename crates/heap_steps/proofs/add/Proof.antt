@@ -1,0 +1,75 @@
+use native.Mathlib.Numerals.{add-one}
+use Rattle.leaf_spec.specs.Convert.{toLink}
+use Rattle.node_rows.specs.Held.{heldIn, nodesOf}
+use Rattle.heap_steps.specs.AddLaws.{add-full, add-stops, add-makes}
+use native.Mathlib.Omega.{arith}
+use borrow.Author.Needs.{needs}
+use Rattle.heap_steps.proofs.add.Statement.{statement}
+use Rattle.heap_steps.proofs.add.Tie as tie
+use Rattle.heap_steps.proofs.add.Reads as reads
+use Rattle.heap_steps.proofs.add.Lts as lts
+use Rattle.heap_descent.proofs.nodes.link_one.Reads as link-one-reads
+use Rattle.heap_descent.proofs.way.way_to.Reads as way-to-reads
+use Rattle.heap_rising.proofs.rise.Reads as rise-reads
+use Rattle.slot_fields.proofs.no_link.Reads as no-link-reads
+
+returns : tie.Need-returns
+returns c =
+    let s = c .before in
+    let a = s .args in (
+      rw (add-full (a .value) (a .tag) (a .entries) (a .limit) (toLink (a .root)) (nodesOf (heldIn (a .held .now) (a .count))) (c .if1 .taken)),
+      (omega arith, s .pre .1),
+    )
+
+add-more : tie.Need-add-more
+add-more c = search needs
+
+way-to-requires : tie.Need-way-to-requires
+way-to-requires c κs = search needs
+
+returns-2 : tie.Need-returns-2
+returns-2 c =
+    let s = c .before .before .before .before in
+    let a = s .args in
+    let way = c .before .before .way-to in (
+      rw (add-stops (a .value) (a .tag) (a .entries) (a .limit) (a .root) (a .held .now) (a .count) (s .pre .0) (s .pre .2) (c .before .before .before .if1 .left) (way .result) (way .ensures .0) (way .ensures .1) (c .if2 .taken)),
+      (omega arith, s .pre .1),
+    )
+
+no-link-requires : tie.Need-no-link-requires
+no-link-requires c κs = search needs
+
+cast-t17 : tie.Need-cast-t17
+cast-t17 c = search needs
+
+rise-requires : tie.Need-rise-requires
+rise-requires c κs = search needs
+
+link-one-requires : tie.Need-link-one-requires
+link-one-requires c κs = search needs
+
+add-t20 : tie.Need-add-t20
+add-t20 c = search needs
+
+returns-3 : tie.Need-returns-3
+returns-3 c =
+    let s = c .before .before .before .before .before .before .before .before .before in
+    let a = s .args in
+    let way = c .before .before .before .before .before .before .before .way-to in
+    add-makes (a .value) (a .tag) (a .entries) (a .limit) (a .root) (a .held .now) (a .count) (s .pre .0) (s .pre .2) (c .before .before .before .before .before .before .before .before .if1 .left) (way .result) (way .ensures .0) (way .ensures .1) (c .before .before .before .before .before .if2 .left)
+    (rw (c .before .before .before .before .no-link .ensures, add-one (a .entries))) (c .before .before .rise .ensures (a .count)) (c .before .link-one .ensures)
+
+pub add-spec : {M : Type 1} → statement M
+add-spec =
+    tie.close
+    (tie.spec
+    returns
+    add-more
+    way-to-requires
+    returns-2
+    no-link-requires
+    cast-t17
+    rise-requires
+    link-one-requires
+    add-t20
+    returns-3)

@@ -2,11 +2,11 @@
 use Prim.Native.Nat.{ℕ, zero, suc, _+_, _*_, _-_, _/_, _%_, _^_, _≤_, _<_}
 use native.Mathlib.Omega.{arith}
 use native.Mathlib.Decide.{decLt}
-use mathlib.Core.Path.{_≡_, refl, sym, _∙_, ap, subst}
+use mathlib.Core.Path.{_≡_, refl, sym, _∙_, ap}
 use mathlib.Core.Bool.{Bool, true}
 use mathlib.Core.List.{List, [], _∷_, _++_}
 use lib.Dec.{eqb}
-use lib.ListN.{length, getD, drop, length-append, drop-of-length-le, List·getD-append, List·getD-eq-default}
+use lib.ListN.{length, drop, length-append, drop-of-length-le, List·getD-append, List·getD-eq-default}
 use lib.Seq.{drop-cons, getD-append-add}
 use lib.Pow.{pow-mono}
 use lib.Count.{leadingZeros, leading-length}
@@ -14,8 +14,9 @@ use borrow.Author.Tests.{le-leb, lt-leb}
 use Rattle.slot_spec.specs.Tree.{halved}
 use Rattle.slot_laws.specs.TreeLaws.{halved-none, halved-more, halved-shift}
 use Rattle.method_spec.specs.Node.{Node}
-use Rattle.method_spec.specs.Prog.{Want, want}
-use Rattle.method_spec.specs.Heap.{Pass, Reached, turnsTo, wayTo, beneath, descend}
+use Rattle.method_spec.specs.Prog.{Want}
+use Rattle.method_spec.specs.Heap.{Pass, turnsTo, wayTo, beneath, descend}
+use Rattle.run_laws.specs.HeapWays.{way-none, way-last}
 use Rattle.operation_spec.specs.Resume.{missing, finished, resume}
 use Rattle.operations.specs.ResumeLaws.{resume-done, resume-want, resume-missing}
 use Rattle.node_rows.specs.Held.{Held, nodesOf, heldAt}
@@ -24,40 +25,12 @@ use Rattle.heap_descent.specs.Way.{Leads, turnAt, wantAt, trail}
 
 -- ---- turns
 
-turns-none : (fuel i : ℕ) → i ≤ 1 → turnsTo fuel i ≡ []
-unfolding turnsTo
-turns-none zero i h = refl
-turns-none (suc fuel) i h = rw (le-leb i 1 h)
-
-turns-some : (fuel i : ℕ) → 1 < i → turnsTo (suc fuel) i ≡ turnsTo fuel (i / 2) ++ (eqb (i % 2) 0 ∷ [])
-unfolding turnsTo
-turns-some fuel i h = rw (lt-leb i 1 h)
-
--- With fuel enough, more changes nothing.
-turns-fuel : (f g i : ℕ) → i ≤ f → i ≤ g → turnsTo f i ≡ turnsTo g i
-turns-fuel zero g i p q = turns-none 0 i (omega arith) ∙ sym (turns-none g i (omega arith))
-turns-fuel (suc f) zero i p q = turns-none (suc f) i (omega arith) ∙ sym (turns-none 0 i (omega arith))
-turns-fuel (suc f) (suc g) i p q = go (turns-fuel f g (i / 2)) (decLt 1 i)
-  where
-    go : (i / 2 ≤ f → i / 2 ≤ g → turnsTo f (i / 2) ≡ turnsTo g (i / 2)) → Dec (1 < i) → turnsTo (suc f) i ≡ turnsTo (suc g) i
-    go more (yes h) = turns-some f i h ∙ ap (λ (l : List Bool). l ++ (eqb (i % 2) 0 ∷ [])) (more (omega arith) (omega arith)) ∙ sym (turns-some g i h)
-    go more (no h) = turns-none (suc f) i (omega arith) ∙ sym (turns-none (suc g) i (omega arith))
-
-way-none : (i : ℕ) → i ≤ 1 → wayTo i ≡ []
-way-none i h = turns-none i i h
-
-way-more : (i : ℕ) → 1 < i → wayTo i ≡ wayTo (i / 2) ++ (eqb (i % 2) 0 ∷ [])
-way-more i h =
-    let e : i ≡ suc (i - 1) = omega arith in
-    ap (λ (f : ℕ). turnsTo f i) e ∙ turns-some (i - 1) i h
-    ∙ ap (λ (l : List Bool). l ++ (eqb (i % 2) 0 ∷ [])) (turns-fuel (i - 1) (i / 2) (i / 2) (omega arith) (omega arith))
-
 -- A turn for each digit of the position but the first.
 way-length : (m i : ℕ) → i / 2 < 2 ^ m → 2 ^ m ≤ 2 * (i / 2) + 1 → length (wayTo i) ≡ m
 way-length zero i p q = rw (way-none i (omega arith))
 way-length (suc m) i p q =
     let d : 2 ^ suc m ≡ 2 * 2 ^ m = omega arith in
-    rw (way-more i (omega arith), length-append) (rw (way-length m (i / 2) (omega arith) (omega arith)) (omega arith))
+    rw (way-last i (omega arith), length-append) (rw (way-length m (i / 2) (omega arith) (omega arith)) (omega arith))
 
 pub way-leads : (i : ℕ) → i < 2 ^ 16 → Leads (record { position = i; depth = 64 - leadingZeros 64 (i / 2) })
 way-leads i h =
@@ -81,17 +54,17 @@ digit-step : (i j : ℕ) → 1 < i → (j < length (wayTo (i / 2)) → Digit (i 
 digit-step i j m more h = go (decLt j (length (wayTo (i / 2))))
   where
     long : length (wayTo i) ≡ length (wayTo (i / 2)) + 1
-    long = rw (way-more i m) (length-append (wayTo (i / 2)) (eqb (i % 2) 0 ∷ []))
+    long = rw (way-last i m) (length-append (wayTo (i / 2)) (eqb (i % 2) 0 ∷ []))
 
     go : Dec (j < length (wayTo (i / 2))) → Digit i j
     go (yes k) =
         let e : length (wayTo i) - 1 - j ≡ suc (length (wayTo (i / 2)) - 1 - j) = omega (arith, long) in
-        ap (λ (l : List Bool). turnAt l j) (way-more i m) ∙ List·getD-append (wayTo (i / 2)) _ true j k ∙ more k
+        ap (λ (l : List Bool). turnAt l j) (way-last i m) ∙ List·getD-append (wayTo (i / 2)) _ true j k ∙ more k
         ∙ rw (e, halved-more)
     go (no k) =
         let e : length (wayTo i) - 1 - j ≡ 0 = omega (arith, long) in
         let d : j ≡ length (wayTo (i / 2)) + 0 = omega (arith, long) in
-        ap (λ (l : List Bool). turnAt l j) (way-more i m) ∙ ap (turnAt (wayTo (i / 2) ++ (eqb (i % 2) 0 ∷ []))) d
+        ap (λ (l : List Bool). turnAt l j) (way-last i m) ∙ ap (turnAt (wayTo (i / 2) ++ (eqb (i % 2) 0 ∷ []))) d
         ∙ getD-append-add (wayTo (i / 2)) (eqb (i % 2) 0 ∷ []) 0 true ∙ rw (e, halved-none)
 
 way-digit : (fuel i j : ℕ) → i ≤ fuel → j < length (wayTo i) → Digit i j

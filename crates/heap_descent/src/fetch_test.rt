@@ -11,7 +11,8 @@ ghost use Rattle.operation_spec.specs.Method.{toWant};
 fn link_good(entries: u16, position: u64, link: Link) -> bool
     ensures { λ r. ⌜ r ≡ linkGood entries position (toLink link) ⌝ }
 {
-    if position <= entries as u64 {
+    let end = (entries as u64) + 1;
+    if position < end {
         if link.height != 1 {
             return false;
         }

@@ -22,6 +22,7 @@ pub struct Way {
     pub depth: usize,
 }
 
+// A turn for each binary digit of the position but the first.
 pub fn way_to(position: u16) -> Way
     ensures { λ r. ⌜ (r .position ≡ position) × Leads r ⌝ }
 {

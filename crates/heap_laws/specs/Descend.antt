@@ -16,7 +16,7 @@ use Rattle.method_spec.specs.Safe.{Safe, ends, meets}
 use Rattle.run_laws.specs.Fetches.{tags}
 use Rattle.run_laws.specs.StackRepresents.{Cell}
 use Rattle.heap_laws.specs.HeapTree.{Complete, Frame, bare, joined, plug, position, frameTags, heapLink, heapNode, heapNodes, aside, PassOf, Passes, none-passed, one-passed, Came, node-passes}
-use Rattle.heap_laws.specs.Ways.{along, along-way, along-turn}
+use Rattle.run_laws.specs.HeapWays.{along, along-way, along-turn}
 use Rattle.heap_laws.specs.Plugs.{sideNodes, sides-below, position-some, bare-plug, complete-part}
 
 module _ {T : Type 0} (nil : T) where

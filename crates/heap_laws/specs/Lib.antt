@@ -1,4 +1,3 @@
-pub mod Ways
 pub mod HeapTree
 pub mod HeapFacts
 pub mod Plugs

@@ -14,7 +14,7 @@ use Rattle.method_spec.specs.Node.{Node, Link, child, withChild}
 use Rattle.method_spec.specs.Heap.{childPosition, Pass}
 use Rattle.run_laws.specs.StackRepresents.{Cell}
 use Rattle.heap_laws.specs.HeapTree.{Complete, numbersIn, positionsIn, Frame, bare, joined, plug, position, heapLink, heapNode, heapNodes, PassOf}
-use Rattle.heap_laws.specs.Ways.{along, child-up, along-turn, ways-part}
+use Rattle.run_laws.specs.HeapWays.{along, child-up, along-turn, ways-part}
 
 -- ---- the shape of a tree
 

@@ -7,13 +7,12 @@ use mathlib.Core.Bool.{Bool, true, false}
 use mathlib.Core.List.{List, [], _∷_, _++_, append-assoc}
 use lib.ListN.{length, set}
 use borrow.Author.Tests.{lt-ltb, le-ltb}
-use Rattle.method_spec.specs.Node.{Link, Node, withChild, withValue, linkOne}
+use Rattle.method_spec.specs.Node.{Node, withValue, linkOne}
 use Rattle.method_spec.specs.Heap.{Pass, over, settled, rise, topmost}
 use Rattle.slot_spec.specs.declared.Node as node
-use Rattle.slot_spec.specs.declared.Link as link
 use Rattle.slot_spec.specs.Row.{nodesFrom}
-use Rattle.leaf_spec.specs.Convert.{toLink, toNode}
-use Rattle.node_rows.specs.Row.{places, words}
+use Rattle.leaf_spec.specs.Convert.{toNode}
+use Rattle.node_rows.specs.Row.{words}
 use Rattle.node_rows.specs.Held.{Held, heldIn, nodesOf, heldAt}
 use Rattle.node_rows.specs.HeldLaws.{row-more}
 use Rattle.heap_descent.specs.Way.{turnAt, trail}

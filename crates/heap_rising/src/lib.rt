@@ -11,7 +11,6 @@ use slot_spec::Node;
 ghost use mathlib.Core.Path.{_≡_};
 ghost use Prim.Native.Nat.{ℕ};
 ghost use lib.ListN.{length};
-ghost use Rattle.slot_spec.specs.Row.{nodesFrom};
 ghost use Rattle.method_spec.specs.Heap.{wayTo};
 ghost use Rattle.leaf_spec.specs.Convert.{toNode};
 ghost use Rattle.node_rows.specs.Row.{words};

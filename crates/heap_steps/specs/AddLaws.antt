@@ -8,7 +8,6 @@ use mathlib.Core.Option.{none}
 use lib.ListN.{length, drop}
 use borrow.Author.Tests.{lt-ltb, le-ltb}
 use Rattle.method_spec.specs.Node.{Link, Node, linkOne}
-use Rattle.method_spec.specs.Prog.{bind, done}
 use Rattle.method_spec.specs.Answer.{added, full}
 use Rattle.method_spec.specs.Map.{Outcome, start}
 use Rattle.method_spec.specs.Heap.{Reached, wayTo, descend, newNode, rise, topmost, addProg}
@@ -32,7 +31,7 @@ module _ (value tag entries limit : ℕ) (l : Link ℕ) where
   unfolding addProg
   add-full ns k = rw (le-ltb entries limit k) (resume-done _ ns)
 
-  -- What comes of the way.
+  -- An add's outcome, once the nodes of the way are there.
   abbrev grown : Reached ℕ → Outcome ℕ
   grown r =
       let new = newNode 0 value tag entries in

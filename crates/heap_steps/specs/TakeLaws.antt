@@ -1,19 +1,19 @@
 -- The heap's take on the nodes at hand.
-use Prim.Native.Nat.{ℕ, zero, suc, pred, _+_, _-_, _≤_, _<_}
+use Prim.Native.Nat.{ℕ, suc, pred, _-_, _≤_, _<_}
 use native.Mathlib.Omega.{arith}
 use native.Mathlib.Decide.{decLt}
-use mathlib.Core.Path.{_≡_, refl, sym, _∙_, ap}
-use mathlib.Core.List.{List, [], _∷_}
+use mathlib.Core.Path.{_≡_, refl, _∙_, ap}
+use mathlib.Core.List.{List, []}
 use lib.ListN.{length, drop, getD}
 use borrow.Author.Tests.{eq-eqb, ne-eqb}
 use Rattle.method_spec.specs.Node.{Link, Node, absent, linkOne}
 use Rattle.method_spec.specs.Prog.{Prog, want}
 use Rattle.method_spec.specs.Answer.{taken, empty}
 use Rattle.method_spec.specs.Map.{Outcome, start}
-use Rattle.method_spec.specs.Heap.{Pass, Reached, wayTo, descend, downward, sink, replaceRoot, takeProg}
+use Rattle.method_spec.specs.Heap.{Reached, wayTo, descend, downward, sink, replaceRoot, takeProg}
 use Rattle.slot_spec.specs.declared.Link as link
 use Rattle.slot_spec.specs.declared.Node as node
-use Rattle.slot_spec.specs.Slot.{noNode}
+use Rattle.slot_spec.specs.Slot.{noLink, noNode}
 use Rattle.slot_spec.specs.Row.{nodesFrom}
 use Rattle.leaf_spec.specs.Convert.{toLink, toNode}
 use Rattle.operation_spec.specs.declared.Want as want
@@ -29,14 +29,14 @@ use Rattle.node_rows.specs.HeldLaws.{held-next, held-none, held-room}
 use Rattle.heap_descent.specs.declared.way.Way.{Way}
 use Rattle.heap_descent.specs.Way.{Leads, wantAt, trail}
 use Rattle.heap_descent.specs.WayLaws.{descend-missing, descend-end}
-use Rattle.heap_sinking.specs.Hands.{passIn, span}
-use Rattle.heap_sinking.specs.HandLaws.{node-link, node-value, span-none, span-next, span-length, downward-span}
-use Rattle.heap_sinking.specs.declared.sink.Sinking.{Sinking}
+use Rattle.heap_spans.specs.Spans.{passIn, passesFrom}
+use Rattle.heap_spans.specs.SpanLaws.{node-link, node-value, passes-none, passes-next, passes-length, downward-passes}
+use Rattle.heap_sinking.specs.declared.Sinking.{Sinking}
 use Rattle.heap_sinking.specs.Sinking.{sinkAll, SinksTo}
 
--- What comes of it, with those nodes, that root link and that answer.
-abbrev pub fallen : Link ℕ → (entries value : ℕ) → List (Node ℕ) → Outcome ℕ
-fallen l entries value out = record { nodes = out; root = l; entries = pred entries; answer = taken value }
+-- A take's outcome, with those nodes and that root link.
+abbrev pub shrunk : Link ℕ → (entries value : ℕ) → List (Node ℕ) → Outcome ℕ
+shrunk l entries value out = record { nodes = out; root = l; entries = pred entries; answer = taken value }
 
 module _ (entries : ℕ) (l : Link ℕ) where
   pub take-empty : (ns : List (Node ℕ)) → entries ≡ 0 → resume (takeProg 0 entries l) ns ≡ finished (nothing l entries empty) ns
@@ -71,29 +71,29 @@ module _ (entries : ℕ) (l : Link ℕ) where
     module _ (m : length (wayTo entries) < h .count) where
       with-last : let way = wayTo entries in
           resume (takeProg 0 entries l) (nodesOf h)
-          ≡ resume (replaceRoot 0 entries (heldAt h (length way)) (span (h .nodes) way (length way) 0)) (drop (suc (length way)) (nodesOf h))
+          ≡ resume (replaceRoot 0 entries (heldAt h (length way)) (passesFrom (h .nodes) way (length way) 0)) (drop (suc (length way)) (nodesOf h))
       with-last =
           let way = wayTo entries in
           at-end (omega arith)
           ∙ rw (held-next h (length way) m few)
-          (resume-want _ _ (heldAt h (length way)) (drop (suc (length way)) (nodesOf h)) ∙ rw (downward-span h way))
+          (resume-want _ _ (heldAt h (length way)) (drop (suc (length way)) (nodesOf h)) ∙ rw (downward-passes h way))
 
       take-only : length (wayTo entries) ≡ 0
-          → resume (takeProg 0 entries l) (nodesOf h) ≡ finished (fallen (absent 0) entries (heldAt h 0 .value) []) (drop 1 (nodesOf h))
+          → resume (takeProg 0 entries l) (nodesOf h) ≡ finished (shrunk (absent 0) entries (heldAt h 0 .value) []) (drop 1 (nodesOf h))
       unfolding replaceRoot
-      take-only e = with-last ∙ rw (e, span-none (h .nodes) (wayTo entries) 0 0 refl) (resume-done _ (drop 1 (nodesOf h)))
+      take-only e = with-last ∙ rw (e, passes-none (h .nodes) (wayTo entries) 0 0 refl) (resume-done _ (drop 1 (nodesOf h)))
 
       take-sinks : (length (wayTo entries) ≡ 0 → ⊥)
           → let way = wayTo entries in
           resume (takeProg 0 entries l) (nodesOf h)
-          ≡ follow (sinkAll h way (heldAt h (length way) .value)) (λ out rest. finished (fallen (linkOne (heldAt h 0)) entries (heldAt h 0 .value) out) rest)
+          ≡ follow (sinkAll h way (heldAt h (length way) .value)) (λ out rest. finished (shrunk (linkOne (heldAt h 0)) entries (heldAt h 0 .value) out) rest)
       unfolding replaceRoot
       take-sinks e =
           let way = wayTo entries in
-          let below = span (h .nodes) way (length way - 1) 1 in
-          let fuel : suc (length below) ≡ length way = omega (arith, span-length (h .nodes) way (length way - 1) 1) in
+          let below = passesFrom (h .nodes) way (length way - 1) 1 in
+          let fuel : suc (length below) ≡ length way = omega (arith, passes-length (h .nodes) way (length way - 1) 1) in
           with-last
-          ∙ rw (span-next (h .nodes) way (length way) 0 (omega arith))
+          ∙ rw (passes-next (h .nodes) way (length way) 0 (omega arith))
           (resume-map (sink (suc (length below)) (heldAt h (length way) .value) (passIn (h .nodes) way 0) below) _ (drop (suc (length way)) (nodesOf h))
           ∙ rw (fuel, node-link (h .nodes) way 0, node-value (h .nodes) way 0))
 
@@ -109,20 +109,25 @@ module _ (entries : ℕ) (root : link.Link) (ws : List ℕ) (count : ℕ) (long 
 
   module _ (m : way .depth < count) where
     pub take-last : way .depth ≡ 0 → {z : node.Node} → z ≡ getD (nodesFrom ws) (way .depth) noNode
-        → resume (takeProg 0 entries (toLink root)) (nodesOf (heldIn ws count)) ≡ finished (fallen (absent 0) entries (z .value) []) (drop 1 (nodesOf (heldIn ws count)))
+        → resume (takeProg 0 entries (toLink root)) (nodesOf (heldIn ws count)) ≡ finished (shrunk (absent 0) entries (z .value) []) (drop 1 (nodesOf (heldIn ws count)))
     take-last e f =
         rw (f, e) (take-only entries (toLink root) (heldIn ws count) (held-room ws long count most) k (omega (arith, deep)) (omega (arith, deep)))
+
+    pub take-clears : way .depth ≡ 0 → {z : node.Node} → z ≡ getD (nodesFrom ws) (way .depth) noNode → {l : link.Link} → l ≡ noLink → {fewer : ℕ} → fewer ≡ pred entries
+        → toOutcome (record { made = 0; root = l; entries = fewer; answer = Taken (z .value) }) []
+        ≡ outcomeOf (toLink root) entries (resume (takeProg 0 entries (toLink root)) (nodesOf (heldIn ws count)))
+    take-clears e f g fewer = rw (take-last e f, g, fewer)
 
     module _ (e : way .depth ≡ 0 → ⊥) {z : node.Node} (f : z ≡ getD (nodesFrom ws) (way .depth) noNode) {ws′ : List ℕ} {r : Sinking}
         (sinks : SinksTo (heldIn ws count) (wayTo (way .position)) (z .value) ws′ r) where
       by-sinking : resume (takeProg 0 entries (toLink root)) (nodesOf (heldIn ws count))
           ≡ follow (resumedAs (r .wanted) (nodesOf (heldIn ws′ (r .made))) (drop (r .next) (nodesOf (heldIn ws count))))
-          (λ out rest. finished (fallen (linkOne (heldAt (heldIn ws count) 0)) entries (heldAt (heldIn ws count) 0 .value) out) rest)
+          (λ out rest. finished (shrunk (linkOne (heldAt (heldIn ws count) 0)) entries (heldAt (heldIn ws count) 0 .value) out) rest)
       by-sinking =
           let v : z .value ≡ heldAt (heldIn ws count) (length (wayTo entries)) .value = ap (λ (n : node.Node). n .value) (f ∙ ap (λ (i : ℕ). getD (nodesFrom ws) i noNode) deep) in
           take-sinks entries (toLink root) (heldIn ws count) (held-room ws long count most) k (omega (arith, deep)) (λ d. e (deep ∙ d))
           ∙ ap
-          (λ (x : Resumed ℕ (List (Node ℕ))). follow x (λ out rest. finished (fallen (linkOne (heldAt (heldIn ws count) 0)) entries (heldAt (heldIn ws count) 0 .value) out) rest))
+          (λ (x : Resumed ℕ (List (Node ℕ))). follow x (λ out rest. finished (shrunk (linkOne (heldAt (heldIn ws count) 0)) entries (heldAt (heldIn ws count) 0 .value) out) rest))
           ((rw (to, v) at sinks) .resumes)
 
       pub take-wants : wantedOf (resume (takeProg 0 entries (toLink root)) (nodesOf (heldIn ws count))) ≡ toWanted (r .wanted)
@@ -130,7 +135,7 @@ module _ (entries : ℕ) (root : link.Link) (ws : List ℕ) (count : ℕ) (long 
         where
           go : (w : Wanted)
               → wantedOf (follow (resumedAs w (nodesOf (heldIn ws′ (r .made))) (drop (r .next) (nodesOf (heldIn ws count))))
-              (λ out rest. finished (fallen (linkOne (heldAt (heldIn ws count) 0)) entries (heldAt (heldIn ws count) 0 .value) out) rest)) ≡ toWanted w
+              (λ out rest. finished (shrunk (linkOne (heldAt (heldIn ws count) 0)) entries (heldAt (heldIn ws count) 0 .value) out) rest)) ≡ toWanted w
           go Done = refl
           go (Fetch w) = refl
 

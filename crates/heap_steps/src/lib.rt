@@ -3,12 +3,13 @@ use heap_descent::nodes::link_one;
 use heap_descent::way::next_on;
 use heap_descent::way::way_to;
 use heap_rising::rise;
-use heap_sinking::sink::sink;
+use heap_sinking::sink;
 use node_rows::ROW;
 use node_rows::node_at;
 use operation_spec::Answer;
 use operation_spec::Outcome;
 use operation_spec::Wanted;
+use operations::no_nodes;
 use operations::one_less;
 use slot_fields::no_link;
 use slot_spec::Link;
@@ -28,14 +29,13 @@ pub fn add_wanted(limit: u16, entries: u16, root: Link, held: &[u64; ROW], count
     requires { ⌜ (length (now held) ≡ words) × (count ≤ places) ⌝ }
     ensures { λ r. ⌜ ((value tag : ℕ) → toWanted r ≡ wantedOf (resume (addProg 0 value tag entries limit (toLink root)) (nodesOf (heldIn (now (held .entry)) count)))) ⌝ }
 {
-    if entries >= limit {
-        return Wanted::Done;
+    if entries < limit {
+        let way = way_to(entries + 1);
+        if count < way.depth {
+            return Wanted::Fetch(next_on(way, root, held, count));
+        }
     }
-    let way = way_to(entries + 1);
-    if way.depth <= count {
-        return Wanted::Done;
-    }
-    Wanted::Fetch(next_on(way, root, held, count))
+    Wanted::Done
 }
 
 // The new position's node, whose number rises over the nodes of the way.
@@ -53,22 +53,12 @@ pub fn add(
     ensures { λ r. ⌜ (toOutcome r (nodesOf (heldIn (now (made .exit)) (r .made))) ≡ outcomeOf (toLink root) entries (resume (addProg 0 value tag entries limit (toLink root)) (nodesOf (heldIn (now (held .entry)) count)))) × ((r .made ≤ places) × (length (now (made .exit)) ≡ words)) ⌝ }
 {
     if entries >= limit {
-        return Outcome {
-            made: 0,
-            root,
-            entries,
-            answer: Answer::Full,
-        };
+        return no_nodes(root, entries, Answer::Full);
     }
     let more = entries + 1;
     let way = way_to(more);
     if count < way.depth {
-        return Outcome {
-            made: 0,
-            root,
-            entries,
-            answer: Answer::Absent,
-        };
+        return no_nodes(root, entries, Answer::Absent);
     }
     let none = no_link();
     let n = Node {
@@ -127,42 +117,23 @@ pub fn take(
     ensures { λ r. ⌜ (toOutcome r (nodesOf (heldIn (now (made .exit)) (r .made))) ≡ outcomeOf (toLink root) entries (resume (takeProg 0 entries (toLink root)) (nodesOf (heldIn (now (held .entry)) count)))) × ((r .made ≤ places) × (length (now (made .exit)) ≡ words)) ⌝ }
 {
     if entries == 0 {
-        return Outcome {
-            made: 0,
-            root,
-            entries,
-            answer: Answer::Empty,
-        };
+        return no_nodes(root, entries, Answer::Empty);
     }
     let way = way_to(entries);
     let last = way.depth;
     if count <= last {
-        return Outcome {
-            made: 0,
-            root,
-            entries,
-            answer: Answer::Absent,
-        };
+        return no_nodes(root, entries, Answer::Absent);
     }
     let fewer = one_less(entries);
     let z = node_at(held, last);
     if last == 0 {
-        return Outcome {
-            made: 0,
-            root: no_link(),
-            entries: fewer,
-            answer: Answer::Taken(z.value),
-        };
+        let none = no_link();
+        return no_nodes(none, fewer, Answer::Taken(z.value));
     }
     let r = sink(z.value, way, held, count, made);
     let wanted = r.wanted;
     if let Wanted::Fetch(_) = wanted {
-        return Outcome {
-            made: 0,
-            root,
-            entries,
-            answer: Answer::Absent,
-        };
+        return no_nodes(root, entries, Answer::Absent);
     }
     let top = node_at(held, 0);
     Outcome {

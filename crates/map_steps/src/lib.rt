@@ -10,6 +10,7 @@ use node_rows::ROW;
 use operation_spec::Answer;
 use operation_spec::Outcome;
 use operation_spec::Wanted;
+use operations::no_nodes;
 use slot_spec::Link;
 ghost use mathlib.Core.Path.{_≡_};
 ghost use Prim.Native.Nat.{_≤_};
@@ -24,18 +25,6 @@ ghost use Rattle.map_descent.specs.Walk.{Walks};
 ghost use Rattle.map_changes.specs.Bottom.{Ready};
 ghost use Rattle.map_ascent.specs.Climb.{climbedIn};
 ghost use Rattle.map_steps.specs.Outcome.{RoomToFinish, fromBottom};
-
-// A step that makes no nodes.
-fn no_nodes(root: Link, entries: u16) -> Outcome
-    ensures { λ r. ⌜ r ≡ record { made = 0; root = root; entries = entries; answer = Answer.Absent } ⌝ }
-{
-    Outcome {
-        made: 0,
-        root,
-        entries,
-        answer: Answer::Absent,
-    }
-}
 
 // The outcome of a climb that came to its end: the nodes at hand there are done with too.
 fn finish(c: Climbed, entries: u16, answer: Answer, made: &mut [u64; ROW]) -> Outcome
@@ -96,12 +85,12 @@ pub fn map_step(
 {
     let wanted = b.wanted;
     if let Wanted::Fetch(_) = wanted {
-        return no_nodes(root, entries);
+        return no_nodes(root, entries, Answer::Absent);
     }
     let c = climb(b, key, root, held, count, made);
     let still = c.wanted;
     if let Wanted::Fetch(_) = still {
-        return no_nodes(root, entries);
+        return no_nodes(root, entries, Answer::Absent);
     }
     let answer = b.answer;
     finish(c, b.entries, answer, made)

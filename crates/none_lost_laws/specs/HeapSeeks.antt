@@ -19,7 +19,7 @@ use Rattle.method_spec.specs.Map.{start}
 use Rattle.method_spec.specs.Heap.{childPosition, Pass, Lower, childless, lower, wayTo, beneath, descend, addProg, downward, childOf, smaller, above, sunk, sink, replaceRoot, takeProg, heapTest}
 use Rattle.method_spec.specs.Call.{program}
 use Rattle.run_laws.specs.HeapWithin.{heap-tested}
-use Rattle.heap_laws.specs.Ways.{along, along-up, along-turn, along-way}
+use Rattle.run_laws.specs.HeapWays.{along, along-up, along-turn, along-way}
 use Rattle.none_lost_laws.specs.Yields.{Yields, ends, asks, yields-pick, yields-when, yields-then, yields-keep}
 use Rattle.none_lost_laws.specs.Given.{RootFor, Given, Leads, at-root, at-side}
 use Rattle.none_lost_laws.specs.Growing.{Sought}

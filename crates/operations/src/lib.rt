@@ -1,6 +1,8 @@
 // What the operations of the structures share.
+use operation_spec::Answer;
 use operation_spec::Bound;
 use operation_spec::From;
+use operation_spec::Outcome;
 use operation_spec::Want;
 use slot_spec::Link;
 ghost use mathlib.Core.Path.{_≡_};
@@ -29,4 +31,16 @@ pub fn one_less(entries: u16) -> u16
         return 0;
     }
     entries - 1
+}
+
+// A step that makes no nodes.
+pub fn no_nodes(root: Link, entries: u16, answer: Answer) -> Outcome
+    ensures { λ r. ⌜ r ≡ record { made = 0; root = root; entries = entries; answer = answer } ⌝ }
+{
+    Outcome {
+        made: 0,
+        root,
+        entries,
+        answer,
+    }
 }

@@ -6,6 +6,7 @@ pub mod MapNatural
 pub mod HeapNatural
 pub mod Leaves
 pub mod RoundsLaws
+pub mod HeapWays
 pub mod HeapWithin
 pub mod EnoughRounds
 pub mod Calls

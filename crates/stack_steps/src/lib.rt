@@ -6,6 +6,7 @@ use operation_spec::Answer;
 use operation_spec::Outcome;
 use operation_spec::Want;
 use operation_spec::Wanted;
+use operations::no_nodes;
 use operations::one_less;
 use operations::start;
 use slot_fields::no_link;
@@ -36,12 +37,7 @@ pub fn push(
     ensures { λ r. ⌜ ((ns : List (method.Node ℕ)) → toOutcome r (nodesOf (heldIn (now (made .exit)) (r .made))) ≡ outcomeOf (toLink root) entries (resume (pushProg 0 value tag entries limit (toLink root)) ns)) × ((r .made ≤ 1) × (length (now (made .exit)) ≡ words)) ⌝ }
 {
     if entries >= limit {
-        return Outcome {
-            made: 0,
-            root,
-            entries,
-            answer: Answer::Full,
-        };
+        return no_nodes(root, entries, Answer::Full);
     }
     let more = entries + 1;
     let key = more as u32;
@@ -86,29 +82,14 @@ pub fn pop(entries: u16, root: Link, held: &[u64; ROW], count: usize) -> Outcome
     ensures { λ r. ⌜ (toOutcome r [] ≡ outcomeOf (toLink root) entries (resume (popProg entries (toLink root)) (nodesOf (heldIn (now (held .entry)) count)))) × (r .made ≡ 0) ⌝ }
 {
     if root.height == 0 {
-        return Outcome {
-            made: 0,
-            root,
-            entries,
-            answer: Answer::Empty,
-        };
+        return no_nodes(root, entries, Answer::Empty);
     }
     if count == 0 {
-        return Outcome {
-            made: 0,
-            root,
-            entries,
-            answer: Answer::Absent,
-        };
+        return no_nodes(root, entries, Answer::Absent);
     }
     let n = node_at(held, 0);
     let link = n.left;
-    Outcome {
-        made: 0,
-        root: link,
-        entries: one_less(entries),
-        answer: Answer::Popped(n.value),
-    }
+    no_nodes(link, one_less(entries), Answer::Popped(n.value))
 }
 
 // The stack's fetch test: no right link, and a left link of height 1 to the key before, absent exactly at key 1.

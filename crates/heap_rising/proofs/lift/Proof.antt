@@ -6,11 +6,6 @@ use native.Mathlib.Omega.{arith}
 use borrow.Author.Needs.{needs}
 use Rattle.heap_rising.proofs.lift.Statement.{statement}
 use Rattle.heap_rising.proofs.lift.Tie as tie
-use Rattle.heap_rising.proofs.lift.Reads as reads
-use Rattle.heap_rising.proofs.lift.Lts as lts
-use Rattle.heap_descent.proofs.nodes.link_one.Reads as link-one-reads
-use Rattle.heap_descent.proofs.nodes.with_value.Reads as with-value-reads
-use Rattle.map_nodes.proofs.sides.with_child.Reads as with-child-reads
 
 link-one-requires : tie.Need-link-one-requires
 link-one-requires c κs = search needs
@@ -28,13 +23,13 @@ returns : tie.Need-returns
 returns c =
     let a = c .before .before .before .before .before .before .before .before .args in
     lift-on (toNode (a .n)) (toNode (a .p)) (a .left) (c .before .before .before .before .before .before .with-child .ensures ∙ ap (withChild (a .left) (toNode (a .p))) (c .before .before .before .before .before .before .before .link-one .ensures))
-    (c .before .before .before .before .before .if1 .taken) (c .before .before .if2 .taken) (c .before .with-value .ensures) (c .with-value2 .ensures)
+    (c .before .before .before .before .before .if1 .taken) (omega (arith, c .before .before .if2 .taken)) (c .before .with-value .ensures) (c .with-value2 .ensures)
 
 returns-2 : tie.Need-returns-2
 returns-2 c =
     let a = c .before .before .before .before .before .before .args in
     lift-rests (toNode (a .n)) (toNode (a .p)) (a .left) (c .before .before .before .before .with-child .ensures ∙ ap (withChild (a .left) (toNode (a .p))) (c .before .before .before .before .before .link-one .ensures))
-    (c .before .before .before .if1 .taken) (c .if2 .left) refl
+    (c .before .before .before .if1 .taken) (omega (arith, c .if2 .left)) refl
 
 returns-3 : tie.Need-returns-3
 returns-3 c =

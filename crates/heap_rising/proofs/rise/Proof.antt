@@ -9,12 +9,6 @@ use borrow.Author.Needs.{needs}
 use native.Mathlib.Omega.{arith}
 use Rattle.heap_rising.proofs.rise.Statement.{statement}
 use Rattle.heap_rising.proofs.rise.Tie as tie
-use Rattle.heap_rising.proofs.rise.Reads as reads
-use Rattle.heap_rising.proofs.rise.Lts as lts
-use Rattle.heap_descent.proofs.way.goes_left.Reads as goes-left-reads
-use Rattle.heap_rising.proofs.lift.Reads as lift-reads
-use Rattle.node_rows.proofs.node_at.Reads as node-at-reads
-use Rattle.node_rows.proofs.set_node.Reads as set-node-reads
 
 abbrev Inv-loop : tie.InvT-loop
 Inv-loop way held made₀ top₀ rising₀ done₀ i₀ made top rising done i =

@@ -6,18 +6,16 @@ use native.Mathlib.Omega.{arith}
 use borrow.Author.Needs.{needs}
 use Rattle.heap_steps.proofs.add.Statement.{statement}
 use Rattle.heap_steps.proofs.add.Tie as tie
-use Rattle.heap_steps.proofs.add.Reads as reads
-use Rattle.heap_steps.proofs.add.Lts as lts
-use Rattle.heap_descent.proofs.nodes.link_one.Reads as link-one-reads
-use Rattle.heap_descent.proofs.way.way_to.Reads as way-to-reads
-use Rattle.heap_rising.proofs.rise.Reads as rise-reads
-use Rattle.slot_fields.proofs.no_link.Reads as no-link-reads
+
+no-nodes-requires : tie.Need-no-nodes-requires
+no-nodes-requires c κs = search needs
 
 returns : tie.Need-returns
 returns c =
-    let s = c .before in
-    let a = s .args in (
-      rw (add-full (a .value) (a .tag) (a .entries) (a .limit) (toLink (a .root)) (nodesOf (heldIn (a .held .now) (a .count))) (c .if1 .taken)),
+    let s = c .before .before in
+    let a = s .args in
+    rw (c .no-nodes .ensures) (
+      rw (add-full (a .value) (a .tag) (a .entries) (a .limit) (toLink (a .root)) (nodesOf (heldIn (a .held .now) (a .count))) (c .before .if1 .taken)),
       (omega arith, s .pre .1),
     )
 
@@ -27,12 +25,16 @@ add-more c = search needs
 way-to-requires : tie.Need-way-to-requires
 way-to-requires c κs = search needs
 
+no-nodes-requires-2 : tie.Need-no-nodes-requires-2
+no-nodes-requires-2 c κs = search needs
+
 returns-2 : tie.Need-returns-2
 returns-2 c =
-    let s = c .before .before .before .before in
+    let s = c .before .before .before .before .before in
     let a = s .args in
-    let way = c .before .before .way-to in (
-      rw (add-stops (a .value) (a .tag) (a .entries) (a .limit) (a .root) (a .held .now) (a .count) (s .pre .0) (s .pre .2) (c .before .before .before .if1 .left) (way .result) (way .ensures .0) (way .ensures .1) (c .if2 .taken)),
+    let way = c .before .before .before .way-to in
+    rw (c .no-nodes2 .ensures) (
+      rw (add-stops (a .value) (a .tag) (a .entries) (a .limit) (a .root) (a .held .now) (a .count) (s .pre .0) (s .pre .2) (c .before .before .before .before .if1 .left) (way .result) (way .ensures .0) (way .ensures .1) (c .before .if2 .taken)),
       (omega arith, s .pre .1),
     )
 
@@ -63,9 +65,11 @@ pub add-spec : {M : Type 1} → statement M
 add-spec =
     tie.close
     (tie.spec
+    no-nodes-requires
     returns
     add-more
     way-to-requires
+    no-nodes-requires-2
     returns-2
     no-link-requires
     cast-t17

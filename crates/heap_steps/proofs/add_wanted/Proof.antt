@@ -7,15 +7,6 @@ use native.Mathlib.Omega.{arith}
 use borrow.Author.Needs.{needs}
 use Rattle.heap_steps.proofs.add_wanted.Statement.{statement}
 use Rattle.heap_steps.proofs.add_wanted.Tie as tie
-use Rattle.heap_steps.proofs.add_wanted.Reads as reads
-use Rattle.heap_steps.proofs.add_wanted.Lts as lts
-use Rattle.heap_descent.proofs.way.next_on.Reads as next-on-reads
-use Rattle.heap_descent.proofs.way.way_to.Reads as way-to-reads
-
-returns : tie.Need-returns
-returns c =
-    let a = c .before .args in
-    λ value tag. rw (add-full value tag (a .entries) (a .limit) (toLink (a .root)) (nodesOf (heldIn (a .held .now) (a .count))) (c .if1 .taken))
 
 add-way-to : tie.Need-add-way-to
 add-way-to c = search needs
@@ -23,24 +14,30 @@ add-way-to c = search needs
 way-to-requires : tie.Need-way-to-requires
 way-to-requires c κs = search needs
 
+next-on-requires : tie.Need-next-on-requires
+next-on-requires c κs = search needs
+
+returns : tie.Need-returns
+returns c =
+    let s = c .before .before .before .before .before in
+    let a = s .args in
+    let way = c .before .before .before .way-to in
+    λ value tag. rw (add-stops value tag (a .entries) (a .limit) (a .root) (a .held .now) (a .count) (s .pre .0) (s .pre .1) (omega (arith, c .before .before .before .before .if1 .taken)) (way .result) (way .ensures .0) (way .ensures .1) (c .before .if2 .taken))
+    (ap some (c .next-on .ensures))
+
 returns-2 : tie.Need-returns-2
 returns-2 c =
     let s = c .before .before .before .before in
     let a = s .args in
     let way = c .before .before .way-to in
-    λ value tag. sym (add-ends value tag (a .entries) (a .limit) (a .root) (a .held .now) (a .count) (s .pre .0) (s .pre .1) (c .before .before .before .if1 .left) (way .result) (way .ensures .0) (way .ensures .1) (c .if2 .taken))
-
-next-on-requires : tie.Need-next-on-requires
-next-on-requires c κs = search needs
+    λ value tag. sym (add-ends value tag (a .entries) (a .limit) (a .root) (a .held .now) (a .count) (s .pre .0) (s .pre .1) (omega (arith, c .before .before .before .if1 .taken)) (way .result) (way .ensures .0) (way .ensures .1) (c .if2 .left))
 
 returns-3 : tie.Need-returns-3
 returns-3 c =
-    let s = c .before .before .before .before .before in
+    let s = c .before in
     let a = s .args in
-    let way = c .before .before .before .way-to in
-    λ value tag. rw (add-stops value tag (a .entries) (a .limit) (a .root) (a .held .now) (a .count) (s .pre .0) (s .pre .1) (c .before .before .before .before .if1 .left) (way .result) (way .ensures .0) (way .ensures .1) (c .before .if2 .left))
-    (ap some (c .next-on .ensures))
+    λ value tag. rw (add-full value tag (a .entries) (a .limit) (toLink (a .root)) (nodesOf (heldIn (a .held .now) (a .count))) (omega (arith, c .if1 .left)))
 
 pub add-wanted-spec : {M : Type 1} → statement M
 add-wanted-spec =
-    tie.close (tie.spec returns add-way-to way-to-requires returns-2 next-on-requires returns-3)
+    tie.close (tie.spec add-way-to way-to-requires next-on-requires returns returns-2 returns-3)

@@ -3,16 +3,9 @@ use mathlib.Core.Option.{some}
 use Rattle.leaf_spec.specs.Convert.{toLink}
 use Rattle.node_rows.specs.Held.{heldIn, nodesOf}
 use Rattle.heap_steps.specs.TakeLaws.{take-empty, take-stops, take-last, take-wants}
-use native.Mathlib.Omega.{arith}
 use borrow.Author.Needs.{needs}
 use Rattle.heap_steps.proofs.take_wanted.Statement.{statement}
 use Rattle.heap_steps.proofs.take_wanted.Tie as tie
-use Rattle.heap_steps.proofs.take_wanted.Reads as reads
-use Rattle.heap_steps.proofs.take_wanted.Lts as lts
-use Rattle.heap_descent.proofs.way.next_on.Reads as next-on-reads
-use Rattle.heap_descent.proofs.way.way_to.Reads as way-to-reads
-use Rattle.heap_sinking.proofs.sink.sink.Reads as sink-reads
-use Rattle.node_rows.proofs.node_at.Reads as node-at-reads
 
 returns : tie.Need-returns
 returns c =

@@ -7,7 +7,7 @@ use Rattle.map_steps.proofs.map_step.Reads as reads
 use Rattle.map_steps.proofs.map_step.Lts as lts
 use Rattle.map_ascent.proofs.climb.Reads as climb-reads
 use Rattle.map_steps.proofs.finish.Reads as finish-reads
-use Rattle.map_steps.proofs.no_nodes.Reads as no-nodes-reads
+use Rattle.operations.proofs.no_nodes.Reads as no-nodes-reads
 
 enum-told : tie.Need-enum-told
 enum-told c = search needs

@@ -6,16 +6,17 @@ use Rattle.stack_steps.specs.StackLaws.{push-full, push-one}
 use borrow.Author.Needs.{needs}
 use Rattle.stack_steps.proofs.push.Statement.{statement}
 use Rattle.stack_steps.proofs.push.Tie as tie
-use Rattle.stack_steps.proofs.push.Reads as reads
-use Rattle.stack_steps.proofs.push.Lts as lts
-use Rattle.node_rows.proofs.set_node.Reads as set-node-reads
-use Rattle.slot_fields.proofs.no_link.Reads as no-link-reads
+
+no-nodes-requires : tie.Need-no-nodes-requires
+no-nodes-requires c κs = search needs
 
 returns : tie.Need-returns
 returns c =
-    let a = c .before .args in (
-      λ ns. rw (push-full (a .value) (a .tag) (a .entries) (a .limit) (toLink (a .root)) ns (c .if1 .taken)),
-      (omega arith, c .before .pre),
+    let s = c .before .before in
+    let a = s .args in
+    rw (c .no-nodes .ensures) (
+      λ ns. rw (push-full (a .value) (a .tag) (a .entries) (a .limit) (toLink (a .root)) ns (c .before .if1 .taken)),
+      (omega arith, s .pre),
     )
 
 add-more : tie.Need-add-more
@@ -45,4 +46,4 @@ returns-2 c =
 
 pub push-spec : {M : Type 1} → statement M
 push-spec =
-    tie.close (tie.spec returns add-more cast-key no-link-requires set-node-requires returns-2)
+    tie.close (tie.spec no-nodes-requires returns add-more cast-key no-link-requires set-node-requires returns-2)

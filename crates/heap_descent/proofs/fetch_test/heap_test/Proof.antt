@@ -2,13 +2,9 @@ use mathlib.Core.Path.{sym, _∙_}
 use Rattle.leaf_spec.specs.Convert.{toNode}
 use Rattle.operation_spec.specs.Method.{toWant}
 use Rattle.heap_descent.specs.FetchTestLaws.{left-link-bad, left-link-good}
-use native.Mathlib.Omega.{arith}
 use borrow.Author.Needs.{needs}
 use Rattle.heap_descent.proofs.fetch_test.heap_test.Statement.{statement}
 use Rattle.heap_descent.proofs.fetch_test.heap_test.Tie as tie
-use Rattle.heap_descent.proofs.fetch_test.heap_test.Reads as reads
-use Rattle.heap_descent.proofs.fetch_test.heap_test.Lts as lts
-use Rattle.heap_descent.proofs.fetch_test.link_good.Reads as link-good-reads
 
 cast-position : tie.Need-cast-position
 cast-position c = search needs

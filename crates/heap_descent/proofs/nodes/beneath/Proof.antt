@@ -1,10 +1,6 @@
-use native.Mathlib.Omega.{arith}
 use borrow.Author.Needs.{needs}
 use Rattle.heap_descent.proofs.nodes.beneath.Statement.{statement}
 use Rattle.heap_descent.proofs.nodes.beneath.Tie as tie
-use Rattle.heap_descent.proofs.nodes.beneath.Reads as reads
-use Rattle.heap_descent.proofs.nodes.beneath.Lts as lts
-use Rattle.map_nodes.proofs.sides.child_link.Reads as child-link-reads
 
 child-link-requires : tie.Need-child-link-requires
 child-link-requires c κs = search needs

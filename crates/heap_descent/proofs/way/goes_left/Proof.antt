@@ -3,8 +3,6 @@ use Rattle.heap_descent.specs.WayLaws.{way-turn, way-beyond}
 use borrow.Author.Needs.{needs}
 use Rattle.heap_descent.proofs.way.goes_left.Statement.{statement}
 use Rattle.heap_descent.proofs.way.goes_left.Tie as tie
-use Rattle.heap_descent.proofs.way.goes_left.Reads as reads
-use Rattle.heap_descent.proofs.way.goes_left.Lts as lts
 
 returns : tie.Need-returns
 returns c =

@@ -7,12 +7,6 @@ use Rattle.heap_descent.specs.WayLaws.{want-first, want-next}
 use borrow.Author.Needs.{needs}
 use Rattle.heap_descent.proofs.way.next_on.Statement.{statement}
 use Rattle.heap_descent.proofs.way.next_on.Tie as tie
-use Rattle.heap_descent.proofs.way.next_on.Reads as reads
-use Rattle.heap_descent.proofs.way.next_on.Lts as lts
-use Rattle.heap_descent.proofs.nodes.beneath.Reads as beneath-reads
-use Rattle.heap_descent.proofs.way.goes_left.Reads as goes-left-reads
-use Rattle.node_rows.proofs.node_at.Reads as node-at-reads
-use Rattle.operations.proofs.start.Reads as start-reads
 
 start-requires : tie.Need-start-requires
 start-requires c κs = search needs

@@ -2,12 +2,9 @@ use Prim.Native.Nat.{_/_}
 use mathlib.Core.Path.{refl}
 use lib.Count.{leading-le}
 use Rattle.heap_descent.specs.WayLaws.{way-leads}
-use native.Mathlib.Omega.{arith}
 use borrow.Author.Needs.{needs}
 use Rattle.heap_descent.proofs.way.way_to.Statement.{statement}
 use Rattle.heap_descent.proofs.way.way_to.Tie as tie
-use Rattle.heap_descent.proofs.way.way_to.Reads as reads
-use Rattle.heap_descent.proofs.way.way_to.Lts as lts
 
 cast-zeros : tie.Need-cast-zeros
 cast-zeros c = search needs

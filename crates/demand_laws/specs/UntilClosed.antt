@@ -12,8 +12,6 @@ use lib.ListN.{length, drop}
 use lib.Pow.{pow-pos}
 use borrow.Author.Tests.{eqb-true, eqb-false}
 use Rattle.list_spec.specs.Choice.{pick}
-use Rattle.list_spec.specs.Perm.{Perm, trans}
-use Rattle.list_laws.specs.PermLaws.{perm-sym}
 use Rattle.list_spec.specs.Distinct.{All}
 use Rattle.list_laws.specs.DistinctLaws.{all-left, all-right}
 use Rattle.slot_spec.specs.LittleEndian.{Bytes}

@@ -2,7 +2,7 @@
 use Prim.Native.Nat.{ℕ, zero, suc, _+_, _*_, _-_, _/_, _%_, _^_, _≤_, _<_}
 use native.Mathlib.Omega.{arith}
 use native.Mathlib.Decide.{decLt}
-use mathlib.Core.Path.{_≡_, refl, sym, _∙_, ap}
+use mathlib.Core.Path.{_≡_, refl, _∙_, ap}
 use mathlib.Core.Bool.{Bool, true}
 use mathlib.Core.List.{List, [], _∷_, _++_}
 use lib.Dec.{eqb}
@@ -10,12 +10,11 @@ use lib.ListN.{length, drop, length-append, drop-of-length-le, List·getD-append
 use lib.Seq.{drop-cons, getD-append-add}
 use lib.Pow.{pow-mono}
 use lib.Count.{leadingZeros, leading-length}
-use borrow.Author.Tests.{le-leb, lt-leb}
 use Rattle.slot_spec.specs.Tree.{halved}
 use Rattle.slot_laws.specs.TreeLaws.{halved-none, halved-more, halved-shift}
 use Rattle.method_spec.specs.Node.{Node}
 use Rattle.method_spec.specs.Prog.{Want}
-use Rattle.method_spec.specs.Heap.{Pass, turnsTo, wayTo, beneath, descend}
+use Rattle.method_spec.specs.Heap.{Pass, wayTo, beneath, descend}
 use Rattle.run_laws.specs.HeapWays.{way-none, way-last}
 use Rattle.operation_spec.specs.Resume.{missing, finished, resume}
 use Rattle.operations.specs.ResumeLaws.{resume-done, resume-want, resume-missing}

@@ -1,16 +1,14 @@
 -- An add to a heap is safe, keeps its invariant, and answers as the plain heap does.
 use mathlib.Core.Path.{_≡_, refl, sym, _∙_, ap}
-use mathlib.Core.Bool.{Bool, true, false}
+use mathlib.Core.Bool.{true, false}
 use mathlib.Core.List.{List, [], _∷_, _++_, append-nil}
-use Prim.Native.Nat.{ℕ, suc, _≤_, _<_}
+use Prim.Native.Nat.{ℕ, suc, _<_}
 use native.Mathlib.Omega.{arith}
-use lib.Dec.{ltb, leb}
+use lib.Dec.{ltb}
 use lib.ListN.{length}
-use borrow.Author.Tests.{ltb-true, leb-true, leb-false}
-use Rattle.list_spec.specs.Choice.{pick}
-use Rattle.list_spec.specs.Perm.{Perm, cons, swap, trans}
-use Rattle.list_laws.specs.PermLaws.{perm-refl, perm-sym, perm-length, perm-append-left}
-use Rattle.list_laws.specs.DistinctLaws.{all-nil, all-cons, all-perm}
+use borrow.Author.Tests.{ltb-true}
+use Rattle.list_spec.specs.Perm.{Perm, cons, trans}
+use Rattle.list_laws.specs.PermLaws.{perm-refl, perm-sym, perm-append-left}
 use Rattle.balance_spec.specs.Tree.{Tree, leaf, node}
 use Rattle.method_spec.specs.Node.{Node, linkOne}
 use Rattle.method_spec.specs.Answer.{add, added, full}
@@ -24,39 +22,12 @@ use Rattle.run_laws.specs.SafeLaws.{safe-pick, safe-then}
 use Rattle.run_laws.specs.Calls.{memoryOf}
 use Rattle.run_laws.specs.Answers.{StepsTo}
 use Rattle.run_laws.specs.StackRepresents.{countdown, Cell}
-use Rattle.heap_laws.specs.HeapTree.{Complete, Sorted, numbersIn, positionsIn, Frame, bare, plug, position, heapLink, heapNodes, HoldsHeap, aside, Passes, Came}
+use Rattle.heap_laws.specs.HeapTree.{Complete, numbersIn, positionsIn, Frame, bare, plug, position, heapLink, heapNodes, HoldsHeap, aside, Passes, Came}
+use Rattle.heap_laws.specs.Collections.{enter-perm, enter-length, enter-sorted}
 use Rattle.heap_laws.specs.Plugs.{complete-same, positions-same, complete-part, complete-one, numbers-one, positions-one}
 use Rattle.heap_laws.specs.Order.{Fits, Spread, ordered-split}
 use Rattle.heap_laws.specs.Descend.{descend-safe}
 use Rattle.heap_laws.specs.Rising.{Risen, rise-stored, rise-tags, topmost-link}
-
--- ---- the plain heap
-
-pub enter-perm : (v : ℕ) (vs : List ℕ) → Perm (enter v vs) (v ∷ vs)
-unfolding enter
-enter-perm v [] = perm-refl (v ∷ [])
-enter-perm v (w ∷ ws) = go (leb v w) (enter-perm v ws)
-  where
-    go : (b : Bool) → Perm (enter v ws) (v ∷ ws) → Perm (pick b (v ∷ w ∷ ws) (w ∷ enter v ws)) (v ∷ w ∷ ws)
-    go true p = perm-refl (v ∷ w ∷ ws)
-    go false p = trans (cons w p) (swap w v ws)
-
-pub enter-length : (v : ℕ) (vs : List ℕ) → length (enter v vs) ≡ suc (length vs)
-enter-length v vs = perm-length (enter-perm v vs)
-
-pub enter-sorted : (v : ℕ) (vs : List ℕ) → Sorted vs → Sorted (enter v vs)
-unfolding enter
-enter-sorted v [] h = (all-nil (λ w. v ≤ w), tt)
-enter-sorted v (w ∷ ws) h = go (leb v w) refl (enter-sorted v ws (h .1))
-  where
-    go : (b : Bool) → leb v w ≡ b → Sorted (enter v ws) → Sorted (pick b (v ∷ w ∷ ws) (w ∷ enter v ws))
-    go true t s =
-        let le = leb-true v w t in
-        (all-cons {P = λ x. v ≤ x} le (λ x m. omega (arith, h .0 x m)), h)
-    go false t s =
-        let le = leb-false v w t in
-        let less : w ≤ v = omega arith in
-        (all-perm {P = λ x. w ≤ x} (perm-sym (enter-perm v ws)) (all-cons {P = λ x. w ≤ x} less (h .0)), s)
 
 module _ {T : Type 0} (nil : T) where
   -- What an add of the cell c makes, where its way passed those nodes.

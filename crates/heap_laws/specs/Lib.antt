@@ -1,4 +1,5 @@
 pub mod HeapTree
+pub mod Collections
 pub mod HeapFacts
 pub mod Plugs
 pub mod Order

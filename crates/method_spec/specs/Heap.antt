@@ -1,5 +1,5 @@
--- The heap's walk and step. Position i is the node with key i; its links, of height 1, lead to positions 2i and 2i + 1. Numbers
--- move between nodes; keys, tags and links stay with their positions.
+-- The heap's walk and step (document 02, change 1). Position i is the node with key i; its links, of height 1, lead to positions
+-- 2i and 2i + 1. Numbers move between nodes; keys, tags and links stay with their positions.
 use Prim.Native.Nat.{ℕ, zero, suc, pred, _*_, _/_, _%_}
 use mathlib.Core.Bool.{Bool, true, false, _&&_}
 use mathlib.Core.List.{List, [], _∷_, _++_, map}
@@ -37,16 +37,18 @@ pub record Reached (T : Type 0) : Type 0 where
   pub end : Want T
   pub path : List (Pass T)
 
--- The smaller of the children, with the rest of the way from it that is at hand, and what is at hand on the other side; or there is no child.
+-- The smaller child, the rest of the way from it that is at hand, and what is at hand on the other side; or there is no child.
 pub data Lower (T : Type 0) : Type 0 where
   childless : Lower T
   lower : Pass T → List (Pass T) → List (Pass T) → Lower T
 
 module _ {T : Type 0} where
   -- ---- the way down
+  -- The link on a side of a node, as a wanted one.
   abbrev pub beneath : Node T → Bool → Want T
   beneath n s = record { link = child s n; from = side (n .key) s; low = none; high = none }
 
+  -- Each node on the way is fetched, from the root down, but for the one where it ends.
   unfoldable pub descend : List Bool → Want T → List (Pass T) → Prog T (Reached T)
   descend [] w path = done (record { end = w; path = path })
   descend (s ∷ turns) w path = want w (λ n. descend turns (beneath n s) (record { node = n; way = s } ∷ path))
@@ -78,7 +80,8 @@ module _ {T : Type 0} where
   newNode nil value tag entries =
       record { key = suc entries; value = value; tag = tag; left = absent nil; right = absent nil }
 
-  -- A full heap's add fetches none.
+  -- "Add fetches the path to the new position's parent and moves the value up while it is smaller than the parent's. A full
+  -- heap's add fetches none."
   unfoldable pub addProg : (nil : T) (value : ℕ) (tag : T) (entries limit : ℕ) → Link T → Prog T (Outcome T)
   addProg nil value tag entries limit l =
       let new = newNode nil value tag entries in
@@ -89,7 +92,7 @@ module _ {T : Type 0} where
       (done (record { nodes = []; root = l; entries = entries; answer = full }))
 
   -- ---- take
-  -- The nodes of a way, the root first, each with its link to the next; where the way ended the link is l.
+  -- The nodes of a way, given nearest first, now the root first, each with its link to the next; where the way ended the link is l.
   unfoldable pub downward : Link T → List (Pass T) → List (Pass T) → List (Pass T)
   downward l [] below = below
   downward l (p ∷ path) below =
@@ -124,8 +127,9 @@ module _ {T : Type 0} where
       (bind (further c below) (λ out. done (withValue (c .node .value) n ∷ (passed others ++ out))))
       (done (withValue v n ∷ (passed a ++ passed b)))
 
-  -- The number v sinks from the node of p, whose own number has left it; `below` is what is at hand of the way from there. Both children are fetched
-  -- before anything is compared. The fuel is the number of levels below p. What is made: the nodes of that part of the heap that were at hand.
+  -- The number v sinks from the node of p, whose own number has left it; `below` is what is at hand of the way from there. Both
+  -- children are fetched, left then right, before anything is compared. The fuel is the number of levels below p. What is made:
+  -- the nodes of that part of the heap that were at hand or fetched.
   unfoldable pub sink : (fuel v : ℕ) → Pass T → List (Pass T) → Prog T (List (Node T))
   sink zero v p below = done (withValue v (p .node) ∷ passed below)
   sink (suc fuel) v p below =
@@ -133,7 +137,7 @@ module _ {T : Type 0} where
       (λ a. bind (childOf (beneath (p .node) false) (pick (p .way) [] below))
       (λ b. sunk (sink fuel v) v (above true a (above false b (p .node))) a b (smaller a b)))
 
-  -- The last position's node z has left, and its number sinks from the first node of the way to it.
+  -- The last position's node z has left, and its number sinks from the root, the first node of the way to it; or z was the root.
   unfoldable pub replaceRoot : (nil : T) (entries : ℕ) → Node T → List (Pass T) → Prog T (Outcome T)
   replaceRoot nil entries z [] = done (record { nodes = []; root = absent nil; entries = pred entries; answer = taken (z .value) })
   replaceRoot nil entries z (p ∷ below) =
@@ -141,6 +145,8 @@ module _ {T : Type 0} where
       (λ out. done
       (record { nodes = out; root = linkOne (p .node); entries = pred entries; answer = taken (p .node .value) }))
 
+  -- "Take fetches the path to the last position, moves that value to the root, and sinks it": the last node leaves, and its
+  -- parent's link to it becomes absent.
   unfoldable pub takeProg : (nil : T) (entries : ℕ) → Link T → Prog T (Outcome T)
   takeProg nil entries l =
       pick (eqb entries 0) (done (record { nodes = []; root = l; entries = entries; answer = empty }))
@@ -152,6 +158,7 @@ module _ {T : Type 0} where
   abbrev pub linkGood : (entries i : ℕ) → Link T → Bool
   linkGood entries i l = pick (leb i entries) (eqb (l .height) 1 && eqb (l .key) i) (eqb (l .height) 0)
 
+  -- For a store that has so many entries as the call starts.
   unfoldable pub heapTest : (entries : ℕ) → Want T → Node T → Bool
   heapTest entries w n =
       linkGood entries (childPosition true (n .key)) (n .left) && linkGood entries (childPosition false (n .key)) (n .right)

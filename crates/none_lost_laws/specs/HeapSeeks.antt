@@ -1,8 +1,8 @@
 -- The heap's programs, on any content: each link that is followed is present where it stands, the root link or that of a node given before.
-use mathlib.Core.Path.{_≡_, refl, sym, _∙_, subst}
+use mathlib.Core.Path.{_≡_, refl, _∙_, subst}
 use mathlib.Core.Bool.{Bool, true, false}
 use mathlib.Core.List.{List, [], _∷_, List·Memᴰ, List·Memᴰ·head, List·Memᴰ·tail}
-use Prim.Native.Nat.{ℕ, zero, suc, _≤_, _<_}
+use Prim.Native.Nat.{ℕ, zero, suc, _≤_}
 use native.Mathlib.Nat.{le-refl}
 use native.Mathlib.Omega.{arith}
 use lib.Dec.{eqb, ltb, leb}
@@ -16,7 +16,7 @@ use Rattle.method_spec.specs.Prog.{Want, Prog}
 use Rattle.method_spec.specs.Answer as answer
 use Rattle.method_spec.specs.Answer.{Op}
 use Rattle.method_spec.specs.Map.{start}
-use Rattle.method_spec.specs.Heap.{childPosition, Pass, Lower, childless, lower, wayTo, beneath, descend, addProg, downward, childOf, smaller, above, sunk, sink, replaceRoot, takeProg, heapTest}
+use Rattle.method_spec.specs.Heap.{childPosition, Pass, lower, wayTo, beneath, descend, addProg, downward, childOf, smaller, above, sunk, sink, replaceRoot, takeProg, heapTest}
 use Rattle.method_spec.specs.Call.{program}
 use Rattle.run_laws.specs.HeapWithin.{heap-tested}
 use Rattle.run_laws.specs.HeapWays.{along, along-up, along-turn, along-way}

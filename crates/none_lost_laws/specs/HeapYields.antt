@@ -3,7 +3,7 @@
 use mathlib.Core.Path.{_≡_, refl, _∙_, ap}
 use mathlib.Core.Bool.{Bool, true, false}
 use mathlib.Core.List.{List, [], _∷_, _++_, append-nil, map-append, List·Memᴰ·head, List·Memᴰ·tail}
-use Prim.Native.Nat.{ℕ, zero, suc, _+_, _*_, _^_, _≤_, _<_}
+use Prim.Native.Nat.{ℕ, zero, suc, _+_, _^_, _≤_, _<_}
 use native.Mathlib.Omega.{arith}
 use lib.Dec.{eqb, ltb, leb}
 use lib.ListN.{length}
@@ -19,13 +19,13 @@ use Rattle.method_spec.specs.Answer as answer
 use Rattle.method_spec.specs.Answer.{Op}
 use Rattle.method_spec.specs.Plain.{Pair}
 use Rattle.method_spec.specs.Map.{Outcome, start}
-use Rattle.method_spec.specs.Heap.{Pass, Reached, Lower, childless, lower, wayTo, beneath, descend, over, settled, rise, topmost, newNode, addProg, downward, passed, childOf, smaller, above, sunk, sink, replaceRoot, takeProg, heapTest}
+use Rattle.method_spec.specs.Heap.{Pass, Lower, childless, lower, wayTo, beneath, descend, over, settled, rise, topmost, newNode, addProg, downward, passed, childOf, smaller, above, sunk, sink, replaceRoot, takeProg, heapTest}
 use Rattle.method_spec.specs.Call.{program}
 use Rattle.run_laws.specs.HeapWithin.{heap-tested}
 use Rattle.leaf_spec.specs.Entries.{pairOf, OpFits}
 use Rattle.none_lost_laws.specs.Fitting.{LinkFits, NodeFits, link-more, absent-fits, child-fits, with-child-fits, with-value-fits, proper-node}
-use Rattle.none_lost_laws.specs.Yields.{ends, asks, yields-map, yields-pick, yields-then}
-use Rattle.none_lost_laws.specs.AtHand.{pairsOf, pair-with-child}
+use Rattle.none_lost_laws.specs.Yields.{ends, asks, yields-pick, yields-then}
+use Rattle.none_lost_laws.specs.AtHand.{pairsOf}
 use Rattle.none_lost_laws.specs.Given.{Given, YieldsBy}
 use Rattle.none_lost_laws.specs.Changes.{keyIn, valueIn, takenOut, broughtIn, Answers, add-added, add-full, take-taken, take-empty, mostHigh, seen, seenIn, Made}
 

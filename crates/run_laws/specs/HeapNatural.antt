@@ -1,19 +1,19 @@
 -- The heap's programs are natural in the tags: what they decide depends on keys, heights and numbers only.
 use mathlib.Core.Path.{_≡_, refl, _∙_, ap}
 use mathlib.Core.Bool.{Bool, true, false}
-use mathlib.Core.List.{List, [], _∷_, _++_, map, map-append, map-map}
+use mathlib.Core.List.{List, [], _∷_, _++_, map, map-append}
 use Prim.Native.Nat.{ℕ, zero, suc}
 use lib.Dec.{eqb, ltb, leb}
 use lib.ListN.{length, length-map}
 use Rattle.list_spec.specs.Choice.{pick}
 use Rattle.method_spec.specs.Node.{Node, Link, absent, withChild, withValue, linkOne}
-use Rattle.method_spec.specs.Prog.{Want, Prog, done}
+use Rattle.method_spec.specs.Prog.{Want, Prog}
 use Rattle.method_spec.specs.Answer.{heap, add, take}
 use Rattle.method_spec.specs.Map.{start}
 use Rattle.method_spec.specs.Heap.{Pass, Reached, Lower, childless, lower, wayTo, beneath, descend, over, settled, rise, topmost, newNode, addProg, downward, passed, childOf, smaller, above, sunk, sink, replaceRoot, takeProg}
 use Rattle.method_spec.specs.Call.{program}
-use Rattle.run_laws.specs.Natural.{mapLink, mapNode, mapNodes, mapWant, mapOutcome, Same, both-done, both-want, same-bind, same-pick, SameOutcome, Natural}
-use Rattle.run_laws.specs.MapNatural.{child-natural, withChild-natural}
+use Rattle.run_laws.specs.Natural.{mapLink, mapNode, mapNodes, mapWant, Same, both-done, both-want, same-bind, same-pick, SameOutcome, Natural}
+use Rattle.run_laws.specs.MapNatural.{withChild-natural}
 
 module _ {T S : Type 0} (f : T → S) where
   -- ---- what the walk and the step hold

@@ -10,7 +10,7 @@ use lib.ListN.{length, length-append}
 use borrow.Author.Tests.{eqb-true, leb-false}
 use Rattle.list_spec.specs.Choice.{pick}
 use Rattle.method_spec.specs.Node.{Node, Link, absent, child, withChild, linkOne}
-use Rattle.method_spec.specs.Prog.{Want, Prog, done, want, bind}
+use Rattle.method_spec.specs.Prog.{Want, Prog, bind}
 use Rattle.method_spec.specs.Answer.{heap, Op, add, take}
 use Rattle.method_spec.specs.Map.{start}
 use Rattle.method_spec.specs.Heap.{childPosition, linkGood, heapTest, Pass, Lower, childless, lower, turnsTo, wayTo, beneath, descend, addProg, downward, childOf, smaller, above, sunk, sink, replaceRoot, takeProg}

@@ -67,7 +67,7 @@ module _ {T S : Type 0} (f : T → S) where
 
   -- ---- subtrees at hand
 
-  pub child-natural : (s : Bool) (n : Node T) → child s (mapNode f n) ≡ mapLink f (child s n)
+  child-natural : (s : Bool) (n : Node T) → child s (mapNode f n) ≡ mapLink f (child s n)
   child-natural true n = refl
   child-natural false n = refl
 

@@ -23,7 +23,7 @@ use Rattle.method_spec.specs.Call.{capacity, Memory}
 use Rattle.run_laws.specs.StackRepresents.{Cell, chain}
 use Rattle.avl_laws.specs.Search.{Entry, pairs, nodesOf}
 use Rattle.heap_laws.specs.HeapFacts.{heap-entries}
-use Rattle.heap_laws.specs.Adding.{enter-perm, enter-length}
+use Rattle.heap_laws.specs.Collections.{enter-perm, enter-length}
 use Rattle.method_laws.specs.Represented.{Held}
 
 -- ---- within their widths

@@ -10,12 +10,14 @@ use Rattle.balance_spec.specs.Least.{least}
 use Rattle.balance_spec.specs.Shape.{shaped}
 use Rattle.balance_spec.specs.Greatest.{tallest, greatest}
 use Rattle.method_spec.specs.Node.{Link, Node}
+use Rattle.method_spec.specs.Node as node-spec
 use Rattle.method_spec.specs.Prog.{bind}
 use Rattle.method_spec.specs.Answer.{Structure, map, stack, heap, Op, get, put, remove, push, pop, add, take, absent, new, full, pushed, popped, added, taken, empty}
-use Rattle.method_spec.specs.Map.{walk, single, double, turn, raise, climb, unwind, unwound, getStep, getProg, putStep, putProg, lowest, takeOut, removeStep, removeProg}
+use Rattle.method_spec.specs.Map.{start, walk, single, double, turn, raise, climb, unwind, unwound, getStep, getProg, putStep, putProg, lowest, takeOut, removeStep, removeProg}
 use Rattle.method_spec.specs.Stack.{pushProg, popProg}
-use Rattle.method_spec.specs.Heap.{turnsTo, wayTo, descend, settled, rise, topmost, addProg, downward, childOf, sink, replaceRoot, takeProg}
-use Rattle.method_spec.specs.Plain.{plain, plainAnswers, enter, taken-from}
+use Rattle.method_spec.specs.Heap.{turnsTo, wayTo, descend, settled, rise, topmost, addProg, downward, childOf, sink, replaceRoot, takeProg, heapTest}
+use Rattle.list_spec.specs.Perm as perm
+use Rattle.method_spec.specs.Plain.{plain, plainAnswers, enter, taken-from, numbered, Entries}
 use Rattle.method_spec.specs.Rounds.{rounds, spare, putDraw, draws}
 use Rattle.method_spec.specs.Call.{capacity, program, emptyMemory, takeKey, fetches, drawsFrom, stepped, answered, call, run, Ran}
 use Rattle.method_spec.specs.Origin.{drawn, origins, names, leafOf, leafRun}
@@ -222,6 +224,30 @@ plain-heap : plainAnswers 3 (add 3 ∷ add 5 ∷ add 3 ∷ add 9 ∷ take ∷ ta
     ≡ added ∷ added ∷ added ∷ full ∷ taken 3 ∷ taken 3 ∷ taken 5 ∷ empty ∷ []
 unfolding plainAnswers plain enter taken-from
 plain-heap = refl
+
+-- What a plain heap of 1, 3 and 5 holds, as pairs: 5 stands at position 2 and 3 at position 3, as in `rises`.
+plain-pairs : Entries heap (1 ∷ 3 ∷ 5 ∷ [])
+    (record { key = 3; value = 3 } ∷ record { key = 2; value = 5 } ∷ record { key = 1; value = 1 } ∷ [])
+unfolding numbered
+plain-pairs = (
+  3 ∷ 5 ∷ 1 ∷ [],
+  (perm.trans (perm.swap 1 3 (5 ∷ [])) (perm.cons 3 (perm.swap 1 5 [])), perm.cons _ (perm.cons _ (perm.cons _ perm.nil))),
+)
+
+-- The fetch test of position 1 in a heap with 2 entries passes a left link to position 2 and no right one. It refuses both links, no
+-- link, a link to another position, a link of another height, the right one alone.
+abbrev linkAt : ℕ → ℕ → Link ℕ
+linkAt height key = record { height = height; key = key; tag = 3 }
+
+abbrev first : Link ℕ → Link ℕ → Node ℕ
+first left right = record { key = 1; value = 0; tag = 0; left = left; right = right }
+
+heap-tests : list.map (heapTest 2 (start (linkAt 1 1)))
+    (first (linkAt 1 2) (node-spec.absent 0) ∷ first (linkAt 1 2) (linkAt 1 3) ∷ first (node-spec.absent 0) (node-spec.absent 0)
+    ∷ first (linkAt 1 3) (node-spec.absent 0) ∷ first (linkAt 2 2) (node-spec.absent 0) ∷ first (node-spec.absent 0) (linkAt 1 3) ∷ [])
+    ≡ true ∷ false ∷ false ∷ false ∷ false ∷ false ∷ []
+unfolding heapTest
+heap-tests = refl
 
 -- Equal numbers stay: 4 is added below 4. Whole memory: the link to position 2 has its new node's tag, draw 6 of the second call.
 equal-numbers : after 2 (λ d. d) (add 4 ∷ add 4 ∷ []) .memory

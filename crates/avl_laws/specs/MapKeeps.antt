@@ -3,7 +3,7 @@ use mathlib.Core.Path.{_≡_, refl, sym, ap, _∙_}
 use mathlib.Core.Bool.{true, false}
 use mathlib.Core.List.{List, [], _∷_, _++_, append-nil}
 use mathlib.Core.List as list
-use mathlib.Core.Option.{none}
+use mathlib.Core.Option.{none, some}
 use Prim.Native.Nat.{ℕ, suc, pred, _≤_, _<_}
 use native.Mathlib.Omega.{arith}
 use lib.Dec.{ltb}
@@ -16,7 +16,7 @@ use Rattle.method_spec.specs.Node.{Node, absent, withValue}
 use Rattle.method_spec.specs.Prog.{done, bind}
 use Rattle.method_spec.specs.Answer.{map, Op, get, put, remove, Answer, found, replaced, new, removed, full}
 use Rattle.method_spec.specs.Answer as answers
-use Rattle.method_spec.specs.Plain.{Pair, Said, lookup, store, getAnswer, putAnswer, removeAnswer, plain}
+use Rattle.method_spec.specs.Plain.{Pair, Said, lookup, store, put-into, getAnswer, removeAnswer, plain}
 use Rattle.method_spec.specs.Map.{top, Built, Spot, linkOf, nodesAt, start, mapTest, walk, climb, unwind, unwound, finish, getStep, getProg, putStep, putProg, removeStep, removeProg}
 use Rattle.method_spec.specs.Rounds.{spare}
 use Rattle.method_spec.specs.Call.{Memory, program, drawsFrom}
@@ -38,18 +38,24 @@ use Rattle.avl_laws.specs.Holds.{holds-ascending}
 
 -- ---- what the plain machine says of a put
 
-abbrev stored : ℕ → ℕ → List Pair → Said map
-stored key value table = record { contents = store key value table; answer = putAnswer (lookup key table) }
+abbrev stored : ℕ → ℕ → List Pair → Answer → Said map
+stored key value table a = record { contents = store key value table; answer = a }
 
-plain-room : (limit key value : ℕ) (table : List Pair) → ltb (length table) limit ≡ true
-    → plain limit (put key value) table ≡ stored key value table
-unfolding plain
-plain-room limit key value table t = rw t
+module _ (limit key value : ℕ) (table : List Pair) where
+  plain-present : (old : ℕ) → lookup key table ≡ some old
+      → plain limit (put key value) table ≡ stored key value table (replaced old)
+  unfolding plain put-into
+  plain-present old e = rw e
 
-plain-full : (limit key value : ℕ) (table : List Pair) → ltb (length table) limit ≡ false
-    → plain limit (put key value) table ≡ record { contents = table; answer = full }
-unfolding plain
-plain-full limit key value table t = rw t
+  plain-new : lookup key table ≡ none → ltb (length table) limit ≡ true
+      → plain limit (put key value) table ≡ stored key value table new
+  unfolding plain put-into
+  plain-new e t = rw (e, t)
+
+  plain-full : lookup key table ≡ none → ltb (length table) limit ≡ false
+      → plain limit (put key value) table ≡ record { contents = table; answer = full }
+  unfolding plain put-into
+  plain-full e t = rw (e, t)
 
 -- ---- the end of a call
 
@@ -136,15 +142,14 @@ module _ {T : Type 0} {nil tag : T} {limit : ℕ} where
     put-new : (value : ℕ) {fs : List (Frame T)} {held ns : List (Node T)} → length table < limit → Place table fs leaf
         → Sits key fs
         → StockAt nil tag (away leaf) fs (tag ∷ []) held ns
-        → Safe mapTest (StepsTo (Holds nil limit) (stored key value table) (tag ∷ []))
+        → Safe mapTest (StepsTo (Holds nil limit) (stored key value table new) (tag ∷ []))
         (bind (climb (list.map (stepOf nil) fs)
         (top (record { key = key; value = value; tag = tag; left = absent nil; right = absent nil }) none none) [])
         (λ b. done (finish (suc (length table)) new b))) held ns
-    unfolding putAnswer
     put-new value {fs} room p sits stock =
         safe-then _
         (new-climb value p sits stock)
-        (λ b h m st. ends (finish-keeps (suc (length table)) new st refl (rw (missing-lookup p sits))
+        (λ b h m st. ends (finish-keeps (suc (length table)) new st refl refl
         (new-ascends p sits value)
         (sym (new-length p sits value)) (let k = new-length p sits value in omega arith)))
 
@@ -152,16 +157,16 @@ module _ {T : Type 0} {nil tag : T} {limit : ℕ} where
         {held ns : List (Node T)}
         → Place table fs (node l e r) → key ≡ e .key
         → StockAt nil tag (have (away l) e (away r)) fs (tag ∷ []) held ns
-        → StepsTo (Holds nil limit) (stored key value table) (tag ∷ [])
+        → StepsTo (Holds nil limit) (stored key value table (replaced (e .value))) (tag ∷ [])
         (finish (length table) (replaced (e .value))
         (unwind (list.map (stepOf nil) fs) (top (withValue value (nodeAt nil l e r)) none none) [])) held ns
-    unfolding putAnswer whole further below topNode subOf height Balanced pairs unfetched tags
+    unfolding whole further below topNode subOf height Balanced pairs unfetched tags
     put-value value {fs} {l} {e} {r} p same stock =
         let e′ : Entry T = record { key = e .key; value = value; tag = e .tag } in
         finish-keeps (length table) (replaced (e .value))
         (unwind-stands nil (p .sound) (have (away l) e′ (away r)) [] (tag ∷ []) perm-none (p .balanced) (p .reached)
         (record { left = stock .left; tagged = stock .tagged }))
-        (rw same (sym (present-store ascends p value))) (rw (same, present-lookup ascends p))
+        (rw same (sym (present-store ascends p value))) refl
         (rw same (store-ascends ascends p value))
         (rw same (sym (store-length ascends p value))) (let k = store-length ascends p value in rw same (omega arith))
 
@@ -171,15 +176,12 @@ module _ {T : Type 0} {nil tag : T} {limit : ℕ} where
     unfolding putStep
     put-keeps value s held ns (missing p sits stock) =
         safe-pick (ltb (length table) limit)
-        (λ t. rw (plain-room limit key value table t) (put-new value (ltb-true (length table) limit t) p sits stock))
-        (λ t. rw (plain-full limit key value table t)
+        (λ t. rw (plain-new limit key value table (missing-lookup p sits) t)
+        (put-new value (ltb-true (length table) limit t) p sits stock))
+        (λ t. rw (plain-full limit key value table (missing-lookup p sits) t)
         (ends (finish-keeps (length table) full (unwound-stands (missing p sits stock)) refl refl ascends refl fits)))
-    put-keeps value s held ns (present old p same stock) =
-        safe-pick (ltb (length table) limit)
-        (λ t. rw (plain-room limit key value table t) (ends (put-value value p same stock)))
-        (λ t. rw (plain-full limit key value table t)
-        (ends
-        (finish-keeps (length table) full (unwound-stands (present old p same stock)) refl refl ascends refl fits)))
+    put-keeps value s held ns (present {e = e} old p same stock) =
+        rw (plain-present limit key value table (e .value) (rw same (present-lookup ascends p))) (ends (put-value value p same stock))
 
     -- ---- remove
 

@@ -66,15 +66,10 @@ module _ (path : List (Step ℕ)) (entries : ℕ) where
     unfolding putStep unwound upward bind
     put-gap-full l k = rw (le-ltb entries limit k)
 
-    pub put-replaced : (w : Want ℕ) (n : Node ℕ) → entries < limit
+    pub put-replaced : (w : Want ℕ) (n : Node ℕ)
         → putStep 0 key value tag entries limit (hit w n path) ≡ way false path (top (withValue value n) none none) entries (method.replaced (n .value))
     unfolding putStep upward bind
-    put-replaced w n k = rw (lt-ltb entries limit k)
-
-    pub put-hit-full : (w : Want ℕ) (n : Node ℕ) → limit ≤ entries
-        → putStep 0 key value tag entries limit (hit w n path) ≡ way false path (top n none none) entries method.full
-    unfolding putStep unwound upward bind
-    put-hit-full w n k = rw (le-ltb entries limit k)
+    put-replaced w n = refl
 
   pub remove-gap : (l : Link ℕ) → removeStep entries (gap l path) ≡ way false path (stub l) entries method.absent
   unfolding removeStep unwound upward bind

@@ -43,7 +43,7 @@ pub fn get(key: u32, entries: u16, root: Link, held: &[u64; ROW], count: usize) 
     }
 }
 
-// A put replaces the value of a present key, or adds a node with the new tag. The full rule comes first.
+// A put replaces the value of a present key, or adds a node with the new tag where there is room.
 pub fn put(
     key: u32,
     value: u64,
@@ -71,10 +71,7 @@ pub fn put(
         }
         End::Hit => {
             let n = node_at(held, depth);
-            if entries < limit {
-                return replaced(n, value, depth, entries);
-            }
-            at_node(n, depth, entries, Answer::Full)
+            replaced(n, value, depth, entries)
         }
     }
 }

@@ -12,12 +12,13 @@ use Rattle.balance_spec.specs.Greatest.{tallest, greatest}
 use Rattle.method_spec.specs.Node.{Link, Node}
 use Rattle.method_spec.specs.Node as node-spec
 use Rattle.method_spec.specs.Prog.{bind}
-use Rattle.method_spec.specs.Answer.{Structure, map, stack, heap, Op, get, put, remove, push, pop, add, take, absent, new, full, pushed, popped, added, taken, empty}
+use Rattle.method_spec.specs.Answer.{Structure, map, stack, heap, Op, get, put, remove, push, pop, add, take, found, absent, new, removed, full, pushed, popped, added, taken, empty}
+use Rattle.method_spec.specs.Answer as answers
 use Rattle.method_spec.specs.Map.{start, walk, single, double, turn, raise, climb, unwind, unwound, getStep, getProg, putStep, putProg, lowest, takeOut, removeStep, removeProg}
 use Rattle.method_spec.specs.Stack.{pushProg, popProg}
 use Rattle.method_spec.specs.Heap.{turnsTo, wayTo, descend, settled, rise, topmost, addProg, downward, childOf, sink, replaceRoot, takeProg, heapTest}
 use Rattle.list_spec.specs.Perm as perm
-use Rattle.method_spec.specs.Plain.{plain, plainAnswers, enter, taken-from, numbered, Entries}
+use Rattle.method_spec.specs.Plain.{lookup, store, erase, put-into, getAnswer, removeAnswer, plain, plainAnswers, enter, taken-from, numbered, Entries}
 use Rattle.method_spec.specs.Rounds.{rounds, spare, putDraw, draws}
 use Rattle.method_spec.specs.Call.{capacity, program, emptyMemory, takeKey, fetches, drawsFrom, stepped, answered, call, run, Ran}
 use Rattle.method_spec.specs.Origin.{drawn, origins, names, leafOf, leafRun}
@@ -146,10 +147,31 @@ twice-double = refl
 
 -- ---- answers
 
--- Size 1, put 9 twice: new, then 10.
-full-map : after 1 zeros (put 9 1 ∷ put 9 2 ∷ []) .answers ≡ some new ∷ some full ∷ []
+-- Size 1, put 9 twice: new, then replaced. A full map takes no other key.
+full-map : after 1 zeros (put 9 1 ∷ put 9 2 ∷ get 9 ∷ put 8 3 ∷ get 8 ∷ get 9 ∷ []) .answers
+    ≡ some new ∷ some (answers.replaced 1) ∷ some (found 2) ∷ some full ∷ some absent ∷ some (found 2) ∷ []
 unfolding after
 full-map = refl
+
+-- Both puts name the tag of the node there, drawn by the first call (F = 3), and then their own draws.
+full-map-names : names (rounds map 1) 1 (put 9 1 ∷ put 9 2 ∷ put 8 3 ∷ [])
+    ≡ drawn 1 0 ∷ drawn 1 1 ∷ drawn 1 2 ∷ drawn 1 4 ∷ drawn 1 5 ∷ drawn 1 6
+    ∷ drawn 1 3 ∷ drawn 2 1 ∷ drawn 2 2 ∷ drawn 2 4 ∷ drawn 2 5 ∷ drawn 2 6
+    ∷ drawn 2 0 ∷ drawn 3 1 ∷ drawn 3 2 ∷ drawn 3 4 ∷ drawn 3 5 ∷ drawn 3 6 ∷ []
+unfolding after
+full-map-names = refl
+
+-- Size 2 and full: a key below the root gets a new value, and all else stays.
+full-map-below : after 2 zeros (put 2 20 ∷ put 1 10 ∷ put 3 30 ∷ put 1 11 ∷ []) .memory
+    ≡ after 2 zeros (put 2 20 ∷ put 1 11 ∷ put 3 30 ∷ get 1 ∷ []) .memory
+unfolding after
+full-map-below = refl
+
+-- The plain table of such calls; there is room again after a remove.
+plain-table : plainAnswers 1 (put 9 1 ∷ put 9 2 ∷ put 8 3 ∷ get 9 ∷ remove 9 ∷ put 8 3 ∷ []) []
+    ≡ new ∷ answers.replaced 1 ∷ full ∷ found 2 ∷ removed 2 ∷ new ∷ []
+unfolding plainAnswers plain put-into store lookup erase getAnswer removeAnswer
+plain-table = refl
 
 push-pop : after 2 zeros (push 50 ∷ pop ∷ pop ∷ []) .answers ≡ some pushed ∷ some (popped 50) ∷ some empty ∷ []
 unfolding after

@@ -208,7 +208,8 @@ module _ {T : Type 0} where
   getProg key entries l = bind (walk key (l .height) (start l) []) (λ s. done (getStep entries s))
 
   -- ---- put
-  -- The full rule comes first: a put on a full store walks as any put does and stores nothing.
+  -- A present key's value is replaced. An absent key's node is added where there is room: a put of one on a full store walks as
+  -- any put does and stores nothing.
   unfoldable pub putStep : (nil : T) (key value : ℕ) (tag : T) (entries limit : ℕ) → Spot T → Prog T (Outcome T)
   putStep nil key value tag entries limit (gap l path) =
       pick (ltb entries limit)
@@ -218,9 +219,7 @@ module _ {T : Type 0} where
       (λ b. done (finish (suc entries) new b)))
       (done (finish entries full (unwound (gap l path))))
   putStep nil key value tag entries limit (hit w n path) =
-      pick (ltb entries limit)
-      (done (finish entries (replaced (n .value)) (unwind path (top (withValue value n) none none) [])))
-      (done (finish entries full (unwound (hit w n path))))
+      done (finish entries (replaced (n .value)) (unwind path (top (withValue value n) none none) []))
 
   unfoldable pub putProg : (nil : T) (key value : ℕ) (tag : T) (entries limit : ℕ) → Link T → Prog T (Outcome T)
   putProg nil key value tag entries limit l =

@@ -49,10 +49,12 @@ pub record Said (s : Structure) : Type 0 where
   pub contents : Contents s
   pub answer : Answer
 
--- A put of a key that had that value, or none.
-unfoldable pub putAnswer : Option ℕ → Answer
-putAnswer none = new
-putAnswer (some v) = replaced v
+-- A put of a key that had that value, or none: the full rule is for a new key alone.
+unfoldable pub put-into : (limit k v : ℕ) → List Pair → Option ℕ → Said map
+put-into limit k v t (some old) = record { contents = store k v t; answer = replaced old }
+put-into limit k v t none =
+    pick (ltb (length t) limit) (record { contents = store k v t; answer = new })
+    (record { contents = t; answer = full })
 
 unfoldable pub getAnswer : Option ℕ → Answer
 getAnswer none = absent
@@ -71,12 +73,10 @@ unfoldable pub taken-from : List ℕ → Said heap
 taken-from [] = record { contents = []; answer = empty }
 taken-from (v ∷ vs) = record { contents = vs; answer = taken v }
 
--- One call of the plain machine that holds at most `limit` entries. The full rule comes first.
+-- One call of the plain machine that holds at most `limit` entries.
 unfoldable pub plain : {s : Structure} → ℕ → Op s → Contents s → Said s
 plain limit (get k) t = record { contents = t; answer = getAnswer (lookup k t) }
-plain limit (put k v) t =
-    pick (ltb (length t) limit) (record { contents = store k v t; answer = putAnswer (lookup k t) })
-    (record { contents = t; answer = full })
+plain limit (put k v) t = put-into limit k v t (lookup k t)
 plain limit (remove k) t = record { contents = erase k t; answer = removeAnswer (lookup k t) }
 plain limit (push v) vs =
     pick (ltb (length vs) limit) (record { contents = v ∷ vs; answer = pushed })

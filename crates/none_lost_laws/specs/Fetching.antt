@@ -139,11 +139,11 @@ module _ {A : Type 0} where
 
 -- ---- the fetch rounds
 module _ {A : Type 0} (s : Structure) (entries k : ℕ) (draw : ℕ → ℕ) (n i : ℕ) (p : Prog ℕ A) (g : Going) where
-  fetches-shut : (mark : ℕ) (h : Going) → fetchRound s entries k (draw i) p g ≡ shut mark h → fetchRounds s entries k draw (suc n) i p g ≡ shut mark h
+  pub fetches-shut : (mark : ℕ) (h : Going) → fetchRound s entries k (draw i) p g ≡ shut mark h → fetchRounds s entries k draw (suc n) i p g ≡ shut mark h
   unfolding fetchRounds
   fetches-shut mark h e = rw e
 
-  fetches-on : (q : Prog ℕ A) (h : Going) → fetchRound s entries k (draw i) p g ≡ on h q
+  pub fetches-on : (q : Prog ℕ A) (h : Going) → fetchRound s entries k (draw i) p g ≡ on h q
       → fetchRounds s entries k draw (suc n) i p g ≡ fetchRounds s entries k draw n (suc i) q h
   unfolding fetchRounds
   fetches-on q h e = rw e

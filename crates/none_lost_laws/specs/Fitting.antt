@@ -139,3 +139,7 @@ retag-proper k small n t leaf p =
     let f = proper-byte k p in
     fits-is-proper k small (omega arith)
     (record { own = record { key = f .own .key; value = f .own .value; tag = leaf }; left = f .left; right = f .right })
+
+-- A proper node with another value.
+pub with-value-proper : (k : ℕ) → k ≤ 16 → (n : Node ℕ) (v : ℕ) → v < 2 ^ 64 → ProperLeaf k n → ProperLeaf k (withValue v n)
+with-value-proper k small n v fits p = fits-is-proper k small (omega arith) (with-value-fits (proper-byte k p) fits)

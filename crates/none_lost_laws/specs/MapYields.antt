@@ -158,15 +158,13 @@ module _ {k h : ℕ} where
       (climb-yields {c = mostHigh h} path (top n none none) [] (omega arith) (top-at-hand path n (at-hand-add fn a)) (link-to-fits fn))
       (λ b given raised. ends (finished (suc entries) answer.new b put-new raised)))
       (ends (finished entries answer.full _ put-full (unwound-raised {key = key} (to-gap a f short))))
-  putStep-yields {key} value tag entries limit fk fv ft (to-node {w} {n} {path} a same short) =
+  putStep-yields {key} value tag entries limit fk fv ft {held = held} (to-node {w} {n} {path} a same short) =
       let m = withValue value n in
       let fm : NodeFits k h m = with-value-fits (a .fit n (List·Memᴰ·head refl)) fv in
       let b : AtHand k h (pairOf n ∷ []) (pairOf m ∷ []) (m ∷ nodesOn path) _ = at-hand-add fm (at-hand-aside (n ∷ []) a) in
-      yields-pick (ltb entries limit)
-      (ends
+      ends {held = held}
       (finished entries (answer.replaced (n .value)) (unwind path (top m none none) []) put-replaced
-      (rw same (unwind-raised path (top m none none) [] (omega arith) (top-at-hand path m b) (link-to-fits fm)))))
-      (ends (finished entries answer.full _ put-full (unwound-raised {key = key} (to-node a same short))))
+      (rw same (unwind-raised path (top m none none) [] (omega arith) (top-at-hand path m b) (link-to-fits fm))))
 
   removeStep-yields : {key : ℕ} (value entries : ℕ) {s : Spot ℕ} {held : List (Node ℕ)} → Walked k h key s held
       → YieldsBy k mapTest (Yielded k h key value (Answers (answer.remove key))) (removeStep entries s) held

@@ -116,7 +116,7 @@ module _ {k most : ℕ} {l : Link ℕ} where
   putStep-seeks key value tag entries limit (saw-gap {path = path} f) =
       yields-pick (ltb entries limit)
       (yields-then _ (climb-grows path (top _ none none) [] f (grown (open-absent refl) (open-absent refl))) (λ b given h. ends tt)) (ends tt)
-  putStep-seeks key value tag entries limit (saw-node here even falls) = yields-pick (ltb entries limit) (ends tt) (ends tt)
+  putStep-seeks key value tag entries limit (saw-node here even falls) = ends tt
 
 -- ---- every structure
 module _ {k : ℕ} (spares : ℕ → ℕ) (limit entries : ℕ) (l : Link ℕ) where

@@ -34,11 +34,11 @@ pub record Resting (o : Outcome ℕ) (hs : List Held) (p : Prog ℕ (Outcome ℕ
   pub ended : p ≡ done o
 
 module _ (k : ℕ) (draw : ℕ → ℕ) (n d : ℕ) (o : Outcome ℕ) (g : Going) where
-  puts-shut : (mark : ℕ) (h : Going) → idleRound k (draw d) (done o) g ≡ shut mark h → putRounds k draw (suc n) d o g ≡ shut mark h
+  pub puts-shut : (mark : ℕ) (h : Going) → idleRound k (draw d) (done o) g ≡ shut mark h → putRounds k draw (suc n) d o g ≡ shut mark h
   unfolding putRounds
   puts-shut mark h e = rw e
 
-  puts-on : (q : Prog ℕ (Outcome ℕ)) (h : Going) → idleRound k (draw d) (done o) g ≡ on h q → putRounds k draw (suc n) d o g ≡ putRounds k draw n (suc d) o h
+  pub puts-on : (q : Prog ℕ (Outcome ℕ)) (h : Going) → idleRound k (draw d) (done o) g ≡ on h q → putRounds k draw (suc n) d o g ≡ putRounds k draw n (suc d) o h
   unfolding putRounds
   puts-on q h e = rw e
 

@@ -68,7 +68,7 @@ module _ {E : Type 0} where
 
 module _ {E : Type 0} (F : Format E) {Proper : ℕ → E → Type 0} (lawful : Lawful F Proper) (k : ℕ) where
   -- ---- one bucket
-  slots-sized : (es : List E) → All (λ s. length s ≡ slotLength) (map (F .bytes) es)
+  pub slots-sized : (es : List E) → All (λ s. length s ≡ slotLength) (map (F .bytes) es)
   slots-sized es s m =
       let r = Memᴰ·of-map (F .bytes) es m in
       subst (λ (x : List ℕ). length x ≡ slotLength) (r .2) (lawful .slot-sized (r .0))

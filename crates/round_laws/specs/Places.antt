@@ -18,11 +18,11 @@ use Rattle.round_laws.specs.Paths.{InTree}
 
 -- ---- parts of joined lists
 module _ {A : Type 0} where
-  part-before : (n m : ℕ) (xs ys : List A) → n + m ≤ length xs → take m (drop n (xs ++ ys)) ≡ take m (drop n xs)
+  pub part-before : (n m : ℕ) (xs ys : List A) → n + m ≤ length xs → take m (drop n (xs ++ ys)) ≡ take m (drop n xs)
   part-before n m xs ys h =
       rw (drop-append-le n xs ys (omega arith)) (take-append-le m (drop n xs) ys (simp length-drop (omega arith)))
 
-  part-after : (n m : ℕ) (xs ys : List A) → n ≡ length xs + m → drop n (xs ++ ys) ≡ drop m ys
+  pub part-after : (n m : ℕ) (xs ys : List A) → n ≡ length xs + m → drop n (xs ++ ys) ≡ drop m ys
   part-after n m xs ys e = rw e (drop-append-add xs ys m)
 
 -- ---- places

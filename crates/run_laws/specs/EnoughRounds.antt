@@ -178,7 +178,7 @@ module _ {T : Type 0} where
   unfolding putStep
   putStep-within nil key value tag entries limit (gap l path) left h =
       within-pick (ltb entries limit) (within-map _ (within-more h (climb-within path _ []))) stops
-  putStep-within nil key value tag entries limit (hit w n path) left h = within-pick (ltb entries limit) stops stops
+  putStep-within nil key value tag entries limit (hit w n path) left h = stops
 
   pub map-within : (nil : T) (op : Op answer.map) (spares : ℕ → T) (limit entries : ℕ) (l : Link T)
       → Within mapTest (3 * l .height) (program nil op spares limit entries l)

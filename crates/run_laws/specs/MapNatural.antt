@@ -234,11 +234,9 @@ module _ {T S : Type 0} (f : T → S) where
       (λ b c e. both-done (finished (suc entries) new b e)))
       (both-done (finished entries full (unwound (gap l path)) (unwound-natural (gap l path))))
   putStep-natural nil key value tag entries limit (hit w n path) =
-      same-pick f (ltb entries limit)
-      (both-done
+      both-done
       (finished entries (replaced (n .value)) (unwind path (top (withValue value n) none none) [])
-      (unwind-natural path (top (withValue value n) none none) [])))
-      (both-done (finished entries full (unwound (hit w n path)) (unwound-natural (hit w n path))))
+      (unwind-natural path (top (withValue value n) none none) []))
 
   takeOut-natural : (w : Want T) (n : Node T) (path : List (Step T))
       → Same f SameBuilt (takeOut w n path) (takeOut (mapWant f w) (mapNode f n) (mapPath path))

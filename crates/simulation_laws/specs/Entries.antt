@@ -4,6 +4,7 @@ use mathlib.Core.Path.{_≡_, refl, sym, _∙_, ap, ap₂}
 use mathlib.Core.Bool.{Bool, true, false}
 use mathlib.Core.List.{List, [], _∷_, map-append, List·Memᴰ·head, List·Memᴰ·tail}
 use mathlib.Core.List as list
+use mathlib.Core.Option.{Option, none, some}
 use Prim.Native.Nat.{ℕ, suc, _^_, _≤_, _<_}
 use native.Mathlib.Omega.{arith}
 use lib.Dec.{eqb, ltb}
@@ -18,7 +19,7 @@ use Rattle.list_spec.specs.Distinct.{All}
 use Rattle.list_laws.specs.DistinctLaws.{all-nil, all-cons, all-perm}
 use Rattle.balance_spec.specs.Tree.{Tree, leaf, node}
 use Rattle.method_spec.specs.Answer.{Structure, map, stack, heap, Op, get, put, remove, push, pop, add, take}
-use Rattle.method_spec.specs.Plain.{Pair, Contents, store, erase, enter, popped-from, taken-from, plain, numbered, Entries}
+use Rattle.method_spec.specs.Plain.{Pair, Contents, lookup, store, erase, enter, put-into, popped-from, taken-from, plain, numbered, Entries}
 use Rattle.method_spec.specs.Call.{capacity, Memory}
 use Rattle.run_laws.specs.StackRepresents.{Cell, chain}
 use Rattle.avl_laws.specs.Search.{Entry, pairs, nodesOf}
@@ -64,13 +65,14 @@ erase-fits key (p ∷ t) h = go (eqb key (p .key)) (erase-fits key t (all-tail {
 -- A step of the plain machine keeps its entries within their widths.
 pub plain-fits : {s : Structure} (k : ℕ) → k ≤ 32 → (op : Op s) → OpFits op → (t : Contents s) → EntriesFit s t
     → EntriesFit s (plain (capacity k) op t .contents)
-unfolding plain numbered popped-from taken-from
+unfolding plain put-into numbered popped-from taken-from
 plain-fits k small (get key) f t h = h
-plain-fits k small (put key value) f t h = go (ltb (length t) (capacity k)) refl
+plain-fits k small (put key value) f t h = go (lookup key t) (ltb (length t) (capacity k)) refl
   where
-    go : (room : Bool) → ltb (length t) (capacity k) ≡ room → All PairFits (plain (capacity k) (put key value) t .contents)
-    go true e = rw e (store-fits key value t f h)
-    go false e = rw e h
+    go : (old : Option ℕ) (room : Bool) → ltb (length t) (capacity k) ≡ room → All PairFits (put-into (capacity k) key value t old .contents)
+    go (some old) room e = store-fits key value t f h
+    go none true e = rw e (store-fits key value t f h)
+    go none false e = rw e h
 plain-fits k small (remove key) f t h = erase-fits key t h
 plain-fits k small (push value) f vs h = go (ltb (length vs) (capacity k)) refl
   where

@@ -266,7 +266,7 @@ module _ {T : Type 0} (most : ℕ) where
         low-pick (ltb entries limit)
         (low-bind _ (asks-more (λ b u. ends-low tt) (low-climb path (top (record { key = key; value = value; tag = tag; left = absent nil; right = absent nil }) none none) [] (h .1) (omega arith, omega arith))))
         (ends-low tt)
-    low-put key value tag entries limit (hit w n path) h = low-pick (ltb entries limit) (ends-low tt) (ends-low tt)
+    low-put key value tag entries limit (hit w n path) h = ends-low tt
 
     low-remove : (entries : ℕ) (s : Spot T) → SpotLow s → AsksLow (λ (o : Outcome T). Unit {0}) (removeStep entries s)
     unfolding removeStep

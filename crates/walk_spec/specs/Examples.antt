@@ -75,8 +75,8 @@ callBytes kind key number tape = bytes 1 kind ++ (bytes 4 key ++ (bytes 8 number
 pub record Outputs : Type 0 where
   -- Document 01: structure 2, size 2, push 50 with tape 1 2 3, pop with 0 1 1.
   pub document : walked (2 ∷ 2 ∷ (callBytes 4 0 50 (1 ∷ 0 ∷ 2 ∷ 0 ∷ 3 ∷ 0 ∷ []) ++ callBytes 5 0 0 (0 ∷ 0 ∷ 1 ∷ 0 ∷ 1 ∷ 0 ∷ []))) ≡ ascii "pushed 0 1 3\npopped 50 2 1\n"
-  -- "Map size 1, put 9 twice: new, then 10."
-  pub full-map : walked (1 ∷ 1 ∷ (callBytes 2 9 5 (replicate 14 0) ++ callBytes 2 9 6 (replicate 14 0))) ≡ ascii "new 0 0 0 0 0 0 0\nrefused 10 0 0 0 0 0 0\n"
+  -- Document 01's case, as document 02 changes it: map size 1, put 9 twice: new, then replaced.
+  pub full-map : walked (1 ∷ 1 ∷ (callBytes 2 9 5 (replicate 14 0) ++ callBytes 2 9 6 (replicate 14 0))) ≡ ascii "new 0 0 0 0 0 0 0\nreplaced 5 0 0 0 0 0 0\n"
   pub foreign-kind : walked (2 ∷ 1 ∷ (callBytes 1 0 0 (replicate 6 0) ++ callBytes 5 0 0 (replicate 6 1))) ≡ ascii "refused 5\nempty 0 1 1\n"
   pub within-a-call : walked (2 ∷ 1 ∷ (callBytes 5 0 0 (replicate 6 0) ++ callBytes 5 0 0 (replicate 5 0))) ≡ ascii "empty 0 0 0\nshort\n"
   pub no-calls : walked (1 ∷ 8 ∷ []) ≡ []

@@ -180,8 +180,8 @@ impl Input {
         }
     }
 
-    /// Fills the store and tries to go on, then empties it and tries to go
-    /// on, with keys in order or not, and other calls between.
+    /// Fills the store and goes on, then empties it and goes on, with keys in
+    /// order or not, and other calls between.
     fn fill_and_empty(&mut self) {
         let (add, take) = match self.structure {
             MAP => (PUT, REMOVE),
@@ -189,15 +189,33 @@ impl Input {
             _ => (ADD, TAKE),
         };
         for _ in 0..=self.random.below(2) {
-            for kind in [add, take] {
-                for key in self.keys_in_some_order() {
-                    let value = self.value();
-                    self.call(kind, key, value);
-                    if self.random.one_in(8) {
-                        self.any_call();
-                    }
-                }
+            self.call_on_each_key(add);
+            self.add_when_full(add);
+            self.call_on_each_key(take);
+        }
+    }
+
+    fn call_on_each_key(&mut self, kind: u8) {
+        for key in self.keys_in_some_order() {
+            let value = self.value();
+            self.call(kind, key, value);
+            if self.random.one_in(8) {
+                self.any_call();
             }
+        }
+    }
+
+    /// For a map, keys that it most likely has and others, one as often as the
+    /// other.
+    fn add_when_full(&mut self, add: u8) {
+        let room = self.capacity();
+        for _ in 0..self.random.below(24) {
+            let small = match self.random.below(2) {
+                0 => self.random.below(room),
+                _ => room + self.random.below(room / 2 + 2),
+            };
+            let (key, value) = (self.key_of(small), self.value());
+            self.call(add, key, value);
         }
     }
 

@@ -61,10 +61,10 @@ impl Machine {
         self.calls += 1;
         self.named.clear();
         self.fetched.clear();
-        let full = self.entries == capacity(self.size);
+        let full = self.is_full();
         match ticket.kind {
-            PUT if !full => self.root = self.put(self.root, ticket),
-            GET | PUT => self.root = self.get(self.root, ticket.key),
+            GET => self.root = self.get(self.root, ticket.key),
+            PUT => self.root = self.put(self.root, ticket),
             REMOVE => self.root = self.remove(self.root, ticket.key),
             PUSH if !full => self.push(ticket.value),
             POP if self.entries > 0 => self.pop(),
@@ -74,6 +74,10 @@ impl Machine {
         }
         self.name_own_draws();
         self.named.clone()
+    }
+
+    fn is_full(&self) -> bool {
+        self.entries == capacity(self.size)
     }
 
     fn rounds(&self) -> usize {
@@ -230,7 +234,10 @@ impl Machine {
 
     fn put(&mut self, mut link: OriginLink, ticket: Ticket) -> OriginLink {
         if link.height == 0 {
-            return self.add(ticket.key, ticket.value, NO_LINK);
+            return match self.is_full() {
+                true => link,
+                false => self.add(ticket.key, ticket.value, NO_LINK),
+            };
         }
         let mut node = self.fetch(&mut link);
         if ticket.key < node.key {

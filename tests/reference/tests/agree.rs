@@ -240,19 +240,25 @@ fn disorder(random: &mut Random, state: &State, tree: &mut [u8]) {
     }
 }
 
+/// Damages a store up to twice.
+fn damage(random: &mut Random, pair: &mut Pair) {
+    let size = pair.plain.size;
+    for _ in 0..random.below(3) {
+        pair.edit(|state, tree| match random.below(5) {
+            0 => damage_state(random, state, tree),
+            1 => rename(random, state, tree),
+            2 => disorder(random, state, tree),
+            _ => damage_tree(random, tree, size),
+        });
+    }
+}
+
 /// Damages a store, calls it, and opens a closed one again by hand.
 fn damaged_run(random: &mut Random, structure: u8, size: u8, tally: &mut Tally) {
     let mut pair = grown(random, structure, size);
     let tape = random_tape(random);
     for _ in 0..4 {
-        for _ in 0..random.below(3) {
-            pair.edit(|state, tree| match random.below(5) {
-                0 => damage_state(random, state, tree),
-                1 => rename(random, state, tree),
-                2 => disorder(random, state, tree),
-                _ => damage_tree(random, tree, size),
-            });
-        }
+        damage(random, &mut pair);
         for _ in 0..random.below(6) {
             let outcome = random_call(random, &mut pair, tape);
             tally.count(structure, size, outcome);
@@ -291,6 +297,67 @@ fn damaged_maps() {
         "refused 10",
     ];
     damaged_runs(21, MAP, 2000, &names);
+}
+
+/// A put and a get of one key with one tape: unless the put adds a node, they
+/// fetch alike, and leave the same but for the value. Counts those on a map
+/// that is full by its entry count.
+fn put_beside_get(random: &mut Random, pair: &Pair, tally: &mut Tally) {
+    const VALUE: u64 = 12345;
+    let (size, rounds) = (pair.plain.size, fetch_rounds(MAP, pair.plain.size));
+    let full = pair.plain.entries == capacity(size);
+    let key = random_ticket(random, MAP, size).key;
+    let tape = random_tape(random).numbers(random, 2 * rounds + 1);
+    let (mut written, mut read) = (pair.clone(), pair.clone());
+    let (outcome, trace) = written.call(put(key, VALUE), &tape);
+    let (found, same_trace) = read.call(get(key), &tape);
+    let expected = match found.answer {
+        Answer::Found(value) => Answer::Replaced(value),
+        Answer::Absent if full => Answer::Refused(FULL),
+        Answer::Refused(cause) if full || found.leaves <= rounds => Answer::Refused(cause),
+        _ => return,
+    };
+    assert_eq!((outcome.answer, trace), (expected, same_trace));
+    let values = written.set_values(key, 0);
+    let old = read.set_values(key, 0);
+    assert!((&written.plain, &written.tree) == (&read.plain, &read.tree));
+    let pairs = values.iter().zip(&old);
+    let changed: Vec<u64> = pairs.filter(|(a, b)| a != b).map(|(a, _)| *a).collect();
+    match expected {
+        Answer::Replaced(_) => assert_eq!(changed, [VALUE]),
+        // In a put round the step stands.
+        Answer::Refused(8 | 9) if found.leaves > rounds => {
+            assert!(changed.is_empty() || changed == [VALUE])
+        }
+        _ => assert_eq!(changed, []),
+    }
+    if full {
+        tally.count(MAP, size, outcome);
+    }
+}
+
+/// Good maps and damaged ones; the entry count often says full, or not quite,
+/// whatever the tree holds.
+#[test]
+fn puts_beside_gets() {
+    let mut random = seeded(34);
+    let mut tally = Tally::default();
+    for size in 1..=GREATEST_SIZE {
+        for _ in 0..1000 >> size.saturating_sub(3) {
+            let mut pair = grown(&mut random, MAP, size);
+            damage(&mut random, &mut pair);
+            pair.edit(|state, _| match random.below(3) {
+                0 => state.entries = capacity(size),
+                1 => state.entries = capacity(size) - 1,
+                _ => {}
+            });
+            for _ in 0..4 {
+                put_beside_get(&mut random, &pair, &mut tally);
+            }
+        }
+    }
+    let names = ["replaced", "refused 10", "refused 8 fetch", "refused 2"];
+    tally.assert_met(MAP, &names);
 }
 
 #[test]

@@ -291,6 +291,108 @@ fn map_keys_out_of_bounds() {
     }
 }
 
+/// The entry count alone says whether a map is full: here 3 entries, and 2
+/// nodes.
+#[test]
+fn full_by_the_count_alone() {
+    let two = node(2, 0, link(1, 1, 0), Link::NONE);
+    let nodes = [(4, 0, leaf_node(1, 0)), (4, 1, two)];
+    let mut pair = store(MAP, 2, 3, link(2, 2, 0), &nodes);
+    let (outcome, trace) = pair.call(put(1, 11), &TAPE);
+    assert_eq!(outcome.answer, Answer::Replaced(10));
+    assert_eq!(trace, [0, 0, 3, 1, 2, 3, 2, 3, 1, 2, 3, 1]);
+    let one = Node {
+        value: 11,
+        ..leaf_node(1, 2)
+    };
+    let two = node(2, 1, link(1, 1, 2), Link::NONE);
+    let left = |pair: &Pair| pair.nodes().into_values().collect::<Vec<_>>();
+    assert_eq!((pair.plain.entries, pair.plain.root), (3, link(2, 2, 1)));
+    assert_eq!(left(&pair), [one, two]);
+    let (outcome, trace) = pair.call(put(3, 30), &TAPE);
+    assert_eq!(outcome.answer, Answer::Refused(10));
+    assert_eq!(trace, [1, 2, 3, 1, 2, 3, 2, 3, 1, 2, 3, 1]);
+    assert_eq!((pair.plain.entries, pair.plain.root), (3, link(2, 2, 1)));
+    assert_eq!(left(&pair), [one, two]);
+}
+
+/// 2 entries, and 3 nodes: a new one is added, and leaves a root height that no
+/// tree with 3 entries has.
+#[test]
+fn not_full_by_the_count_alone() {
+    let mut pair = three();
+    pair.edit(|state, _| state.entries = 2);
+    assert_eq!(pair.answer(put(1, 11), &TAPE), Answer::Replaced(10));
+    assert_eq!((pair.plain.entries, pair.plain.root), (2, link(2, 2, 1)));
+    assert_eq!(pair.answer(put(9, 90), &TAPE), Answer::New);
+    assert_eq!((pair.plain.entries, pair.plain.root), (3, link(3, 2, 1)));
+    assert_eq!(pair.nodes().len(), 4);
+    assert_eq!(pair.answer(put(1, 12), &TAPE), Answer::Refused(2));
+}
+
+/// A key is present where the walk meets it. A stray 9 lies on the path, or
+/// waits.
+#[test]
+fn a_stray_node_is_not_present() {
+    let build = |entries, root| store(MAP, 1, entries, root, &[(2, 0, leaf_node(9, 0))]);
+    let mut pair = build(1, link(1, 5, 0));
+    pair.edit(|_, tree| place(tree, 2, 1, leaf_node(5, 0)));
+    let mut waits = pair.clone();
+    waits.edit(|state, tree| {
+        tree[128..160].fill(0);
+        state.set_waiting(&[leaf_node(9, 1)]);
+    });
+    for pair in [&mut pair, &mut waits] {
+        let (outcome, trace) = pair.call(put(9, 7), &[0; 7]);
+        assert_eq!((outcome.answer, trace), (Answer::Refused(10), vec![0; 6]));
+        assert_eq!(pair.nodes()[&9].value, 90);
+    }
+    // With room a new 9 joins the stray one: damage in the first put round.
+    let mut pair = build(0, Link::NONE);
+    let (outcome, trace) = pair.call(put(9, 7), &[0; 7]);
+    assert_eq!((outcome.answer, trace), (Answer::Refused(8), vec![0; 4]));
+}
+
+/// Damage in a put round of a put on a full map: the step stands.
+#[test]
+fn damage_after_a_put_on_a_full_map() {
+    let run = |ticket| {
+        let mut pair = three();
+        pair.edit(|_, tree| tree[128 * 6] = 3);
+        let tape = [1, 2, 0, 0, 0, 0, 0, 0, 3, 0, 0, 0, 0];
+        let (outcome, trace) = pair.call(ticket, &tape);
+        assert_eq!(outcome.answer, Answer::Refused(8));
+        assert_eq!(trace, [0, 0, 0, 0, 0, 0, 0, 3]);
+        assert_eq!((pair.plain.entries, pair.plain.root), (3, link(2, 2, 1)));
+        pair
+    };
+    let (one, two) = (leaf_node(1, 2), node(2, 1, link(1, 1, 2), link(1, 3, 0)));
+    let left = |value| {
+        let one = Node { value, ..one };
+        let nodes = [(0, one), (128, two), (384, leaf_node(3, 0))];
+        let mut slots = nodes.map(|(at, node)| (at, Reading::Node(node))).to_vec();
+        slots.push((768, Reading::Bad));
+        slots
+    };
+    assert_eq!(listing::used_slots(&run(put(1, 11)).tree, 2), left(11));
+    assert_eq!(listing::used_slots(&run(put(0, 11)).tree, 2), left(10));
+}
+
+/// Damage in a fetch round that wants no node, after the key was found: nothing
+/// is stored yet.
+#[test]
+fn damage_before_the_step_of_a_put_on_a_full_map() {
+    let mut pair = three();
+    pair.edit(|_, tree| tree[128 * 6] = 3);
+    let tape = [1, 2, 0, 3, 0, 0, 0, 0, 0, 0, 0, 0, 0];
+    let (outcome, trace) = pair.call(put(1, 11), &tape);
+    assert_eq!(outcome.answer, Answer::Refused(8));
+    assert_eq!(trace, [0, 0, 0, 3]);
+    assert_eq!((pair.plain.entries, pair.plain.root), (3, link(2, 2, 1)));
+    let two = node(2, 1, link(1, 1, 2), link(1, 3, 0));
+    assert_eq!(pair.plain.waiting(), [leaf_node(1, 2), two]);
+}
+
 /// 2 with 1 and 4, and 4 with 3 and 5; to remove 1 fetches 2, 1 and then 4.
 fn five(four: Node) -> Pair {
     let two = node(2, 0, link(1, 1, 0), link(2, 4, 0));

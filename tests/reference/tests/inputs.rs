@@ -82,9 +82,9 @@ fn every_structure_overflows() {
 }
 
 #[test]
-fn every_branch_of_the_heap_is_met() {
+fn every_branch_is_met() {
     let mut met = vec![];
-    for seed in SEEDS.filter(|&seed| input(seed).first() == Some(&HEAP)) {
+    for seed in SEEDS {
         walk::run_with(
             &input(seed)[..],
             std::io::sink(),
@@ -97,9 +97,11 @@ fn every_branch_of_the_heap_is_met() {
         )
         .unwrap();
     }
-    for (branch, name) in BRANCHES {
-        let count = met.iter().filter(|&&one| one == branch).count();
-        assert!(count >= 10, "{name}: {count}");
+    for (group, branches) in BRANCHES {
+        for (branch, name) in branches {
+            let count = met.iter().filter(|&one| one == branch).count();
+            assert!(count >= 10, "{group}: {name}: {count}");
+        }
     }
 }
 

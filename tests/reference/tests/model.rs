@@ -26,7 +26,9 @@ impl Model {
                 .table
                 .get(&key)
                 .map_or(Answer::Absent, |&value| Answer::Found(value)),
-            PUT if self.table.len() == capacity => Answer::Refused(FULL),
+            PUT if self.table.len() == capacity && !self.table.contains_key(&key) => {
+                Answer::Refused(FULL)
+            }
             PUT => self
                 .table
                 .insert(key, value)
@@ -197,29 +199,41 @@ fn full_heaps() {
     }
 }
 
-/// A full map still walks, and every put answers 10.
+/// A full map with the keys 0, 3, 6 and so on, each with its own value.
+fn full_map(random: &mut Random, size: u8) -> Pair {
+    let mut pair = Pair::open(MAP, size);
+    let length = 2 * fetch_rounds(MAP, size) + 1;
+    for key in (0..capacity(size)).map(|at| 3 * at) {
+        let tape = Tape::Uniform.numbers(random, length);
+        assert_eq!(pair.answer(put(key, key.into()), &tape), Answer::New);
+    }
+    pair
+}
+
+/// A full map's put of a present key leaves what a get of it leaves, but for
+/// the value; one of an absent key answers 10 and leaves just that.
 #[test]
 fn full_maps() {
     let mut random = seeded(19);
     for size in 1..=6 {
-        let mut pair = Pair::open(MAP, size);
-        let length = 2 * fetch_rounds(MAP, size) + 1;
-        for key in 0..capacity(size) {
-            let tape = Tape::Uniform.numbers(&mut random, length);
-            assert_eq!(pair.answer(put(3 * key, 1), &tape), Answer::New);
-        }
+        let mut pair = full_map(&mut random, size);
         for key in 0..3 * capacity(size) {
-            let before = pair.nodes();
-            let tape = Tape::Uniform.numbers(&mut random, length);
-            assert_eq!(pair.answer(put(key, 2), &tape), Answer::Refused(FULL));
+            let tape = Tape::Uniform.numbers(&mut random, 2 * fetch_rounds(MAP, size) + 1);
+            let mut read = pair.clone();
+            let (outcome, trace) = pair.call(put(key, 1000), &tape);
+            let (found, same_trace) = read.call(get(key), &tape);
+            assert_eq!(trace, same_trace);
+            if key % 3 == 0 {
+                assert_eq!(found.answer, Answer::Found(key.into()));
+                assert_eq!(outcome.answer, Answer::Replaced(key.into()));
+                assert_eq!(read.set_values(key, 1000), [key.into()]);
+            } else {
+                assert_eq!(found.answer, Answer::Absent);
+                assert_eq!(outcome.answer, Answer::Refused(FULL));
+            }
+            assert!((&pair.plain, &pair.tree) == (&read.plain, &read.tree));
+            assert_eq!(pair.plain.root.tag, tape[0] % (1 << size));
             pair.audit();
-            let moved = pair.nodes();
-            let entries = |nodes: &BTreeMap<u32, reference::plain::Node>| -> Vec<(u32, u64)> {
-                nodes.values().map(|node| (node.key, node.value)).collect()
-            };
-            assert_eq!(entries(&before), entries(&moved));
-            let root = pair.plain.root;
-            assert_eq!(root.tag, tape[0] % (1 << size));
         }
     }
 }

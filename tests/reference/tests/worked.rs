@@ -160,9 +160,127 @@ fn full_map_of_size_1() {
     let mut pair = Pair::open(MAP, 1);
     let tape = zero_tape(MAP, 1);
     assert_eq!(pair.answer(put(9, 1), &tape), Answer::New);
-    assert_eq!(pair.answer(put(9, 2), &tape), Answer::Refused(10));
-    assert_eq!(pair.answer(put(8, 2), &tape), Answer::Refused(10));
-    assert_eq!(pair.answer(get(9), &tape), Answer::Found(1));
+    assert_eq!(pair.answer(put(9, 2), &tape), Answer::Replaced(1));
+    assert_eq!(pair.answer(get(9), &tape), Answer::Found(2));
+    assert_eq!(pair.answer(put(8, 3), &tape), Answer::Refused(10));
+    assert_eq!(pair.answer(get(9), &tape), Answer::Found(2));
+    assert_eq!(pair.answer(get(8), &tape), Answer::Absent);
+    assert_eq!(pair.plain.entries, 1);
+}
+
+/// A full map of size 3, zero tape: root 4, then 2 and 6, then the leaf nodes.
+/// Each key's value is the key.
+fn seven() -> Pair {
+    let keys = [4, 2, 6, 1, 3, 5, 7];
+    root_after(3, &keys.map(|key| put(key, key.into()))).0
+}
+
+/// Every node of a full map in turn, and keys on every side of them.
+#[test]
+fn full_maps_of_size_2_and_3() {
+    let three = root_after(2, &[put(2, 2), put(1, 1), put(3, 3)]).0;
+    for mut pair in [three, seven()] {
+        let size = pair.plain.size;
+        let (tape, entries) = (zero_tape(MAP, size), capacity(size));
+        for key in 1..=entries {
+            let value = 100 + u64::from(key);
+            assert_eq!(
+                pair.answer(put(key, value), &tape),
+                Answer::Replaced(key.into())
+            );
+            assert_eq!(pair.answer(get(key), &tape), Answer::Found(value));
+        }
+        for key in [0, entries + 1, u32::MAX] {
+            assert_eq!(pair.answer(put(key, 9), &tape), Answer::Refused(10));
+            assert_eq!(pair.answer(get(key), &tape), Answer::Absent);
+        }
+        pair.audit();
+        assert_eq!(pair.plain.entries, entries);
+        let values: Vec<u64> = pair.nodes().values().map(|node| node.value).collect();
+        assert!(values.into_iter().eq(101..=100 + u64::from(entries)));
+    }
+}
+
+/// 4, 2 and 3 are fetched and get the tags 1, 2 and 3; nothing else moves.
+#[test]
+fn leaves_and_tags_of_a_put_on_a_full_map() {
+    let tape: Vec<u16> = (1..=25).collect();
+    let fetches = [0, 0, 0, 4, 5, 6, 7, 0, 1, 2, 3, 4];
+    let puts = [6, 7, 0, 1, 2, 3, 4, 5, 6, 7, 0, 1];
+    let mut pair = seven();
+    let (outcome, trace) = pair.call(put(3, 103), &tape);
+    assert_eq!(outcome.answer, Answer::Replaced(3));
+    assert_eq!(trace, [fetches, puts].concat());
+    let link = |height, key, tag| Link { height, key, tag };
+    assert_eq!((pair.plain.entries, pair.plain.root), (7, link(3, 4, 1)));
+    let mut expected = seven().nodes();
+    let mut change = |key, tag, left, right| {
+        let node = expected.get_mut(&key).unwrap();
+        (node.tag, node.left, node.right) = (tag, left, right);
+    };
+    change(4, 1, link(2, 2, 2), link(2, 6, 0));
+    change(2, 2, link(1, 1, 0), link(1, 3, 3));
+    change(3, 3, Link::NONE, Link::NONE);
+    expected.get_mut(&3).unwrap().value = 103;
+    assert_eq!(pair.nodes(), expected);
+}
+
+/// What a put of this key meets after puts of those.
+fn put_branches(size: u8, keys: &[u32], key: u32) -> Vec<Branch> {
+    let tickets: Vec<Ticket> = keys.iter().map(|&key| put(key, 1)).collect();
+    let Pair {
+        mut plain,
+        mut tree,
+        ..
+    } = root_after(size, &tickets).0;
+    let (ticket, tape) = (put(key, 2).bytes(), zero_tape(MAP, size));
+    plain::call_with_branches(&mut plain, &mut tree, &ticket, &tape, &mut [0; 24]).1
+}
+
+#[test]
+fn branches_of_puts() {
+    use Branch::*;
+    assert_eq!(put_branches(1, &[], 9), [PutNew]);
+    assert_eq!(put_branches(1, &[9], 8), [PutRefused]);
+    assert_eq!(
+        put_branches(1, &[9], 9),
+        [FullReplaces, FullReplacesRoot, FullReplacesInSizeOne]
+    );
+    assert_eq!(put_branches(2, &[1], 2), [PutNew]);
+    assert_eq!(put_branches(2, &[1, 2], 3), [PutNewSingle]);
+    assert_eq!(put_branches(2, &[3, 2], 1), [PutNewSingle]);
+    assert_eq!(put_branches(2, &[1, 3], 2), [PutNewDouble]);
+    assert_eq!(put_branches(2, &[3, 1], 2), [PutNewDouble]);
+    for key in [1, 2] {
+        assert_eq!(put_branches(2, &[1, 2], key), [PutReplaces]);
+    }
+    let full = |key| put_branches(2, &[2, 1, 3], key);
+    assert_eq!(full(4), [PutRefused]);
+    assert_eq!(full(2), [FullReplaces, FullReplacesRoot]);
+    assert_eq!(full(1), [FullReplaces, FullReplacesBelow]);
+    assert_eq!(full(3), [FullReplaces, FullReplacesBelow]);
+}
+
+/// A full map's put names what a get would, whether the key is there or not.
+#[test]
+fn origins_of_a_full_map() {
+    let own = |call: usize, from: usize| -> Vec<(usize, usize)> {
+        let draws = (from..6).chain(7..13);
+        draws.map(|draw| (call, draw)).collect()
+    };
+    let mut machine = Machine::new(MAP, 2);
+    assert_eq!(machine.feed(put(2, 20)), own(1, 0));
+    assert_eq!(machine.feed(put(1, 10)), [vec![(1, 6)], own(2, 1)].concat());
+    assert_eq!(machine.feed(put(3, 30)), [vec![(2, 0)], own(3, 1)].concat());
+    let named = |first, second, call| [vec![first, second], own(call, 2)].concat();
+    assert_eq!(machine.feed(put(1, 11)), named((3, 0), (2, 6), 4));
+    assert_eq!(machine.feed(put(4, 40)), named((4, 0), (3, 6), 5));
+    assert_eq!(machine.feed(put(0, 5)), named((5, 0), (4, 1), 6));
+    assert_eq!(machine.feed(put(3, 31)), named((6, 0), (5, 1), 7));
+    assert_eq!(machine.feed(put(2, 21)), [vec![(7, 0)], own(8, 1)].concat());
+    // Neither 4 nor 0 is there.
+    assert_eq!(machine.feed(get(4)), named((8, 0), (7, 1), 9));
+    assert_eq!(machine.feed(get(0)), named((9, 0), (6, 1), 10));
 }
 
 #[test]

@@ -7,7 +7,7 @@ use Rattle.method_spec.specs.Prog.{Prog}
 use Rattle.method_spec.specs.Map.{Outcome, Spot, putStep}
 use Rattle.leaf_spec.specs.Convert.{toLink}
 use Rattle.operation_spec.specs.Method.{toWant}
-use Rattle.map_operations.specs.BottomLaws.{put-is, put-new, put-gap-full, put-replaced, put-hit-full, starts-missing, starts-gap, starts-hit, hit-within, hit-low}
+use Rattle.map_operations.specs.BottomLaws.{put-is, put-new, put-gap-full, put-replaced, starts-missing, starts-gap, starts-hit, hit-within, hit-low}
 use Rattle.map_operations.proofs.put.Statement.{statement}
 use Rattle.map_operations.proofs.put.Tie as tie
 
@@ -55,30 +55,17 @@ node-at-requires : tie.Need-node-at-requires
 node-at-requires c κs = (c .before .before .before .before .pre .0, omega (arith, within c))
 
 replaced-requires : tie.Need-replaced-requires
-replaced-requires c κs = within (c .before .before)
+replaced-requires c κs = within (c .before)
 
 returns-2 : tie.Need-returns-2
 returns-2 c =
-    let d = c .before .before .before .before .before .before in
-    let a = d .before .args in
-    let e = c .before .before .before .enum-told3 .given .1 in
-    rw (put-is (a .key) (a .value) (a .tag) (a .entries) (a .limit) (toLink (a .root)))
-    (starts-hit (d .before .pre .1) (d .descend .ensures) (step (d .before)) e (c .before .before .node-at .ensures) (c .replaced .ensures)
-    (hit-low (d .before .pre .1) (d .descend .ensures) e (c .before .before .node-at .ensures), (tt, tt)) refl
-    (put-replaced _ (a .entries) (a .key) (a .value) (a .tag) (a .limit) (toWant (d .descend .result .want)) _ (c .before .if2 .taken)))
-
-at-node-requires : tie.Need-at-node-requires
-at-node-requires c κs = within (c .before .before)
-
-returns-3 : tie.Need-returns-3
-returns-3 c =
     let d = c .before .before .before .before in
     let a = d .before .args in
     rw (put-is (a .key) (a .value) (a .tag) (a .entries) (a .limit) (toLink (a .root)))
     (starts-missing (d .before .pre .1) (d .descend .ensures) (step (d .before)) (c .before .enum-told .given .1) (c .unfinished .ensures))
 
-returns-4 : tie.Need-returns-4
-returns-4 c =
+returns-3 : tie.Need-returns-3
+returns-3 c =
     let d = c .before .before .before .before .before in
     let a = d .before .args in
     rw (put-is (a .key) (a .value) (a .tag) (a .entries) (a .limit) (toLink (a .root)))
@@ -86,15 +73,15 @@ returns-4 c =
     (d .descend .ensures .low) refl
     (put-gap-full _ (a .entries) (a .key) (a .value) (a .tag) (a .limit) (toLink (d .descend .result .want .link)) (c .before .if1 .left)))
 
-returns-5 : tie.Need-returns-5
-returns-5 c =
-    let d = c .before .before .before .before .before .before in
+returns-4 : tie.Need-returns-4
+returns-4 c =
+    let d = c .before .before .before .before .before in
     let a = d .before .args in
-    let e = c .before .before .before .enum-told3 .given .1 in
+    let e = c .before .before .enum-told3 .given .1 in
     rw (put-is (a .key) (a .value) (a .tag) (a .entries) (a .limit) (toLink (a .root)))
-    (starts-hit (d .before .pre .1) (d .descend .ensures) (step (d .before)) e (c .before .before .node-at .ensures) (c .at-node .ensures)
-    (hit-low (d .before .pre .1) (d .descend .ensures) e (c .before .before .node-at .ensures), (tt, tt)) refl
-    (put-hit-full _ (a .entries) (a .key) (a .value) (a .tag) (a .limit) (toWant (d .descend .result .want)) _ (c .before .if2 .left)))
+    (starts-hit (d .before .pre .1) (d .descend .ensures) (step (d .before)) e (c .before .node-at .ensures) (c .replaced .ensures)
+    (hit-low (d .before .pre .1) (d .descend .ensures) e (c .before .node-at .ensures), (tt, tt)) refl
+    (put-replaced _ (a .entries) (a .key) (a .value) (a .tag) (a .limit) (toWant (d .descend .result .want)) _))
 
 pub put-spec : {M : Type 1} → statement M
 put-spec =
@@ -111,7 +98,5 @@ put-spec =
     node-at-requires
     replaced-requires
     returns-2
-    at-node-requires
     returns-3
-    returns-4
-    returns-5)
+    returns-4)

@@ -1,7 +1,8 @@
 //! Random inputs for the walk program: `inputs DIRECTORY SEED COUNT` writes,
 //! for each of COUNT seeds from SEED on, the input to DIRECTORY/SEED.input and
 //! what the walk program over `plain` prints for it to DIRECTORY/SEED.output.
-//! Then it prints how often a heap's calls met each branch, a line a branch.
+//! Then it prints how often the calls met each branch, a line a branch: the
+//! count, the group, a colon and the name.
 
 use reference::plain::BRANCHES;
 use reference::{inputs, plain, walk};
@@ -32,9 +33,11 @@ fn main() -> io::Result<()> {
         fs::write(format!("{directory}/{seed}.input"), input)?;
         fs::write(format!("{directory}/{seed}.output"), output)?;
     }
-    for (branch, name) in BRANCHES {
-        let count = met.iter().filter(|&&one| one == branch).count();
-        println!("{count} {name}");
+    for (group, branches) in BRANCHES {
+        for (branch, name) in branches {
+            let count = met.iter().filter(|&one| one == branch).count();
+            println!("{count} {group}: {name}");
+        }
     }
     Ok(())
 }

@@ -123,14 +123,14 @@ impl Walk {
     }
 
     fn put(&self, rounds: &mut Rounds, ticket: Ticket, found: bool) -> Answer {
-        if rounds.state.entries == capacity(rounds.state.size) {
-            return Answer::Refused(FULL);
-        }
         if found {
             let node = &mut rounds.held[self.length - 1];
             let old = node.value();
             node.set_value(ticket.value);
             return Answer::Replaced(old);
+        }
+        if rounds.state.entries == capacity(rounds.state.size) {
+            return Answer::Refused(FULL);
         }
         let tag = rounds.draw(self.rounds(rounds));
         let new = Node::new(ticket.key, tag, ticket.value);

@@ -1,4 +1,5 @@
-//! What a heap's step can meet, for the random runs to count.
+//! What the steps of a heap and of a put can meet, for the random runs to
+//! count.
 
 use Branch::*;
 
@@ -24,9 +25,24 @@ pub enum Branch {
     OnlyLeftChild,
     ChildHeld,
     ChildFetched,
+    PutNew,
+    PutNewSingle,
+    PutNewDouble,
+    PutReplaces,
+    PutRefused,
+    FullReplaces,
+    FullReplacesRoot,
+    FullReplacesBelow,
+    FullReplacesInSizeOne,
 }
 
-pub const BRANCHES: [(Branch, &str); 20] = [
+/// The branches in groups, all with their names.
+pub const BRANCHES: [(&str, &[(Branch, &str)]); 2] = [
+    ("branches of the heap", &OF_THE_HEAP),
+    ("branches of a put", &OF_A_PUT),
+];
+
+const OF_THE_HEAP: [(Branch, &str); 20] = [
     (AddToEmpty, "add to an empty heap"),
     (AddToFull, "add to a full heap"),
     (AddStaysBelow, "add stays below"),
@@ -47,4 +63,16 @@ pub const BRANCHES: [(Branch, &str); 20] = [
     (OnlyLeftChild, "only a left child"),
     (ChildHeld, "child held already"),
     (ChildFetched, "child fetched"),
+];
+
+const OF_A_PUT: [(Branch, &str); 9] = [
+    (PutNew, "new with no rotation"),
+    (PutNewSingle, "new with a single rotation"),
+    (PutNewDouble, "new with a double rotation"),
+    (PutReplaces, "replaced with room left"),
+    (PutRefused, "refused on a full map"),
+    (FullReplaces, "replaced on a full map"),
+    (FullReplacesRoot, "replaced on a full map at the root"),
+    (FullReplacesBelow, "replaced on a full map below the root"),
+    (FullReplacesInSizeOne, "replaced on a full map of size 1"),
 ];

@@ -2,6 +2,7 @@
 //! node it stops with the way to it, so the fetch rounds run it to learn what
 //! to want next, and the last run of it is the step.
 
+use super::branch::Branch;
 use super::round::{Done, Held, Run, Way};
 use super::slot::{Node, Side};
 use crate::paper::*;
@@ -17,6 +18,7 @@ pub fn step(run: &Run, ticket: Ticket) -> Result<Done, Way> {
         ticket,
         tag,
         nodes: vec![],
+        lifts: 0,
         answer: Answer::Absent,
     };
     let root = match ticket.kind {
@@ -24,8 +26,16 @@ pub fn step(run: &Run, ticket: Ticket) -> Result<Done, Way> {
         PUT => walk.put(vec![], run.root)?,
         _ => walk.remove(vec![], run.root)?,
     };
-    if ticket.kind == PUT && run.entries == capacity(run.size) {
-        return Ok(Done::unchanged(run, Answer::Refused(FULL)));
+    let full = run.entries == capacity(run.size);
+    let branches = match ticket.kind {
+        PUT => walk.put_branches(run, full),
+        _ => vec![],
+    };
+    if full && walk.answer == Answer::New {
+        return Ok(Done {
+            branches,
+            ..Done::unchanged(run, Answer::Refused(FULL))
+        });
     }
     let entries = match walk.answer {
         Answer::New => run.entries + 1,
@@ -37,7 +47,7 @@ pub fn step(run: &Run, ticket: Ticket) -> Result<Done, Way> {
         root,
         nodes: walk.nodes,
         answer: walk.answer,
-        branches: vec![],
+        branches,
     })
 }
 
@@ -48,6 +58,8 @@ struct Walk<'a> {
     tag: u16,
     /// The nodes that the walk is done with.
     nodes: Vec<Node>,
+    /// One for a single rotation, two for a double one.
+    lifts: usize,
     answer: Answer,
 }
 
@@ -156,6 +168,7 @@ impl Walk<'_> {
 
     /// A single rotation: the child on that side comes up over its parent.
     fn lift(&mut self, mut parent: Node, mut child: Node, side: Side) -> Link {
+        self.lifts += 1;
         *parent.link_mut(side) = child.link(side.other());
         *child.link_mut(side.other()) = self.keep(parent);
         self.keep(child)
@@ -197,6 +210,33 @@ impl Walk<'_> {
             .expect("kept");
         self.nodes.remove(at)
     }
+
+    /// What a put has met. It rotates at most once.
+    fn put_branches(&self, run: &Run, full: bool) -> Vec<Branch> {
+        match (self.answer, full) {
+            (Answer::New, true) => vec![Branch::PutRefused],
+            (Answer::New, false) => vec![match self.lifts {
+                0 => Branch::PutNew,
+                1 => Branch::PutNewSingle,
+                _ => Branch::PutNewDouble,
+            }],
+            (_, true) => full_replace_branches(run),
+            (_, false) => vec![Branch::PutReplaces],
+        }
+    }
+}
+
+/// The last of the held nodes has the key.
+fn full_replace_branches(run: &Run) -> Vec<Branch> {
+    let place = match run.held.len() {
+        1 => Branch::FullReplacesRoot,
+        _ => Branch::FullReplacesBelow,
+    };
+    let mut branches = vec![Branch::FullReplaces, place];
+    if run.size == 1 {
+        branches.push(Branch::FullReplacesInSizeOne);
+    }
+    branches
 }
 
 fn then(way: &Way, side: Side) -> Way {

@@ -26,7 +26,7 @@ pub fn call(
     call_with_branches(state, tree, ticket, tape, trace).0
 }
 
-/// A call, and what a heap's step met in it.
+/// A call, and what a put's or a heap's step met in it.
 pub fn call_with_branches(
     state: &mut State,
     tree: &mut [u8],

@@ -21,7 +21,7 @@ pub struct Done {
     /// The held nodes as changed, a new one among them, a removed one not.
     pub nodes: Vec<Node>,
     pub answer: Answer,
-    /// Of a heap alone.
+    /// Of a put and of a heap alone.
     pub branches: Vec<Branch>,
 }
 

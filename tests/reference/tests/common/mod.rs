@@ -156,6 +156,22 @@ impl Pair {
         by_key
     }
 
+    /// Changes by hand the value of each node with this key, in the tree or
+    /// waiting. Returns the old values.
+    pub fn set_values(&mut self, key: u32, value: u64) -> Vec<u64> {
+        let mut old = vec![];
+        self.edit(|state, tree| {
+            let places = state.places.iter_mut().map(|place| &mut place[..]);
+            for slot in places.chain(tree.chunks_mut(SLOT_BYTES)) {
+                if slot[0] == 1 && slot[4..8] == key.to_le_bytes() {
+                    old.push(u64::from_le_bytes(slot[24..].try_into().unwrap()));
+                    slot[24..].copy_from_slice(&value.to_le_bytes());
+                }
+            }
+        });
+        old
+    }
+
     /// Whole-store check of a store that met no damage.
     pub fn audit(&self) {
         assert!(self.plain.is_fit() && self.fast.is_fit());

@@ -1,0 +1,107 @@
+-- Worked cases of the definitions: two lists one place apart; a full map of size 1 that holds 9, and puts on it, as they are and as they were.
+use mathlib.Core.Path.{_≡_, refl}
+use Prim.Native.Nat.{ℕ}
+use native.Mathlib.Omega.{arith}
+use mathlib.Core.Bool.{Bool, true, false}
+use mathlib.Core.List.{List, [], _∷_, _++_}
+use mathlib.Core.Option.{some}
+use lib.ListN.{replicate}
+use Rattle.slot_spec.specs.LittleEndian.{value, bytes}
+use Rattle.slot_spec.specs.Layout.{fields, pack}
+use Rattle.slot_spec.specs.Tree.{halvings, among}
+use Rattle.slot_spec.specs.Slot.{fieldsIn, fieldsOf, nodeOf, encode, allZero, bad, readSlot, filled, wellFormed}
+use Rattle.round_spec.specs.Round.{withBucket, noneTwice, allGood, readBucket, readBuckets, insert, join, takeFirst, tagged, granted, joined, grantedFrom, readHalf, choose, evict}
+use Rattle.method_spec.specs.Node.{Node}
+use Rattle.method_spec.specs.Prog.{bind}
+use Rattle.method_spec.specs.Answer.{map, Op, get, put, replaced, full}
+use Rattle.method_spec.specs.Map.{walk, single, double, turn, raise, climb, unwind, unwound, getStep, getProg, putStep, putProg, between, mapTest}
+use Rattle.method_spec.specs.Rounds.{spare}
+use Rattle.method_spec.specs.Call.{program, test}
+use Rattle.leaf_spec.specs.Leaf.{leafFormat, readLeaf}
+use Rattle.bucket_call_spec.specs.Fetch.{Left, movedLink, movedNode, closing, atClose, idleRound, tookRound, wantRound, fetchRound, fetchRounds}
+use Rattle.bucket_call_spec.specs.Call.{Store, putRounds, afterPuts, afterFetches, fetchedBy, bucketCall}
+use Rattle.full_put_laws.specs.Apart.{Differ, here, there, OneSlot}
+use Rattle.full_put_laws.specs.Earlier.{earlierPutStep, earlierPutProg, earlierPrograms, bucketCallWith}
+use Rattle.full_put_laws.specs.FullPut.{fullPut}
+
+two-lists : Differ {A = ℕ} 5 6 (4 ∷ 5 ∷ 5 ∷ []) (4 ∷ 6 ∷ 5 ∷ [])
+two-lists = there 4 (here (5 ∷ []))
+
+-- A map of size 1 (F = 3) with that put, on a zero tape.
+abbrev empty : Store
+empty =
+    record {
+      entries = 0;
+      root = record { height = 0; key = 0; tag = 0 };
+      waiting = [];
+      tree = replicate 384 0;
+    }
+
+abbrev zeros : ℕ → ℕ
+zeros d = 0
+
+abbrev leftBy : Left → Store
+leftBy l = record { entries = l .entries; root = l .root; waiting = l .waiting; tree = l .tree }
+
+-- Where this unfolds, so does all that a call computes with.
+unfoldable holdsNine : Store
+unfolding bucketCall afterFetches afterPuts putRounds fetchRounds fetchRound wantRound tookRound idleRound atClose closing movedLink movedNode withBucket noneTwice allGood readBucket readBuckets insert join takeFirst tagged granted joined grantedFrom readHalf choose evict halvings among filled encode fieldsOf pack bytes readSlot bad fieldsIn nodeOf fields value allZero wellFormed readLeaf spare program test walk single double turn raise climb unwind unwound getStep getProg putStep putProg between mapTest bind earlierPutStep earlierPutProg earlierPrograms fullPut
+holdsNine = leftBy (bucketCall 1 3 (put 9 1) zeros empty)
+
+-- Which calls on it are puts of a present key on a full map; on the empty map none is.
+abbrev is-full-put : Op map → Store → Bool
+is-full-put op st = fullPut 1 (st .entries) op (fetchedBy 1 3 op zeros st)
+
+which : (is-full-put (put 9 2) holdsNine ≡ true) × (is-full-put (put 8 2) holdsNine ≡ false) × (is-full-put (get 9) holdsNine ≡ false) × (is-full-put (put 9 1) empty ≡ false)
+unfolding holdsNine
+which = (refl, refl, refl, refl)
+
+-- Put 9 on the full map: it was 10; it is replaced, with the old value.
+abbrev earlier : Left
+earlier = bucketCallWith earlierPrograms 1 3 (put 9 2) zeros holdsNine
+
+abbrev now : Left
+now = bucketCall 1 3 (put 9 2) zeros holdsNine
+
+nine-twice : (earlier .answer ≡ some full) × (now .answer ≡ some (replaced 1))
+unfolding holdsNine
+nine-twice = (refl, refl)
+
+-- Where there is room the earlier put replaces too.
+with-room : bucketCallWith earlierPrograms 2 6 (put 9 2) zeros (leftBy (bucketCall 2 6 (put 9 1) zeros (record { entries = 0; root = empty .root; waiting = []; tree = replicate 896 0 }))) .answer ≡ some (replaced 1)
+unfolding holdsNine
+with-room = refl
+
+-- The two trees differ in the slot of 9 alone, the first of the leaf's bucket 2; none waits.
+abbrev nineWith : ℕ → Node ℕ
+nineWith v =
+    record {
+      key = 9;
+      value = v;
+      tag = 0;
+      left = record { height = 0; key = 0; tag = 0 };
+      right = record { height = 0; key = 0; tag = 0 };
+    }
+
+abbrev treeWith : ℕ → List ℕ
+treeWith v = replicate 128 0 ++ (leafFormat .bytes (nineWith v) ++ replicate 224 0)
+
+two-trees : (earlier .tree ≡ treeWith 1) × (now .tree ≡ treeWith 2) × (earlier .waiting ≡ []) × (now .waiting ≡ [])
+unfolding holdsNine
+two-trees = (refl, refl, refl, refl)
+
+one-slot : OneSlot leafFormat 1 (nineWith 1) (nineWith 2) (treeWith 1) (treeWith 2)
+unfolding halvings among
+one-slot =
+    record {
+      bucket = 2;
+      j = 0;
+      in-tree = (omega arith, omega arith);
+      fourth = omega arith;
+      passed = refl;
+      before = replicate 128 0;
+      after = replicate 224 0;
+      at = refl;
+      one = refl;
+      two = refl;
+    }

@@ -1,0 +1,195 @@
+-- A put of a present key on a full map, over buckets: what such a call is; that every other call is as it was, every byte; and that this one differs from the
+-- earlier one in the one value and the answer alone.
+use mathlib.Core.Path.{_≡_, refl, sym, _∙_, subst}
+use mathlib.Core.Bool.{Bool, true, false}
+use mathlib.Core.List.{List, [], _∷_}
+use mathlib.Core.Option.{Option, none, some}
+use Prim.Native.Nat.{ℕ, _^_, _≤_, _<_}
+use native.Mathlib.Omega.{arith}
+use lib.Dec.{ltb}
+use Rattle.list_spec.specs.Choice.{pick}
+use Rattle.slot_spec.specs.Tree.{among}
+use Rattle.method_spec.specs.Node.{Link, Node, withValue}
+use Rattle.method_spec.specs.Prog.{done}
+use Rattle.method_spec.specs.Answer.{Structure, map, Op, get, put, remove, push, pop, add, take, Answer, replaced, full}
+use Rattle.method_spec.specs.Map.{Outcome}
+use Rattle.method_spec.specs.Rounds.{rounds, spareDraw, putDraw}
+use Rattle.method_spec.specs.Call.{capacity, program}
+use Rattle.list_spec.specs.Distinct.{All}
+use Rattle.round_spec.specs.Round.{join}
+use Rattle.round_spec.specs.Whole.{IsTree}
+use Rattle.leaf_spec.specs.Leaf.{leafFormat, ProperLeaf}
+use Rattle.leaf_spec.specs.Entries.{OpFits}
+use Rattle.bucket_call_spec.specs.Fetch.{Going, Left, heldKeys, movedLink, closing, Round, on, shut}
+use Rattle.bucket_call_spec.specs.Call.{Store, afterPuts, stepped, afterFetches, fetchedBy, bucketCall}
+use Rattle.none_lost_laws.specs.Fitting.{with-value-proper}
+use Rattle.none_lost_laws.specs.Sound.{nodesIn, goes}
+use Rattle.none_lost_laws.specs.Ends.{FitStore}
+use Rattle.none_lost_laws.specs.Lost.{FetchEnds, fetch-rounds, never-left-wanting}
+use Rattle.full_put_laws.specs.Apart.{Apart, waits}
+use Rattle.full_put_laws.specs.Differing.{insert-differs, join-differs}
+use Rattle.full_put_laws.specs.Earlier.{earlierPrograms, fetchedWith, bucketCallWith}
+use Rattle.full_put_laws.specs.Together.{both-done, both-want, Together, both-shut, both-on, rounds-together}
+use Rattle.full_put_laws.specs.PutRounds.{Near, NearRounds, near-shut, near-on, puts-near}
+use Rattle.full_put_laws.specs.TwoPuts.{Compared, same, revalued, puts-both}
+
+-- ---- definitions
+-- A key is present where the call, after its fetch rounds, holds a node with it: the walk by key came to it.
+abbrev pub holdsKey : ℕ → Round (Outcome ℕ) → Bool
+holdsKey key (on g p) = among key (heldKeys g)
+holdsKey key (shut m g) = false
+
+-- A put of a present key on a full map, by where the fetch rounds came to. Full is the state's entry count.
+unfoldable pub fullPut : {s : Structure} → (limit entries : ℕ) → Op s → Round (Outcome ℕ) → Bool
+fullPut limit entries (put key value) r = pick (ltb entries limit) false (holdsKey key r)
+fullPut limit entries (get key) r = false
+fullPut limit entries (remove key) r = false
+fullPut limit entries (push value) r = false
+fullPut limit entries pop r = false
+fullPut limit entries (add value) r = false
+fullPut limit entries take r = false
+
+-- The two answers: 10 became replaced with the old value; a call that closed the store has none.
+pub data TwoAnswers (old : ℕ) : (earlier now : Option Answer) → Type 0 where
+  ten-then-replaced : TwoAnswers old (some full) (some (replaced old))
+  neither : TwoAnswers old none none
+
+-- What the earlier call left and what the call leaves: the same mark, entries, root link and leaves; the same nodes in the same places, but that one
+-- node, which has the key, has the put's value.
+pub record OnlyValue (k key value : ℕ) (earlier now : Left) : Type 0 where
+  pub mark : now .mark ≡ earlier .mark
+  pub entries : now .entries ≡ earlier .entries
+  pub root : now .root ≡ earlier .root
+  pub leaves : now .leaves ≡ earlier .leaves
+  pub node : Node ℕ
+  pub named : node .key ≡ key
+  pub apart : Apart leafFormat k node (withValue value node) (earlier .tree) (earlier .waiting) (now .tree) (now .waiting)
+  pub answers : TwoAnswers (node .value) (earlier .answer) (now .answer)
+
+-- ---- the fetch rounds
+module _ (k F key value : ℕ) (draw : ℕ → ℕ) (st : Store) where
+  abbrev pub room : Bool
+  room = ltb (st .entries) (capacity k)
+
+  -- Both puts want the same nodes in the same order: after any number F of fetch rounds both have closed the store, or both hold the same nodes, have
+  -- revealed the same leaves, and want the same node next or none.
+  pub puts-together : Together (Compared key value room) (fetchedBy k F (put key value) draw st) (fetchedWith earlierPrograms k F (put key value) draw st)
+  unfolding program earlierPrograms
+  puts-together =
+      rounds-together map (st .entries) k draw F 0 _ _ _ (puts-both key value (draw (spareDraw F 0)) (st .entries) (capacity k) (st .root))
+
+  -- ---- where the key is absent, or there is room
+  same-left : {x y : Round (Outcome ℕ)} → Together (Compared key value room) x y → pick room false (holdsKey key x) ≡ false
+      → afterFetches map k F draw st x ≡ afterFetches map k F draw st y
+  unfolding afterFetches
+  same-left (both-shut m g) e = refl
+  same-left (both-on g (both-done (same none-there o))) e = refl
+  same-left (both-on g (both-done (revalued none-left n others root entries named held there))) e =
+      let z : true ≡ false = sym (rw (none-left, there) refl) ∙ e in
+      cc
+  same-left (both-on g (both-want more)) e = refl
+
+-- A call over buckets is as it was, every byte, unless it is a put of a present key on a full map: for any structure, ticket, store and tape, and any number
+-- of rounds.
+pub same-call : {s : Structure} (k F : ℕ) (op : Op s) (draw : ℕ → ℕ) (st : Store)
+    → fullPut (capacity k) (st .entries) op (fetchedBy k F op draw st) ≡ false
+    → bucketCall k F op draw st ≡ bucketCallWith earlierPrograms k F op draw st
+unfolding bucketCall fullPut earlierPrograms
+same-call k F (put key value) draw st e = same-left k F key value draw st (puts-together k F key value draw st) e
+same-call k F (get key) draw st e = refl
+same-call k F (remove key) draw st e = refl
+same-call k F (push value) draw st e = refl
+same-call k F pop draw st e = refl
+same-call k F (add value) draw st e = refl
+same-call k F take draw st e = refl
+
+-- ---- a put of a present key on a full map
+-- A store that is closed with nothing held.
+closed-left : (m entries : ℕ) (l : Link ℕ) (g : Going) → g .held ≡ []
+    → closing m entries l g
+    ≡ record { mark = m; entries = entries; root = l; waiting = g .waiting; tree = g .tree; leaves = g .leaves; answer = none }
+unfolding closing movedLink join
+closed-left m entries l g none-held = rw none-held
+
+module _ (k key value : ℕ) (n : Node ℕ) (named : n .key ≡ key) (others : List (Node ℕ)) (l : Link ℕ) (entries : ℕ) where
+  abbrev before : Outcome ℕ
+  before = record { nodes = n ∷ others; root = l; entries = entries; answer = full }
+
+  abbrev after : Outcome ℕ
+  after = record { nodes = withValue value n ∷ others; root = l; entries = entries; answer = replaced (n .value) }
+
+  ends-apart : {x y : Round (Outcome ℕ)} → NearRounds k n (withValue value n) before after x y → OnlyValue k key value (afterPuts before x) (afterPuts after y)
+  unfolding afterPuts
+  ends-apart (near-shut m g h near) =
+      rw (closed-left m entries l g (near .none-held), closed-left m entries l h (near .held ∙ near .none-held))
+      (record {
+        mark = refl;
+        entries = refl;
+        root = refl;
+        leaves = near .leaves;
+        node = n;
+        named = named;
+        apart = near .apart;
+        answers = neither;
+      })
+  ends-apart (near-on g h near) =
+      record {
+        mark = refl;
+        entries = refl;
+        root = refl;
+        leaves = near .leaves;
+        node = n;
+        named = named;
+        apart = near .apart;
+        answers = ten-then-replaced;
+      }
+
+  -- After the steps the two stores are apart in the one node, which waits.
+  steps-near : (g : Going) → IsTree k (g .tree) → Near k n (withValue value n) (stepped before g) (stepped after g)
+  unfolding join
+  steps-near g is =
+      record {
+        none-held = refl;
+        held = refl;
+        leaves = refl;
+        is-tree = is;
+        other-tree = is;
+        apart = waits (join-differs leafFormat refl others (insert-differs leafFormat refl (g .waiting)));
+      }
+
+never-present : (b : Bool) → pick b false false ≡ true → ⊥
+never-present true e = let z : _≡_ {A = ℕ} 0 1 = cc in omega arith
+never-present false e = let z : _≡_ {A = ℕ} 0 1 = cc in omega arith
+
+module _ (k : ℕ) (some-size : 1 ≤ k) (small : k ≤ 16) (key value : ℕ) (fits : OpFits (put key value)) (draw : ℕ → ℕ) (leaves : (d : ℕ) → draw d < 2 ^ k)
+    (st : Store) (fit : FitStore map k st) where
+  -- The held nodes are proper, and the tree is a tree.
+  held-proper : (g : Going) (o : Outcome ℕ) → fetchedBy k (rounds map k) (put key value) draw st ≡ on g (done o)
+      → IsTree k (g .tree) × All (ProperLeaf k) (nodesIn (g .held))
+  held-proper g o e =
+      go
+      (subst (FetchEnds k (rounds map k) 0 (put key value) st) e
+      (fetch-rounds k some-size small (put key value) fits draw leaves st fit (rounds map k) 0 (omega arith)))
+    where
+      go : FetchEnds k (rounds map k) 0 (put key value) st (on g (done o)) → IsTree k (g .tree) × All (ProperLeaf k) (nodesIn (g .held))
+      go (goes sound few seen next) = (sound .is-tree, sound .held)
+
+  left-apart : {x y : Round (Outcome ℕ)} → fetchedBy k (rounds map k) (put key value) draw st ≡ x
+      → Together (Compared key value (ltb (st .entries) (capacity k))) x y → pick (ltb (st .entries) (capacity k)) false (holdsKey key x) ≡ true
+      → OnlyValue k key value (afterFetches map k (rounds map k) draw st y) (afterFetches map k (rounds map k) draw st x)
+  unfolding afterFetches
+  left-apart e (both-on g (both-done (revalued none-left n others root entries named held there))) present =
+      let p = held-proper g _ e in
+      ends-apart k key value n named others root entries
+      (puts-near k refl refl (p .1 n held) (with-value-proper k small n value (fits .1) (p .1 n held)) _ _ draw leaves (rounds map k) (putDraw map (rounds map k) 0) _ _
+      (steps-near k key value n named others root entries g (p .0)))
+  left-apart e (both-on g (both-done (same none-there o))) present = let z : _≡_ {A = ℕ} 0 1 = cc in absurd (omega arith)
+  left-apart e (both-on g (both-want {w = w} {c = c} more)) present =
+      absurd (never-left-wanting k some-size small (put key value) fits draw leaves st fit g w c e)
+  left-apart e (both-shut m g) present = absurd (never-present (ltb (st .entries) (capacity k)) present)
+
+  -- A put of a present key on a full map, on any store that a fit state and a lent tree are: the earlier call and this one differ in the one value and the answer.
+  pub only-value : fullPut (capacity k) (st .entries) (put key value) (fetchedBy k (rounds map k) (put key value) draw st) ≡ true
+      → OnlyValue k key value (bucketCallWith earlierPrograms k (rounds map k) (put key value) draw st) (bucketCall k (rounds map k) (put key value) draw st)
+  unfolding bucketCall fullPut
+  only-value present = left-apart refl (puts-together k (rounds map k) key value draw st) present

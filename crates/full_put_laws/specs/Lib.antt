@@ -1,0 +1,12 @@
+pub mod Apart
+pub mod Differing
+pub mod Slots
+pub mod EvictApart
+pub mod RoundApart
+pub mod Earlier
+pub mod Together
+pub mod TwoPuts
+pub mod PutRounds
+pub mod FullPut
+pub mod Calls
+pub mod Examples

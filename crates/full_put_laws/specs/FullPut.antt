@@ -2,6 +2,7 @@
 -- earlier one in the one value and the answer alone.
 use mathlib.Core.Path.{_≡_, refl, sym, _∙_, subst}
 use mathlib.Core.Bool.{Bool, true, false}
+use mathlib.Core.Logic.{_⊎_}
 use mathlib.Core.List.{List, [], _∷_}
 use mathlib.Core.Option.{Option, none, some}
 use Prim.Native.Nat.{ℕ, _^_, _≤_, _<_}
@@ -49,10 +50,10 @@ fullPut limit entries pop r = false
 fullPut limit entries (add value) r = false
 fullPut limit entries take r = false
 
--- The two answers: 10 became replaced with the old value; a call that closed the store has none.
-pub data TwoAnswers (old : ℕ) : (earlier now : Option Answer) → Type 0 where
-  ten-then-replaced : TwoAnswers old (some full) (some (replaced old))
-  neither : TwoAnswers old none none
+-- The two answers, by the mark that both calls left: 10 became replaced with the old value; calls that closed the store have none.
+pub data TwoAnswers (old : ℕ) : (mark : ℕ) → (earlier now : Option Answer) → Type 0 where
+  ten-then-replaced : TwoAnswers old 0 (some full) (some (replaced old))
+  neither : {m : ℕ} → (m ≡ 8) ⊎ (m ≡ 9) → TwoAnswers old m none none
 
 -- What the earlier call left and what the call leaves: the same mark, entries, root link and leaves; the same nodes in the same places, but that one
 -- node, which has the key, has the put's value.
@@ -64,7 +65,7 @@ pub record OnlyValue (k key value : ℕ) (earlier now : Left) : Type 0 where
   pub node : Node ℕ
   pub named : node .key ≡ key
   pub apart : Apart leafFormat k node (withValue value node) (earlier .tree) (earlier .waiting) (now .tree) (now .waiting)
-  pub answers : TwoAnswers (node .value) (earlier .answer) (now .answer)
+  pub answers : TwoAnswers (node .value) (now .mark) (earlier .answer) (now .answer)
 
 -- ---- the fetch rounds
 module _ (k F key value : ℕ) (draw : ℕ → ℕ) (st : Store) where
@@ -120,7 +121,7 @@ module _ (k key value : ℕ) (n : Node ℕ) (named : n .key ≡ key) (others : L
 
   ends-apart : {x y : Round (Outcome ℕ)} → NearRounds k n (withValue value n) before after x y → OnlyValue k key value (afterPuts before x) (afterPuts after y)
   unfolding afterPuts
-  ends-apart (near-shut m g h near) =
+  ends-apart (near-shut m g h closes near) =
       rw (closed-left m entries l g (near .none-held), closed-left m entries l h (near .held ∙ near .none-held))
       (record {
         mark = refl;
@@ -130,7 +131,7 @@ module _ (k key value : ℕ) (n : Node ℕ) (named : n .key ≡ key) (others : L
         node = n;
         named = named;
         apart = near .apart;
-        answers = neither;
+        answers = neither closes;
       })
   ends-apart (near-on g h near) =
       record {

@@ -1,6 +1,7 @@
 -- The put rounds over two stores that are the same but for the value of one node: they do the same, and leave two such stores.
 use mathlib.Core.Path.{_≡_, refl, sym, ap, ap₂, subst}
 use mathlib.Core.Bool.{Bool, true, false}
+use mathlib.Core.Logic.{_⊎_, inl, inr}
 use mathlib.Core.List.{List, [], _∷_, _++_, map}
 use mathlib.Core.Option.{Option, none, some}
 use Prim.Native.Nat.{ℕ, zero, suc, _^_, _<_}
@@ -29,9 +30,9 @@ pub record Near (k : ℕ) (a b : Node ℕ) (g h : Going) : Type 0 where
   pub other-tree : IsTree k (h .tree)
   pub apart : Apart leafFormat k a b (g .tree) (g .waiting) (h .tree) (h .waiting)
 
--- Where rounds over two such stores come to: both closed the store with one mark, or both go on.
+-- Where rounds over two such stores come to: both closed the store with one mark, 8 or 9, or both go on.
 pub data NearRounds (k : ℕ) (a b : Node ℕ) (o q : Outcome ℕ) : Round (Outcome ℕ) → Round (Outcome ℕ) → Type 0 where
-  near-shut : (m : ℕ) (g h : Going) → Near k a b g h → NearRounds k a b o q (shut m g) (shut m h)
+  near-shut : (m : ℕ) (g h : Going) → (m ≡ 8) ⊎ (m ≡ 9) → Near k a b g h → NearRounds k a b o q (shut m g) (shut m h)
   near-on : (g h : Going) → Near k a b g h → NearRounds k a b o q (on g (done o)) (on h (done q))
 
 module _ (k : ℕ) {a b : Node ℕ} (same-key : b .key ≡ a .key) (same-tag : b .tag ≡ a .tag) (proper-a : ProperLeaf k a) (proper-b : ProperLeaf k b)
@@ -43,7 +44,7 @@ module _ (k : ℕ) {a b : Node ℕ} (same-key : b .key ≡ a .key) (same-tag : b
       (ap₂ overflows (apart-length (near .apart)) (ap length (sym (near .held)))) (go (tooMany g))
     where
       go : (many : Bool) → NearRounds k a b o q (pick many (shut 9 g) (on g (done o))) (pick many (shut 9 h) (on h (done q)))
-      go true = near-shut 9 g h near
+      go true = near-shut 9 g h (inr refl) near
       go false = near-on g h near
 
   idle-near : (leaf : ℕ) → leaf < 2 ^ k → (g h : Going) → Near k a b g h → NearRounds k a b o q (idleRound k leaf (done o) g) (idleRound k leaf (done q) h)
@@ -64,7 +65,7 @@ module _ (k : ℕ) {a b : Node ℕ} (same-key : b .key ≡ a .key) (same-tag : b
           → NearRounds k a b o q (elim x [ none ↦ shut 8 (revealing leaf g) | some i ↦ atClose (written k leaf (i .waiting) (g .held) g) (done o) ])
           (elim y [ none ↦ shut 8 (revealing leaf h) | some i ↦ atClose (written k leaf (i .waiting) (h .held) h) (done q) ])
       go both-damaged =
-          near-shut 8 (revealing leaf g) (revealing leaf h)
+          near-shut 8 (revealing leaf g) (revealing leaf h) (inl refl)
           (record {
             none-held = near .none-held;
             held = near .held;
@@ -94,5 +95,5 @@ module _ (k : ℕ) {a b : Node ℕ} (same-key : b .key ≡ a .key) (same-tag : b
       go : ((g h : Going) → Near k a b g h → NearRounds k a b o q (putRounds k draw n (suc d) o g) (putRounds k draw n (suc d) q h))
           → {x y : Round (Outcome ℕ)} → idleRound k (draw d) (done o) g ≡ x → idleRound k (draw d) (done q) h ≡ y → NearRounds k a b o q x y
           → NearRounds k a b o q (putRounds k draw (suc n) d o g) (putRounds k draw (suc n) d q h)
-      go later e f (near-shut m i j apart) = rw (puts-shut k draw n d o g m i e, puts-shut k draw n d q h m j f) (near-shut m i j apart)
+      go later e f (near-shut m i j closes apart) = rw (puts-shut k draw n d o g m i e, puts-shut k draw n d q h m j f) (near-shut m i j closes apart)
       go later e f (near-on i j apart) = rw (puts-on k draw n d o g (done o) i e, puts-on k draw n d q h (done q) j f) (later i j apart)

@@ -7,7 +7,8 @@
 //! as many keys again as there is room for, so that it is three quarters full
 //! in the long run; the stack's are push and pop alike, so that it is half full.
 //! The heap's are the more often add the emptier it is, so that it is about five
-//! eighths full.
+//! eighths full. With `full` for STRUCTURE a map is filled, and from then on all
+//! calls put keys that it holds.
 
 use reference::fast;
 use reference::inputs::call_bytes;
@@ -22,14 +23,27 @@ fn main() -> io::Result<()> {
         std::process::exit(2);
     };
     let number = |word: &str| word.parse::<u64>().expect("a number");
-    let (structure, size) = (number(structure) as u8, number(size) as u8);
+    let (structure, next): (u8, Next) = match structure.as_str() {
+        "full" => (MAP, put_held),
+        _ => (number(structure) as u8, any_call),
+    };
+    let size = number(size) as u8;
     let mut random = Random::new(number(seed));
-    let (with_tapes, with_leaves) = generate(&mut random, structure, size, number(calls));
+    let (with_tapes, with_leaves) = generate(&mut random, structure, size, number(calls), next);
     fs::write(input, with_tapes)?;
     fs::write(paths, with_leaves)
 }
 
-fn generate(random: &mut Random, structure: u8, size: u8, calls: u64) -> (Vec<u8>, Vec<u8>) {
+/// The next ticket, for a structure, a size and how many entries there are.
+type Next = fn(&mut Random, u8, u8, u32) -> Ticket;
+
+fn generate(
+    random: &mut Random,
+    structure: u8,
+    size: u8,
+    calls: u64,
+    next: Next,
+) -> (Vec<u8>, Vec<u8>) {
     let rounds = fetch_rounds(structure, size);
     let mut tree = vec![0; tree_bytes(size)];
     let mut state = fast::open(structure, size, &mut tree);
@@ -38,7 +52,7 @@ fn generate(random: &mut Random, structure: u8, size: u8, calls: u64) -> (Vec<u8
     // A tape, and a trace with room for one more number, so that both have 2F + 1.
     let (mut tape, mut trace) = (vec![0; 2 * rounds + 1], vec![0; 2 * rounds + 1]);
     for _ in 0..calls {
-        let ticket = ticket(random, structure, size, state.entries);
+        let ticket = next(random, structure, size, state.entries);
         tape.fill_with(|| random.next() as u16);
         let outcome = fast::call(&mut state, &mut tree, &ticket.bytes(), &tape, &mut trace);
         assert_eq!(outcome.leaves, 2 * rounds, "an overflow: take another seed");
@@ -48,7 +62,17 @@ fn generate(random: &mut Random, structure: u8, size: u8, calls: u64) -> (Vec<u8
     (with_tapes, with_leaves)
 }
 
-fn ticket(random: &mut Random, structure: u8, size: u8, entries: u32) -> Ticket {
+/// A map gets the keys from 0 on, until it is full.
+fn put_held(random: &mut Random, _: u8, size: u8, entries: u32) -> Ticket {
+    let room = capacity(size);
+    let key = match entries < room {
+        true => entries,
+        false => random.below(u64::from(room)) as u32,
+    };
+    Ticket::new(PUT, key, random.next())
+}
+
+fn any_call(random: &mut Random, structure: u8, size: u8, entries: u32) -> Ticket {
     let room = u64::from(capacity(size));
     let kind = match structure {
         MAP => random.pick(&[GET, PUT, REMOVE]),

@@ -15,14 +15,25 @@ use Rattle.method_spec.specs.Node.{Node}
 use Rattle.method_spec.specs.Prog.{bind}
 use Rattle.method_spec.specs.Answer.{map, Op, get, put, replaced, full}
 use Rattle.method_spec.specs.Map.{walk, single, double, turn, raise, climb, unwind, unwound, getStep, getProg, putStep, putProg, between, mapTest}
-use Rattle.method_spec.specs.Rounds.{spare}
+use Rattle.method_spec.specs.Rounds.{rounds, spare}
 use Rattle.method_spec.specs.Call.{program, test}
 use Rattle.leaf_spec.specs.Leaf.{leafFormat, readLeaf}
 use Rattle.bucket_call_spec.specs.Fetch.{Left, movedLink, movedNode, closing, atClose, idleRound, tookRound, wantRound, fetchRound, fetchRounds}
 use Rattle.bucket_call_spec.specs.Call.{Store, putRounds, afterPuts, afterFetches, fetchedBy, bucketCall}
+use Rattle.balance_spec.specs.Least.{least}
+use Rattle.balance_spec.specs.Shape.{shaped}
+use Rattle.balance_spec.specs.Greatest.{tallest, greatest}
+use Rattle.list_spec.specs.Ascending.{ascendingFrom, ascending}
+use Rattle.state_spec.specs.Fit.{allOf, rootGood, fits, placesFrom}
+use Rattle.state_spec.specs.Ticket.{opIn}
+use Rattle.state_spec.specs.Opening.{opened}
+use Rattle.operation_spec.specs.declared.Answer.the-variants.{Replaced}
+use Rattle.call_spec.specs.declared.Reply.the-variants.{Answered, Refused}
+use Rattle.call_spec.specs.Store.{Ended, called, callWith, replied, replyOf}
 use Rattle.full_put_laws.specs.Apart.{Differ, here, there, OneSlot}
-use Rattle.full_put_laws.specs.Earlier.{earlierPutStep, earlierPutProg, earlierPrograms, bucketCallWith}
+use Rattle.full_put_laws.specs.Earlier.{earlierPutStep, earlierPutProg, earlierPrograms, bucketCallWith, callWithPrograms, calledWith}
 use Rattle.full_put_laws.specs.FullPut.{fullPut}
+use Rattle.full_put_laws.specs.Calls.{presentOnFull, fullPutCall}
 
 two-lists : Differ {A = ℕ} 5 6 (4 ∷ 5 ∷ 5 ∷ []) (4 ∷ 6 ∷ 5 ∷ [])
 two-lists = there 4 (here (5 ∷ []))
@@ -105,3 +116,30 @@ one-slot =
       one = refl;
       two = refl;
     }
+
+-- ---- whole calls: a map of size 1 that put 9 filled
+abbrev putTicket : (key number : ℕ) → List ℕ
+putTicket key number = bytes 1 2 ++ (bytes 4 key ++ bytes 8 number)
+
+unfoldable filled-by-nine : Ended
+unfolding holdsNine opened called callWith calledWith callWithPrograms presentOnFull replied replyOf fits allOf ascendingFrom ascending rootGood placesFrom opIn rounds greatest tallest shaped least
+filled-by-nine =
+    called (opened 1 1 (replicate 384 7) .state) (opened 1 1 (replicate 384 7) .tree) (putTicket 9 1) (replicate 7 0) (replicate 6 5)
+
+abbrev next : (key number : ℕ) → Ended
+next key number = called (filled-by-nine .state) (filled-by-nine .tree) (putTicket key number) (replicate 7 0) (replicate 6 5)
+
+abbrev nextEarlier : (key number : ℕ) → Ended
+nextEarlier key number =
+    calledWith earlierPrograms (filled-by-nine .state) (filled-by-nine .tree) (putTicket key number) (replicate 7 0) (replicate 6 5)
+
+abbrev is-full-put-call : ℕ → Bool
+is-full-put-call key = fullPutCall (filled-by-nine .state) (filled-by-nine .tree) (putTicket key 2) (replicate 7 0)
+
+calls-on-full : (is-full-put-call 9 ≡ true) × (next 9 2 .reply ≡ Answered (Replaced 1)) × (nextEarlier 9 2 .reply ≡ Refused 10)
+unfolding filled-by-nine
+calls-on-full = (refl, refl, refl)
+
+absent-on-full : (is-full-put-call 8 ≡ false) × (next 8 2 .reply ≡ Refused 10) × (nextEarlier 8 2 .reply ≡ Refused 10)
+unfolding filled-by-nine
+absent-on-full = (refl, refl, refl)

@@ -261,13 +261,16 @@ fn branches_of_puts() {
     assert_eq!(full(3), [FullReplaces, FullReplacesBelow]);
 }
 
+/// What a call names of its own draws where F is 6, from that one on: all but
+/// the spare one.
+fn own(call: usize, from: usize) -> Vec<(usize, usize)> {
+    let draws = (from..6).chain(7..13);
+    draws.map(|draw| (call, draw)).collect()
+}
+
 /// A full map's put names what a get would, whether the key is there or not.
 #[test]
 fn origins_of_a_full_map() {
-    let own = |call: usize, from: usize| -> Vec<(usize, usize)> {
-        let draws = (from..6).chain(7..13);
-        draws.map(|draw| (call, draw)).collect()
-    };
     let mut machine = Machine::new(MAP, 2);
     assert_eq!(machine.feed(put(2, 20)), own(1, 0));
     assert_eq!(machine.feed(put(1, 10)), [vec![(1, 6)], own(2, 1)].concat());
@@ -403,10 +406,6 @@ fn branches_of_takes() {
 
 #[test]
 fn origins_of_a_heap() {
-    let own = |call: usize, from: usize| -> Vec<(usize, usize)> {
-        let draws = (from..6).chain(7..13);
-        draws.map(|draw| (call, draw)).collect()
-    };
     let mut machine = Machine::new(HEAP, 2);
     assert_eq!(machine.feed(take()), own(1, 0));
     assert_eq!(machine.feed(add(10)), own(2, 0));

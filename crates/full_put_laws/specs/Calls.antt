@@ -9,7 +9,7 @@ use native.Mathlib.Omega.{arith}
 use lib.Dec.{eqb, ltb}
 use lib.ListN.{length}
 use lib.Pow.{pow-pos}
-use borrow.Author.Tests.{eqb-true}
+use borrow.Author.Tests.{eqb-true, not-false}
 use Rattle.list_spec.specs.Choice.{pick}
 use Rattle.slot_spec.specs.LittleEndian.{Bytes}
 use Rattle.slot_spec.specs.Tree.{treeLength}
@@ -87,10 +87,6 @@ module _ (s : State) (tree tape trace : List ℕ) where
   with-compares st pop fit fits some-size small present = let z : _≡_ {A = ℕ} 0 1 = cc in absurd (omega arith)
   with-compares st (add value) fit fits some-size small present = let z : _≡_ {A = ℕ} 0 1 = cc in absurd (omega arith)
   with-compares st take fit fits some-size small present = let z : _≡_ {A = ℕ} 0 1 = cc in absurd (omega arith)
-
-not-false : (b : Bool) → not b ≡ false → b ≡ true
-not-false true e = refl
-not-false false e = cc
 
 -- A put of a present key on a full map: but for the one value and the answer all is as it was. The premises hold of everything that a machine can lend.
 pub on-full-map : (s : State) (tree ticket tape trace : List ℕ) → Bytes tree → Bytes ticket → Widths s → fullPutCall s tree ticket tape ≡ true

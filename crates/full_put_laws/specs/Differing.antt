@@ -46,14 +46,14 @@ module _ {A : Type 0} {a b : A} where
     map-same same (there x d) = ap (λ (zs : List B). f x ∷ zs) (map-same same d)
 
 -- ---- element by element
-pub record Place {A : Type 0} (a b : A) (xs ys : List A) : Type 0 where
+pub record OnePlace {A : Type 0} (a b : A) (xs ys : List A) : Type 0 where
   pub at : ℕ
   pub within : at < length xs
   pub first : (z : A) → getD xs at z ≡ a
   pub second : (z : A) → getD ys at z ≡ b
   pub elsewhere : (i : ℕ) → (¬ i ≡ at) → (z : A) → getD xs i z ≡ getD ys i z
 
-pub differ-place : {A : Type 0} {a b : A} {xs ys : List A} → Differ a b xs ys → Place a b xs ys
+pub differ-place : {A : Type 0} {a b : A} {xs ys : List A} → Differ a b xs ys → OnePlace a b xs ys
 differ-place {A} {a} {b} (here xs) =
     record { at = 0; within = omega arith; first = λ z. refl; second = λ z. refl; elsewhere = later }
   where
@@ -64,7 +64,7 @@ differ-place {A} {a} {b} (there x {xs = xs} {ys = ys} d) =
     let p = differ-place d in
     record { at = suc (p .at); within = omega arith; first = p .first; second = p .second; elsewhere = later p }
   where
-    later : (p : Place a b xs ys) (i : ℕ) → (¬ i ≡ suc (p .at)) → (z : A) → getD (x ∷ xs) i z ≡ getD (x ∷ ys) i z
+    later : (p : OnePlace a b xs ys) (i : ℕ) → (¬ i ≡ suc (p .at)) → (z : A) → getD (x ∷ xs) i z ≡ getD (x ∷ ys) i z
     later p zero other z = refl
     later p (suc i) other z = p .elsewhere i (λ e. other (ap suc e)) z
 

@@ -1,5 +1,5 @@
 -- Worked cases of the definitions: two lists one place apart; a full map of size 1 that holds 9, and puts on it, as they are and as they were.
-use mathlib.Core.Path.{_≡_, refl}
+use mathlib.Core.Path.{_≡_, refl, sym, _∙_}
 use Prim.Native.Nat.{ℕ}
 use native.Mathlib.Omega.{arith}
 use mathlib.Core.Bool.{Bool, true, false}
@@ -11,7 +11,7 @@ use Rattle.slot_spec.specs.Layout.{fields, pack}
 use Rattle.slot_spec.specs.Tree.{halvings, among}
 use Rattle.slot_spec.specs.Slot.{fieldsIn, fieldsOf, nodeOf, encode, allZero, bad, readSlot, filled, wellFormed}
 use Rattle.round_spec.specs.Round.{withBucket, noneTwice, allGood, readBucket, readBuckets, insert, join, takeFirst, tagged, granted, joined, grantedFrom, readHalf, choose, evict}
-use Rattle.method_spec.specs.Node.{Node}
+use Rattle.method_spec.specs.Node.{Node, linkTo}
 use Rattle.method_spec.specs.Prog.{bind}
 use Rattle.method_spec.specs.Answer.{map, Op, get, put, replaced, full}
 use Rattle.method_spec.specs.Map.{walk, single, double, turn, raise, climb, unwind, unwound, getStep, getProg, putStep, putProg, between, mapTest}
@@ -30,9 +30,9 @@ use Rattle.state_spec.specs.Opening.{opened}
 use Rattle.operation_spec.specs.declared.Answer.the-variants.{Replaced}
 use Rattle.call_spec.specs.declared.Reply.the-variants.{Answered, Refused}
 use Rattle.call_spec.specs.Store.{Ended, called, callWith, replied, replyOf}
-use Rattle.full_put_laws.specs.Apart.{Differ, here, there, OneSlot}
+use Rattle.full_put_laws.specs.Apart.{Differ, here, there, OneSlot, stands}
 use Rattle.full_put_laws.specs.Earlier.{earlierPutStep, earlierPutProg, earlierPrograms, bucketCallWith, callWithPrograms, calledWith}
-use Rattle.full_put_laws.specs.FullPut.{fullPut}
+use Rattle.full_put_laws.specs.FullPut.{fullPut, ten-then-replaced, OnlyValue}
 use Rattle.full_put_laws.specs.Calls.{presentOnFull, fullPutCall}
 
 two-lists : Differ {A = ℕ} 5 6 (4 ∷ 5 ∷ 5 ∷ []) (4 ∷ 6 ∷ 5 ∷ [])
@@ -115,6 +115,28 @@ one-slot =
       at = refl;
       one = refl;
       two = refl;
+    }
+
+-- All else that the two calls left, and so that they differ in the value and the answer alone.
+one-mark : (earlier .mark ≡ 0) × (now .mark ≡ 0) × (earlier .entries ≡ 1) × (now .entries ≡ 1)
+unfolding holdsNine
+one-mark = (refl, refl, refl, refl)
+
+one-root : (earlier .root ≡ linkTo (nineWith 1)) × (now .root ≡ linkTo (nineWith 1)) × (earlier .leaves ≡ replicate 6 0) × (now .leaves ≡ replicate 6 0)
+unfolding holdsNine
+one-root = (refl, refl, refl, refl)
+
+only-the-value : OnlyValue 1 9 2 earlier now
+only-the-value =
+    record {
+      mark = one-mark .1 ∙ sym (one-mark .0);
+      entries = one-mark .3 ∙ sym (one-mark .2);
+      root = one-root .1 ∙ sym (one-root .0);
+      leaves = one-root .3 ∙ sym (one-root .2);
+      node = nineWith 1;
+      named = refl;
+      apart = rw (two-trees .0, two-trees .1, two-trees .2, two-trees .3) (stands one-slot);
+      answers = rw (one-mark .1, nine-twice .0, nine-twice .1) ten-then-replaced;
     }
 
 -- ---- whole calls: a map of size 1 that put 9 filled

@@ -17,6 +17,7 @@ use Rattle.method_spec.specs.Map.{Outcome}
 use Rattle.method_spec.specs.Rounds.{rounds, spareDraw, putDraw}
 use Rattle.method_spec.specs.Call.{capacity, program}
 use Rattle.list_spec.specs.Distinct.{All}
+use Rattle.list_laws.specs.ChoiceLaws.{pick-neither}
 use Rattle.round_spec.specs.Round.{join}
 use Rattle.round_spec.specs.Whole.{IsTree}
 use Rattle.leaf_spec.specs.Leaf.{leafFormat, ProperLeaf}
@@ -158,10 +159,6 @@ module _ (k key value : ℕ) (n : Node ℕ) (named : n .key ≡ key) (others : L
         apart = waits (join-differs leafFormat refl others (insert-differs leafFormat refl (g .waiting)));
       }
 
-never-present : (b : Bool) → pick b false false ≡ true → ⊥
-never-present true e = let z : _≡_ {A = ℕ} 0 1 = cc in omega arith
-never-present false e = let z : _≡_ {A = ℕ} 0 1 = cc in omega arith
-
 module _ (k : ℕ) (some-size : 1 ≤ k) (small : k ≤ 16) (key value : ℕ) (fits : OpFits (put key value)) (draw : ℕ → ℕ) (leaves : (d : ℕ) → draw d < 2 ^ k)
     (st : Store) (fit : FitStore map k st) where
   -- The held nodes are proper, and the tree is a tree.
@@ -187,7 +184,10 @@ module _ (k : ℕ) (some-size : 1 ≤ k) (small : k ≤ 16) (key value : ℕ) (f
   left-apart e (both-on g (both-done (same none-there o))) present = let z : _≡_ {A = ℕ} 0 1 = cc in absurd (omega arith)
   left-apart e (both-on g (both-want {w = w} {c = c} more)) present =
       absurd (never-left-wanting k some-size small (put key value) fits draw leaves st fit g w c e)
-  left-apart e (both-shut m g) present = absurd (never-present (ltb (st .entries) (capacity k)) present)
+  left-apart e (both-shut m g) present =
+      let closed = pick-neither (ltb (st .entries) (capacity k)) false present .1 in
+      let z : _≡_ {A = ℕ} 0 1 = cc in
+      absurd (omega arith)
 
   -- A put of a present key on a full map, on any store that a fit state and a lent tree are: the earlier call and this one differ in the one value and the answer.
   pub only-value : fullPut (capacity k) (st .entries) (put key value) (fetchedBy k (rounds map k) (put key value) draw st) ≡ true

@@ -15,15 +15,16 @@ use Rattle.method_spec.specs.Answer.{Answer, replaced, full}
 use Rattle.method_spec.specs.Map.{Outcome, Step, Sub, top, Spot, gap, hit, linkOf, listed, topOf, kids, nodesAt, seat, stepAt, below, placed, rest, start, walk, unwind, unwound, finish, putStep, putProg}
 use Rattle.bucket_call_spec.specs.Fetch.{Held}
 use Rattle.word_round_laws.specs.JoinLaws.{among-append}
+use Rattle.none_lost_laws.specs.Sound.{nodesIn}
 use Rattle.full_put_laws.specs.Earlier.{earlierPutStep, earlierPutProg}
 use Rattle.full_put_laws.specs.Together.{Both, both-done, both-want, both-same}
 
 -- ---- what upward over a path makes: the node at its end, and those passed, each with its new link
-unfoldable pub relinked : List (Step ℕ) → Link ℕ → List (Node ℕ)
+unfoldable relinked : List (Step ℕ) → Link ℕ → List (Node ℕ)
 relinked [] l = []
 relinked (p ∷ path) l = withChild (p .way) (p .node) l ∷ relinked path (linkTo (withChild (p .way) (p .node) l))
 
-unfoldable pub topLink : List (Step ℕ) → Link ℕ → Link ℕ
+unfoldable topLink : List (Step ℕ) → Link ℕ → Link ℕ
 topLink [] l = l
 topLink (p ∷ path) l = topLink path (linkTo (withChild (p .way) (p .node) l))
 
@@ -74,16 +75,16 @@ pub data Compared (key value : ℕ) (room : Bool) (hs : List Held) : Outcome ℕ
   same : pick room false (among key (keysHeld hs)) ≡ false → (o : Outcome ℕ) → Compared key value room hs o o
   -- The map is full, and n, which is held, has the key.
   revalued : room ≡ false → (n : Node ℕ) (others : List (Node ℕ)) (root : Link ℕ) (entries : ℕ)
-      → n .key ≡ key → List·Memᴰ n (map (λ (h : Held). h .node) hs) → among key (keysHeld hs) ≡ true
+      → n .key ≡ key → List·Memᴰ n (nodesIn hs) → among key (keysHeld hs) ≡ true
       → Compared key value room hs
       (record { nodes = withValue value n ∷ others; root = root; entries = entries; answer = replaced (n .value) })
       (record { nodes = n ∷ others; root = root; entries = entries; answer = full })
 
 -- One more is held.
-last-held : (hs : List Held) (f : From) (n : Node ℕ) → List·Memᴰ n (map (λ (h : Held). h .node) (hs ++ (record { from = f; node = n } ∷ [])))
+last-held : (hs : List Held) (f : From) (n : Node ℕ) → List·Memᴰ n (nodesIn (hs ++ (record { from = f; node = n } ∷ [])))
 last-held hs f n =
     rw (map-append (λ (h : Held). h .node) hs (record { from = f; node = n } ∷ []))
-    (Memᴰ·append-right (map (λ (h : Held). h .node) hs) (List·Memᴰ·head refl))
+    (Memᴰ·append-right (nodesIn hs) (List·Memᴰ·head refl))
 
 last-key : (key : ℕ) (hs : List Held) (f : From) (n : Node ℕ) → among key (keysHeld hs) ≡ false
     → among key (keysHeld (hs ++ (record { from = f; node = n } ∷ []))) ≡ eqb key (n .key)
@@ -136,7 +137,7 @@ module _ (key value tag entries limit : ℕ) where
       go true e = room-both e hs (gap l path)
       go false e = rw (gap-same l path, gap-full e l path) (both-done {hs = hs} (same (rw (e, none-there) refl) (finish entries full (unwound (gap l path)))))
 
-  hit-both : (hs : List Held) (w : Want ℕ) (n : Node ℕ) (path : List (Step ℕ)) → n .key ≡ key → List·Memᴰ n (map (λ (h : Held). h .node) hs)
+  hit-both : (hs : List Held) (w : Want ℕ) (n : Node ℕ) (path : List (Step ℕ)) → n .key ≡ key → List·Memᴰ n (nodesIn hs)
       → among key (keysHeld hs) ≡ true → Both R hs (step (hit w n path)) (earlierStep (hit w n path))
   unfolding putStep
   hit-both hs w n path named held there = go (ltb entries limit) refl

@@ -153,7 +153,8 @@ full-map : after 1 zeros (put 9 1 ∷ put 9 2 ∷ get 9 ∷ put 8 3 ∷ get 8 �
 unfolding after
 full-map = refl
 
--- Both puts name the tag of the node there, drawn by the first call (F = 3), and then their own draws.
+-- The second put names the first one's spare draw (F = 3), which the node has for its tag, and the third the draw of the second's fetch; then each
+-- its own draws.
 full-map-names : names (rounds map 1) 1 (put 9 1 ∷ put 9 2 ∷ put 8 3 ∷ [])
     ≡ drawn 1 0 ∷ drawn 1 1 ∷ drawn 1 2 ∷ drawn 1 4 ∷ drawn 1 5 ∷ drawn 1 6
     ∷ drawn 1 3 ∷ drawn 2 1 ∷ drawn 2 2 ∷ drawn 2 4 ∷ drawn 2 5 ∷ drawn 2 6

@@ -2,3 +2,4 @@ pub mod Choice
 pub mod Perm
 pub mod Distinct
 pub mod Ascending
+pub mod Sorting

@@ -1,0 +1,48 @@
+-- Reading out: the outcome, and every byte of the lent output buffer. State and tree are only read.
+use Prim.Native.Nat.{ℕ}
+use mathlib.Core.Bool.{Bool, not, _&&_, _||_}
+use mathlib.Core.List.{List, _++_}
+use lib.Dec.{eqb, leb, ltb}
+use lib.ListN.{length, drop}
+use Rattle.list_spec.specs.Choice.{pick}
+use Rattle.slot_spec.specs.Tree.{treeLength}
+use Rattle.state_spec.specs.declared.State.{State}
+use Rattle.state_spec.specs.Fit.{inRange, largestStructure, largestSize, places}
+use Rattle.readout_spec.specs.declared.ReadOut.{ReadOut}
+use Rattle.readout_spec.specs.declared.ReadOut.the-variants.{Written, Refused}
+use Rattle.readout_spec.specs.Taken.{entries, report}
+use Rattle.readout_spec.specs.File.{file}
+
+-- The file of a store.
+abbrev pub fileOf : State → List ℕ → List ℕ
+fileOf s tree = file (entries s tree) (report s tree)
+
+-- ---- the checks
+-- 14 "when the mark is neither 8 nor 9"
+abbrev pub closedMark : ℕ → Bool
+closedMark mark = eqb mark 8 || eqb mark 9
+
+-- 2 "when structure or size is unknown or over 101 nodes wait"
+abbrev pub known : State → Bool
+known s =
+    inRange (s .structure) largestStructure && (inRange (s .size) largestSize && leb (s .count) places)
+
+-- ---- the operation
+pub record Left : Type 0 where
+  pub result : ReadOut
+  pub out : List ℕ
+
+-- "None of them writes a byte."
+abbrev pub refusing : ℕ → List ℕ → Left
+refusing n out = record { result = Refused n; out = out }
+
+-- "It returns the file's length and changes no other byte."
+abbrev pub writing : List ℕ → List ℕ → Left
+writing bytes out = record { result = Written (length bytes); out = bytes ++ drop (length bytes) out }
+
+unfoldable pub readOut : State → (tree out : List ℕ) → Left
+readOut s tree out =
+    pick (not (closedMark (s .mark))) (refusing 14 out)
+    (pick (not (known s)) (refusing 2 out)
+    (pick (not (eqb (length tree) (treeLength (s .size)))) (refusing 3 out)
+    (pick (ltb (length out) (length (fileOf s tree))) (refusing 15 out) (writing (fileOf s tree) out))))

@@ -44,14 +44,20 @@ bucketFor inTree i = pick inTree (bucketOf i) 1
 abbrev pub markAt : (inTree : Bool) → (size : ℕ) → List ℕ → ℕ → ℕ
 markAt t k bytes i = markOf t (readSlot k (bucketFor t i) (slotBytesAt bytes i))
 
--- The marks and the keys of n slots from number i on.
-unfoldable pub marksFrom : (inTree : Bool) → (size : ℕ) → List ℕ → (n i : ℕ) → List ℕ
-marksFrom t k bytes zero i = []
-marksFrom t k bytes (suc n) i = markAt t k bytes i ∷ marksFrom t k bytes n (suc i)
+-- n numbers in a row, from number i on.
+unfoldable pub rowFrom : (ℕ → ℕ) → (n i : ℕ) → List ℕ
+rowFrom f zero i = []
+rowFrom f (suc n) i = f i ∷ rowFrom f n (suc i)
 
-unfoldable pub keysFrom : List ℕ → (n i : ℕ) → List ℕ
-keysFrom bytes zero i = []
-keysFrom bytes (suc n) i = fieldsIn (slotBytesAt bytes i) .key ∷ keysFrom bytes n (suc i)
+-- The marks and the keys of n slots from number i on.
+abbrev pub marksFrom : (inTree : Bool) → (size : ℕ) → List ℕ → (n i : ℕ) → List ℕ
+marksFrom t k bytes = rowFrom (markAt t k bytes)
+
+abbrev pub keyAt : List ℕ → ℕ → ℕ
+keyAt bytes i = fieldsIn (slotBytesAt bytes i) .key
+
+abbrev pub keysFrom : List ℕ → (n i : ℕ) → List ℕ
+keysFrom bytes = rowFrom (keyAt bytes)
 
 -- The items with a good node, numbered from i on.
 unfoldable pub goodFrom : ℕ → List ℕ → List ℕ
@@ -59,14 +65,15 @@ goodFrom i [] = []
 goodFrom i (m ∷ ms) = pick (eqb m isRepeated) (i ∷ goodFrom (suc i) ms) (goodFrom (suc i) ms)
 
 -- ---- what is taken
--- Of a row of items in order of keys the first of each key; the row's first where its key is not the last one's.
-unfoldable pub headsAfter : (key : ℕ → ℕ) → ℕ → List ℕ → List ℕ
-headsAfter key k [] = []
-headsAfter key k (i ∷ is) = pick (eqb k (key i)) (headsAfter key k is) (i ∷ headsAfter key (key i) is)
+-- Of a row in order of keys the first of each key; after one with key k, those with another.
+module _ {A : Type 0} (key : A → ℕ) where
+  unfoldable pub headsAfter : ℕ → List A → List A
+  headsAfter k [] = []
+  headsAfter k (a ∷ xs) = pick (eqb k (key a)) (headsAfter k xs) (a ∷ headsAfter (key a) xs)
 
-unfoldable pub heads : (key : ℕ → ℕ) → List ℕ → List ℕ
-heads key [] = []
-heads key (i ∷ is) = i ∷ headsAfter key (key i) is
+  unfoldable pub heads : List A → List A
+  heads [] = []
+  heads (a ∷ xs) = a ∷ headsAfter (key a) xs
 
 -- The marks of the items taken are cleared.
 unfoldable pub cleared : List ℕ → List ℕ → List ℕ

@@ -1,1 +1,1 @@
-// Laws of permutations, of lists with no element twice, and of choices; no code.
+// Laws of permutations, of lists with no element twice, of choices, of sorting and of merging; no code.

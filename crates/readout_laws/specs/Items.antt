@@ -7,11 +7,12 @@ use lib.Dec.{eqb, ltb}
 use lib.ListN.{length, getD, set, replicate}
 use Rattle.list_spec.specs.Choice.{pick}
 use Rattle.slot_spec.specs.Tree.{slotLength}
-use Rattle.slot_spec.specs.Slot.{fieldsIn, readSlot}
+use Rattle.slot_spec.specs.Slot.{fieldsIn, encode, readSlot}
 use Rattle.slot_spec.specs.declared.Reading.{Reading}
 use Rattle.slot_spec.specs.declared.Reading.the-variants.{Full, Empty, Bad}
+use Rattle.state_spec.specs.declared.Place.{Place}
 use Rattle.readout_spec.specs.Seen.{slotPlace, bucketOf, slotBytesAt}
-use Rattle.readout_spec.specs.Taken.{Omitted, isBad, isRepeated}
+use Rattle.readout_spec.specs.Taken.{Omitted, Entry, isBad, isRepeated}
 
 -- The key of an item; 0 for a number past the keys.
 abbrev pub keyIn : List ℕ → ℕ → ℕ
@@ -29,6 +30,15 @@ itemBytes tree waiting i =
 
 abbrev pub valueIn : (tree waiting : List ℕ) → ℕ → ℕ
 valueIn tree waiting i = fieldsIn (itemBytes tree waiting i) .value
+
+-- ---- a state's waiting places as slots
+-- An empty place is an empty slot, whatever else it holds.
+abbrev pub placeBytes : Place → List ℕ
+placeBytes p = pick (p .full) (encode (p .node)) (replicate slotLength 0)
+
+unfoldable pub placesBytes : List Place → List ℕ
+placesBytes [] = []
+placesBytes (p ∷ ps) = placeBytes p ++ placesBytes ps
 
 -- ---- marks: the reason for which an item would be reported if it is not taken, 0 if none
 -- A waiting place that is empty is bad; its bucket is not asked about, as the root's is on every path.
@@ -79,6 +89,10 @@ module _ {A : Type 0} (key : A → ℕ) where
 unfoldable pub cleared : List ℕ → List ℕ → List ℕ
 cleared [] marks = marks
 cleared (i ∷ is) marks = cleared is (set marks i 0)
+
+-- The entry of an item.
+abbrev pub entryFor : (keys tree waiting : List ℕ) → ℕ → Entry
+entryFor keys tree waiting i = record { place = slotPlace i; key = keyIn keys i; value = valueIn tree waiting i }
 
 -- ---- what is reported
 unfoldable pub omittedBy : ℕ → List ℕ → List Omitted

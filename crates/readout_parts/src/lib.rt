@@ -90,7 +90,8 @@ pub fn put_index(part: &mut [u8], keys: &[u64], taken: &[u16])
         let a = INDEX_WIDTH * i;
         let e = a + INDEX_WIDTH;
         let offset = start + VALUE_WIDTH * i;
-        put_pair(&mut part[a..e], KEY_WIDTH, item_key(keys, taken[i]), offset as u64);
+        let key = item_key(keys, taken[i]);
+        put_pair(&mut part[a..e], KEY_WIDTH, key, offset as u64);
         i += 1;
     }
 }
@@ -104,7 +105,8 @@ pub fn put_values(part: &mut [u8], tree: &[u8], waiting: &[u8], taken: &[u16])
     while i < taken.len() {
         let a = VALUE_WIDTH * i;
         let e = a + VALUE_WIDTH;
-        put_number(&mut part[a..e], item_value(tree, waiting, taken[i]));
+        let value = item_value(tree, waiting, taken[i]);
+        put_number(&mut part[a..e], value);
         i += 1;
     }
 }

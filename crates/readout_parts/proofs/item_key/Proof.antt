@@ -5,8 +5,6 @@ use native.Mathlib.Omega.{arith}
 use borrow.Author.Needs.{needs}
 use Rattle.readout_parts.proofs.item_key.Statement.{statement}
 use Rattle.readout_parts.proofs.item_key.Tie as tie
-use Rattle.readout_parts.proofs.item_key.Reads as reads
-use Rattle.readout_parts.proofs.item_key.Lts as lts
 
 mul-result : tie.Need-mul-result
 mul-result c = search needs

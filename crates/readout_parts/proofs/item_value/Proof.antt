@@ -8,10 +8,6 @@ use native.Mathlib.Omega.{arith}
 use borrow.Author.Needs.{needs}
 use Rattle.readout_parts.proofs.item_value.Statement.{statement}
 use Rattle.readout_parts.proofs.item_value.Tie as tie
-use Rattle.readout_parts.proofs.item_value.Reads as reads
-use Rattle.readout_parts.proofs.item_value.Lts as lts
-use Rattle.readout_parts.proofs.load_item.Reads as load-item-reads
-use Rattle.slot_fields.proofs.node_of.Reads as node-of-reads
 
 load-item-requires : tie.Need-load-item-requires
 load-item-requires c κs = search needs

@@ -7,9 +7,6 @@ use native.Mathlib.Omega.{arith}
 use borrow.Author.Needs.{needs}
 use Rattle.readout_parts.proofs.load_item.Statement.{statement}
 use Rattle.readout_parts.proofs.load_item.Tie as tie
-use Rattle.readout_parts.proofs.load_item.Reads as reads
-use Rattle.readout_parts.proofs.load_item.Lts as lts
-use Rattle.slot_words.proofs.load.Reads as load-reads
 
 mul-load : tie.Need-mul-load
 mul-load c = search needs

@@ -9,8 +9,6 @@ use borrow.Author.Needs.{needs}
 use native.Mathlib.Omega.{arith}
 use Rattle.readout_parts.proofs.put_number.Statement.{statement}
 use Rattle.readout_parts.proofs.put_number.Tie as tie
-use Rattle.readout_parts.proofs.put_number.Reads as reads
-use Rattle.readout_parts.proofs.put_number.Lts as lts
 
 abbrev Inv-loop : tie.InvT-loop
 Inv-loop part₀ n rest₀ i₀ part rest i =
@@ -21,7 +19,7 @@ abbrev μ-loop : tie.MeasureT-loop
 
 loop-holds : tie.Need-loop-holds Inv-loop μ-loop
 loop-holds c =
-    let z : length (c .before .args .part .now) - 0 ≡ length (c .before .args .part .now) = omega arith in (omega arith, refl, rw z)
+    let z : length (c .args .part .now) - 0 ≡ length (c .args .part .now) = omega arith in (omega arith, refl, rw z)
 
 cast-part : tie.Need-cast-part Inv-loop μ-loop
 cast-part c = search needs

@@ -9,8 +9,6 @@ use borrow.Author.Needs.{needs}
 use native.Mathlib.Omega.{arith}
 use Rattle.readout_parts.proofs.reported.Statement.{statement}
 use Rattle.readout_parts.proofs.reported.Tie as tie
-use Rattle.readout_parts.proofs.reported.Reads as reads
-use Rattle.readout_parts.proofs.reported.Lts as lts
 
 abbrev Inv-loop : tie.InvT-loop
 Inv-loop marks count₀ i₀ count i =

@@ -30,7 +30,7 @@ unfolding reportPart
 report-length [] = refl
 report-length (o ∷ os) = simp (length-append, length-bytes, report-length os) (omega arith)
 
--- ---- one line, and the rest
+-- ---- one line, and the rest: from item i on, and none past the last
 bytes-more : (w n : ℕ) → bytes (suc w) n ≡ n % 256 ∷ bytes w (n / 256)
 unfolding bytes
 bytes-more w n = refl

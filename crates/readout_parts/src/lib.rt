@@ -56,6 +56,12 @@ fn item_key(keys: &[u64], i: u16) -> u64
 fn load_item(tree: &[u8], waiting: &[u8], i: u16) -> Slot
     ensures { λ r. ⌜ slotBytes r ≡ itemBytes (now (tree .entry)) (now (waiting .entry)) i ⌝ }
 {
+    let none = Slot {
+        a: 0,
+        b: 0,
+        c: 0,
+        d: 0,
+    };
     let at = i as usize;
     let slots = tree.len() / SLOT_LENGTH;
     if at < slots {
@@ -65,12 +71,7 @@ fn load_item(tree: &[u8], waiting: &[u8], i: u16) -> Slot
     if waits < waiting.len() / SLOT_LENGTH {
         return load(waiting, SLOT_LENGTH * waits);
     }
-    Slot {
-        a: 0,
-        b: 0,
-        c: 0,
-        d: 0,
-    }
+    none
 }
 
 fn item_value(tree: &[u8], waiting: &[u8], i: u16) -> u64

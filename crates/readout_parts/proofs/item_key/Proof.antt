@@ -1,7 +1,6 @@
 -- `readout_parts::item_key` meets its contract.
 use mathlib.Core.Path.{sym}
 use lib.ListN.{List·getD-eq-default}
-use native.Mathlib.Omega.{arith}
 use borrow.Author.Needs.{needs}
 use Rattle.readout_parts.proofs.item_key.Statement.{statement}
 use Rattle.readout_parts.proofs.item_key.Tie as tie

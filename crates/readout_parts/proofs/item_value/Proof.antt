@@ -4,7 +4,6 @@ use mathlib.Core.List.{List}
 use Prim.Native.Nat.{ℕ}
 use Rattle.slot_spec.specs.Slot.{fieldsIn, nodeOf}
 use Rattle.slot_spec.specs.declared.Node.{Node}
-use native.Mathlib.Omega.{arith}
 use borrow.Author.Needs.{needs}
 use Rattle.readout_parts.proofs.item_value.Statement.{statement}
 use Rattle.readout_parts.proofs.item_value.Tie as tie

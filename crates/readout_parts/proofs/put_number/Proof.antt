@@ -1,5 +1,5 @@
--- `readout_parts::put_number` meets its contract. The invariant: i bytes are written, and those of the rest would make all.
-use mathlib.Core.Path.{_≡_, refl, _∙_}
+-- `readout_parts::put_number` meets its contract. The invariant: i bytes are written, and those of the rest make it all.
+use mathlib.Core.Path.{_≡_, refl}
 use mathlib.Core.List.{_++_}
 use Prim.Native.Nat.{_-_, _≤_}
 use lib.ListN.{length, take}
@@ -36,8 +36,9 @@ loop-less c = search needs
 loop-again : tie.Need-loop-again Inv-loop μ-loop
 loop-again c =
     let l = c .before .loop in
-    let p = c .before .before .args .part .now in
-    (search needs, search needs, byte-written (l .part) (bytes (length p) (c .before .before .args .n)) (length p) (l .i) (l .rest) (l .inv .1) (search needs) (l .inv .2))
+    let s = c .before .before .args in
+    let w = length (s .part .now) in
+    (search needs, search needs, byte-written (l .part) (bytes w (s .n)) w (l .i) (l .rest) (l .inv .1) (omega arith) (l .inv .2))
 
 same-length : tie.Need-same-length Inv-loop μ-loop
 same-length c = search needs
@@ -45,9 +46,10 @@ same-length c = search needs
 returns : tie.Need-returns Inv-loop μ-loop
 returns c =
     let l = c .before .loop in
-    let p = c .before .before .args .part .now in
-    let z : length p - l .i ≡ 0 = omega arith in
-    all-written (l .part) (bytes (length p) (c .before .before .args .n)) (bytes (length p - l .i) (l .rest)) (l .i) (omega arith) (rw z (bytes-none (l .rest))) (l .inv .2)
+    let s = c .before .before .args in
+    let w = length (s .part .now) in
+    let z : w - l .i ≡ 0 = omega arith in
+    all-written (l .part) (bytes w (s .n)) (bytes (w - l .i) (l .rest)) (l .i) (omega arith) (rw z (bytes-none (l .rest))) (l .inv .2)
 
 pub put-number-spec : {M : Type 1} → statement M
 put-number-spec =

@@ -1,5 +1,5 @@
 -- `readout_parts::reported` meets its contract. The invariant: those counted, with those reported from item i on, are all.
-use mathlib.Core.Path.{_≡_, refl, ap}
+use mathlib.Core.Path.{_≡_, ap}
 use mathlib.Core.Logic.{⊎-elim}
 use Prim.Native.Nat.{_+_, _-_, _≤_, _<_}
 use lib.ListN.{length}

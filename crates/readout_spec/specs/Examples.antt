@@ -34,14 +34,14 @@ zeros slots = replicate (32 * slots) 0
 -- Buckets 1, 2 and 3, of four slots each. Leaf 0 is bucket 2, leaf 1 bucket 3.
 abbrev tree : List ℕ
 tree =
-    encode (node 5 51 0)           -- slot 0, byte 0: its key waits
-    ++ ((7 ∷ replicate 31 0)       -- slot 1, byte 32: bad, its flag is 7
+    encode (node 5 51 0)  -- slot 0, byte 0: its key waits
+    ++ ((7 ∷ replicate 31 0)  -- slot 1, byte 32: bad, its flag is 7
     ++ (zeros 2
-    ++ (encode (node 3 30 0)       -- slot 4, byte 128: taken
-    ++ (encode (node 9 91 0)       -- slot 5, byte 160: taken
+    ++ (encode (node 3 30 0)  -- slot 4, byte 128: taken
+    ++ (encode (node 9 91 0)  -- slot 5, byte 160: taken
     ++ (zeros 2
-    ++ (encode (node 9 90 0)       -- slot 8, byte 256: bad, off the path of leaf 0
-    ++ (encode (node 3 31 1)       -- slot 9, byte 288: its key is at a lower place
+    ++ (encode (node 9 90 0)  -- slot 8, byte 256: bad, off the path of leaf 0
+    ++ (encode (node 3 31 1)  -- slot 9, byte 288: its key is at a lower place
     ++ zeros 2)))))))
 
 -- Four places within the count: the second is empty, the fourth has the first one's key. The fifth is beyond it.
@@ -60,21 +60,21 @@ store mark structure size count =
 -- ---- its file, of 96 bytes
 abbrev expected : List ℕ
 expected =
-    4 ∷ 0                                                          -- four entries
-    ∷ 3 ∷ 0 ∷ 0 ∷ 0 ∷ 34 ∷ 0 ∷ 0 ∷ 0                               -- key 3, its value at 34
+    4 ∷ 0  -- four entries
+    ∷ 3 ∷ 0 ∷ 0 ∷ 0 ∷ 34 ∷ 0 ∷ 0 ∷ 0  -- key 3, its value at 34
     ∷ 5 ∷ 0 ∷ 0 ∷ 0 ∷ 42 ∷ 0 ∷ 0 ∷ 0
     ∷ 7 ∷ 0 ∷ 0 ∷ 0 ∷ 50 ∷ 0 ∷ 0 ∷ 0
     ∷ 9 ∷ 0 ∷ 0 ∷ 0 ∷ 58 ∷ 0 ∷ 0 ∷ 0
-    ∷ 30 ∷ 0 ∷ 0 ∷ 0 ∷ 0 ∷ 0 ∷ 0 ∷ 0                               -- the values
+    ∷ 30 ∷ 0 ∷ 0 ∷ 0 ∷ 0 ∷ 0 ∷ 0 ∷ 0  -- the values
     ∷ 50 ∷ 0 ∷ 0 ∷ 0 ∷ 0 ∷ 0 ∷ 0 ∷ 0
     ∷ 70 ∷ 0 ∷ 0 ∷ 0 ∷ 0 ∷ 0 ∷ 0 ∷ 0
     ∷ 91 ∷ 0 ∷ 0 ∷ 0 ∷ 0 ∷ 0 ∷ 0 ∷ 0
-    ∷ 0 ∷ 0 ∷ 0 ∷ 0 ∷ 2                                            -- byte 0: repeated
-    ∷ 32 ∷ 0 ∷ 0 ∷ 0 ∷ 1                                           -- byte 32: bad
-    ∷ 0 ∷ 1 ∷ 0 ∷ 0 ∷ 1                                            -- byte 256: bad
-    ∷ 32 ∷ 1 ∷ 0 ∷ 0 ∷ 2                                           -- byte 288: repeated
-    ∷ 160 ∷ 1 ∷ 0 ∷ 0 ∷ 1                                          -- waiting place 1, 384 + 32: empty
-    ∷ 224 ∷ 1 ∷ 0 ∷ 0 ∷ 2                                          -- waiting place 3, 384 + 96: repeated
+    ∷ 0 ∷ 0 ∷ 0 ∷ 0 ∷ 2  -- byte 0: repeated
+    ∷ 32 ∷ 0 ∷ 0 ∷ 0 ∷ 1  -- byte 32: bad
+    ∷ 0 ∷ 1 ∷ 0 ∷ 0 ∷ 1  -- byte 256: bad
+    ∷ 32 ∷ 1 ∷ 0 ∷ 0 ∷ 2  -- byte 288: repeated
+    ∷ 160 ∷ 1 ∷ 0 ∷ 0 ∷ 1  -- waiting place 1, 384 + 32: empty
+    ∷ 224 ∷ 1 ∷ 0 ∷ 0 ∷ 2  -- waiting place 3, 384 + 96: repeated
     ∷ []
 
 abbrev pair : (key value : ℕ) → Pair

@@ -2,3 +2,5 @@ pub mod ChoiceLaws
 pub mod PermLaws
 pub mod Shuffle
 pub mod DistinctLaws
+pub mod AscendingLaws
+pub mod SortingLaws

@@ -83,6 +83,21 @@ of-good e (s ∷ ss) m =
     ⊎-elim (λ t. (s, List·Memᴰ·head refl, t)) (λ t. let r = of-good e ss t in (r .0, List·Memᴰ·tail (r .1), r .2))
     (List·Memᴰ·append-cases (goodAt (s .place) (s .reading)) m)
 
+in-good : (e : Entry) (x : Seen) (ss : List Seen) → List·Memᴰ x ss → List·Memᴰ e (goodAt (x .place) (x .reading)) → List·Memᴰ e (goodIn ss)
+unfolding goodIn
+in-good e x [] m t = absurd (List·Memᴰ·not-nil m)
+in-good e x (s ∷ ss) m t = go (λ n. in-good e x ss n t) (List·Memᴰ·cases-cons m)
+  where
+    go : (List·Memᴰ x ss → List·Memᴰ e (goodIn ss)) → (x ≡ s) ⊎ List·Memᴰ x ss → List·Memᴰ e (goodAt (s .place) (s .reading) ++ goodIn ss)
+    go more (inl p) =
+        Memᴰ·append-left (goodIn ss) (subst (λ (y : Seen). List·Memᴰ e (goodAt (y .place) (y .reading))) p t)
+    go more (inr n) = Memᴰ·append-right (goodAt (s .place) (s .reading)) (more n)
+
+pub full-good : (p : ℕ) (n : Node) (ss : List Seen) → List·Memᴰ (record { place = p; reading = Full n }) ss → List·Memᴰ (record { place = p; key = n .key; value = n .value }) (goodIn ss)
+unfolding goodAt
+full-good p n ss m =
+    in-good (record { place = p; key = n .key; value = n .value }) (record { place = p; reading = Full n }) ss m (List·Memᴰ·head refl)
+
 -- A good node is a full reading at its place.
 pub record FullAt (e : Entry) (ss : List Seen) : Type 0 where
   pub node : Node
@@ -120,7 +135,7 @@ good-distinct (s ∷ ss) d = go (s .reading) (good-distinct ss (d .1))
     go : (y : Reading) → Distinct (placesOf (goodIn ss)) → Distinct (placesOf (goodAt (s .place) y ++ goodIn ss))
     go (Full n) more = (
       λ m. let r = Memᴰ·of-map (λ (e : Entry). e .place) (goodIn ss) m in let f = good-full (r .0) ss (r .1) in
-      d .0 (Memᴰ·cast (sym (r .2)) (Memᴰ·map (λ (x : Seen). x .place) (f .there))),
+          d .0 (Memᴰ·cast (sym (r .2)) (Memᴰ·map (λ (x : Seen). x .place) (f .there))),
       more,
     )
     go Empty more = more
@@ -162,7 +177,7 @@ module _ (k : ℕ) where
       go more true = more
       go more false = (
         λ m. let r = Memᴰ·of-map f (others k es) m in
-        d .0 (Memᴰ·cast (sym (r .2)) (Memᴰ·map f (others-member (r .0) es (r .1) .0))),
+            d .0 (Memᴰ·cast (sym (r .2)) (Memᴰ·map f (others-member (r .0) es (r .1) .0))),
         more,
       )
 
@@ -179,7 +194,7 @@ unfolding firsts
 firsts-keys [] = tt
 firsts-keys (a ∷ es) = (
   λ m. let r = Memᴰ·of-map (λ (e : Entry). e .key) (others (a .key) (firsts es)) m in
-  others-member (a .key) (r .0) (firsts es) (r .1) .1 (sym (r .2)),
+      others-member (a .key) (r .0) (firsts es) (r .1) .1 (sym (r .2)),
   others-distinct (a .key) (λ (e : Entry). e .key) (firsts es) (firsts-keys es),
 )
 
@@ -188,7 +203,7 @@ unfolding firsts
 firsts-places [] d = tt
 firsts-places (a ∷ es) d = (
   λ m. let r = Memᴰ·of-map (λ (e : Entry). e .place) (others (a .key) (firsts es)) m in
-  d .0 (Memᴰ·cast (sym (r .2)) (Memᴰ·map (λ (e : Entry). e .place) (firsts-member (r .0) es (others-member (a .key) (r .0) (firsts es) (r .1) .0)))),
+      d .0 (Memᴰ·cast (sym (r .2)) (Memᴰ·map (λ (e : Entry). e .place) (firsts-member (r .0) es (others-member (a .key) (r .0) (firsts es) (r .1) .0)))),
   others-distinct (a .key) (λ (e : Entry). e .place) (firsts es) (firsts-places es (d .1)),
 )
 
@@ -241,7 +256,7 @@ module _ (taken : List ℕ) where
       ⊎-elim (λ t. (s, List·Memᴰ·head refl, t)) (λ t. let r = of-omitted o ss t in (r .0, List·Memᴰ·tail (r .1), r .2))
       (List·Memᴰ·append-cases (omittedAt taken (s .place) (s .reading)) m)
 
-  pub in-omitted : (o : Omitted) (x : Seen) (ss : List Seen) → List·Memᴰ x ss → List·Memᴰ o (omittedAt taken (x .place) (x .reading)) → List·Memᴰ o (omittedIn taken ss)
+  in-omitted : (o : Omitted) (x : Seen) (ss : List Seen) → List·Memᴰ x ss → List·Memᴰ o (omittedAt taken (x .place) (x .reading)) → List·Memᴰ o (omittedIn taken ss)
   unfolding omittedIn
   in-omitted o x [] m t = absurd (List·Memᴰ·not-nil m)
   in-omitted o x (s ∷ ss) m t = go (λ n. in-omitted o x ss n t) (List·Memᴰ·cases-cons m)
@@ -262,10 +277,9 @@ module _ (taken : List ℕ) where
   omitted-repeated p n ss m e =
       in-omitted (record { place = p; reason = isRepeated }) (record { place = p; reading = Full n }) ss m (rw e (List·Memᴰ·head refl))
 
-  -- Nothing else is.
-  pub record OutBad (o : Omitted) (ss : List Seen) : Type 0 where
-    pub reason : o .reason ≡ isBad
-    pub there : List·Memᴰ (record { place = o .place; reading = Bad }) ss
+  -- Nothing else is: what is left out is bad, or good and not taken.
+  abbrev pub OutBad : Omitted → List Seen → Type 0
+  OutBad o ss = (o .reason ≡ isBad) × List·Memᴰ (record { place = o .place; reading = Bad }) ss
 
   pub record OutRepeated (o : Omitted) (ss : List Seen) : Type 0 where
     pub reason : o .reason ≡ isRepeated
@@ -297,15 +311,11 @@ module _ (taken : List ℕ) where
       go x Bad q m t =
           let same : o ≡ record { place = x .place; reason = isBad } = List·Memᴰ·eq-of-singleton t in
           let at : o .place ≡ x .place = ap (λ (y : Omitted). y .place) same in
-          inl
-          (record {
-            reason = ap (λ (y : Omitted). y .reason) same;
-            there = Memᴰ·cast (λ i. record { place = at i; reading = sym q i }) m;
-          })
+          inl (ap (λ (y : Omitted). y .reason) same, Memᴰ·cast (λ i. record { place = at i; reading = sym q i }) m)
 
   omitted-place : (o : Omitted) (ss : List Seen) → List·Memᴰ o (omittedIn taken ss) → List·Memᴰ (o .place) (placesSeen ss)
   omitted-place o ss m =
-      ⊎-elim (λ r. Memᴰ·map (λ (x : Seen). x .place) (r .there)) (λ r. Memᴰ·map (λ (x : Seen). x .place) (r .there)) (omitted-only o ss m)
+      ⊎-elim (λ r. Memᴰ·map (λ (x : Seen). x .place) (r .1)) (λ r. Memᴰ·map (λ (x : Seen). x .place) (r .there)) (omitted-only o ss m)
 
   pub omitted-rising : (ss : List Seen) → Rising (placesSeen ss) → Rising (placesOut (omittedIn taken ss))
   unfolding omittedIn omittedAt
@@ -315,7 +325,7 @@ module _ (taken : List ℕ) where
       one : Rising (placesOut (omittedIn taken ss)) → Rising (s .place ∷ placesOut (omittedIn taken ss))
       one more = (
         λ p m. let r = Memᴰ·of-map (λ (o : Omitted). o .place) (omittedIn taken ss) m in
-        h .0 p (Memᴰ·cast (sym (r .2)) (omitted-place (r .0) ss (r .1))),
+            h .0 p (Memᴰ·cast (sym (r .2)) (omitted-place (r .0) ss (r .1))),
         more,
       )
 

@@ -7,36 +7,104 @@ use Prim.Native.Nat.{ℕ, zero, suc, _+_, _*_, _<_, _≤_}
 use native.Mathlib.Omega.{arith}
 use borrow.Author.Tests.{eqb-true, eqb-false, ne-eqb}
 use lib.Dec.{eqb}
+use lib.ListN.{length, length-append}
 use Rattle.list_spec.specs.Choice.{pick}
 use Rattle.list_spec.specs.Perm.{Perm}
 use Rattle.list_spec.specs.Distinct.{Distinct, All}
 use Rattle.list_laws.specs.DistinctLaws.{all-nil, all-cons}
 use Rattle.list_laws.specs.AscendingLaws.{Rising, rising-append}
 use Rattle.slot_spec.specs.Tree.{slotLength, treeLength, among}
+use Rattle.slot_spec.specs.Slot.{readSlot}
 use Rattle.slot_spec.specs.declared.Node.{Node}
 use Rattle.slot_spec.specs.declared.Reading.{Reading}
 use Rattle.slot_spec.specs.declared.Reading.the-variants.{Full, Empty, Bad}
 use Rattle.state_spec.specs.declared.Place.{Place}
 use Rattle.state_spec.specs.declared.State.{State}
 use Rattle.state_spec.specs.Fit.{used}
-use Rattle.readout_spec.specs.Seen.{Seen, slotPlace, slotCount, waitingPlace, slotsFrom, waitingFrom, slotsSeen, waitingSeen}
-use Rattle.readout_spec.specs.Taken.{Entry, goodAt, goodIn, others, firsts, Omitted, isBad, isRepeated, omittedAt, omittedIn}
+use Rattle.readout_spec.specs.Seen.{Seen, slotPlace, bucketOf, slotBytesAt, slotCount, waitingPlace, placeReading, slotsFrom, waitingFrom, slotsSeen, waitingSeen}
+use Rattle.readout_spec.specs.Taken.{Entry, goodAt, goodIn, others, firsts, good, Omitted, isBad, isRepeated, omittedAt, omittedIn}
 
 -- ---- places
 abbrev pub placesSeen : List Seen → List ℕ
 placesSeen ss = map (λ (s : Seen). s .place) ss
 
--- The slots from number i on have places from 32 times i on, and the n of them end before 32 times i + n.
-slots-range : (k : ℕ) (tree : List ℕ) (n i p : ℕ) → List·Memᴰ p (placesSeen (slotsFrom k tree n i)) → (slotPlace i ≤ p) × (p < slotPlace (i + n))
+-- The slot with a number, and a waiting place with one, as they are seen.
+abbrev pub slotSeen : (size : ℕ) → List ℕ → ℕ → Seen
+slotSeen k tree i = record { place = slotPlace i; reading = readSlot k (bucketOf i) (slotBytesAt tree i) }
+
+abbrev pub waitingOne : (size : ℕ) → ℕ → Place → Seen
+waitingOne k i p = record { place = waitingPlace k i; reading = placeReading k p }
+
+-- What is among the n slots from number i on is one of them.
+pub record SlotIn (k : ℕ) (tree : List ℕ) (n i : ℕ) (x : Seen) : Type 0 where
+  pub number : ℕ
+  pub from : i ≤ number
+  pub below : number < i + n
+  pub same : x ≡ slotSeen k tree number
+
+pub slot-in : (k : ℕ) (tree : List ℕ) (n i : ℕ) (x : Seen) → List·Memᴰ x (slotsFrom k tree n i) → SlotIn k tree n i x
 unfolding slotsFrom
-slots-range k tree zero i p m = absurd (List·Memᴰ·not-nil m)
-slots-range k tree (suc n) i p m = go (slots-range k tree n (suc i) p) (List·Memᴰ·cases-cons m)
+slot-in k tree zero i x m = absurd (List·Memᴰ·not-nil m)
+slot-in k tree (suc n) i x m = go (slot-in k tree n (suc i) x) (List·Memᴰ·cases-cons m)
   where
-    go : (List·Memᴰ p (placesSeen (slotsFrom k tree n (suc i))) → (slotPlace (suc i) ≤ p) × (p < slotPlace (suc i + n)))
-        → (p ≡ slotPlace i) ⊎ List·Memᴰ p (placesSeen (slotsFrom k tree n (suc i)))
-        → (slotPlace i ≤ p) × (p < slotPlace (i + suc n))
-    go later (inl e) = (omega arith, omega arith)
-    go later (inr t) = let r = later t in (omega arith, omega arith)
+    go : (List·Memᴰ x (slotsFrom k tree n (suc i)) → SlotIn k tree n (suc i) x) → (x ≡ slotSeen k tree i) ⊎ List·Memᴰ x (slotsFrom k tree n (suc i))
+        → SlotIn k tree (suc n) i x
+    go more (inl e) = record { number = i; from = omega arith; below = omega arith; same = e }
+    go more (inr t) =
+        let r = more t in
+        let f = r .from in
+        let b = r .below in
+        record { number = r .number; from = omega arith; below = omega arith; same = r .same }
+
+-- What is among the waiting places from number i on is one of them.
+pub record WaitingIn (k i : ℕ) (ps : List Place) (x : Seen) : Type 0 where
+  pub number : ℕ
+  pub from : i ≤ number
+  pub below : number < i + length ps
+  pub place : Place
+  pub there : List·Memᴰ place ps
+  pub same : x ≡ waitingOne k number place
+
+pub waiting-in : (k i : ℕ) (ps : List Place) (x : Seen) → List·Memᴰ x (waitingFrom k i ps) → WaitingIn k i ps x
+unfolding waitingFrom
+waiting-in k i [] x m = absurd (List·Memᴰ·not-nil m)
+waiting-in k i (p ∷ ps) x m = go (waiting-in k (suc i) ps x) (List·Memᴰ·cases-cons m)
+  where
+    go : (List·Memᴰ x (waitingFrom k (suc i) ps) → WaitingIn k (suc i) ps x) → (x ≡ waitingOne k i p) ⊎ List·Memᴰ x (waitingFrom k (suc i) ps)
+        → WaitingIn k i (p ∷ ps) x
+    go more (inl e) =
+        record { number = i; from = omega arith; below = omega arith; place = p; there = List·Memᴰ·head refl; same = e }
+    go more (inr t) =
+        let r = more t in
+        let f = r .from in
+        let b = r .below in
+        record {
+          number = r .number;
+          from = omega arith;
+          below = omega arith;
+          place = r .place;
+          there = List·Memᴰ·tail (r .there);
+          same = r .same;
+        }
+
+-- Their places.
+slots-range : (k : ℕ) (tree : List ℕ) (n i p : ℕ) → List·Memᴰ p (placesSeen (slotsFrom k tree n i)) → (slotPlace i ≤ p) × (p < slotPlace (i + n))
+slots-range k tree n i p m =
+    let r = Memᴰ·of-map (λ (x : Seen). x .place) (slotsFrom k tree n i) m in
+    let s = slot-in k tree n i (r .0) (r .1) in
+    let e : p ≡ slotPlace (s .number) = sym (r .2) ∙ ap (λ (x : Seen). x .place) (s .same) in
+    let f = s .from in
+    let b = s .below in
+    (omega arith, omega arith)
+
+waiting-range : (k i : ℕ) (ps : List Place) (p : ℕ) → List·Memᴰ p (placesSeen (waitingFrom k i ps)) → (waitingPlace k i ≤ p) × (p < waitingPlace k (i + length ps))
+waiting-range k i ps p m =
+    let r = Memᴰ·of-map (λ (x : Seen). x .place) (waitingFrom k i ps) m in
+    let s = waiting-in k i ps (r .0) (r .1) in
+    let e : p ≡ waitingPlace k (s .number) = sym (r .2) ∙ ap (λ (x : Seen). x .place) (s .same) in
+    let f = s .from in
+    let b = s .below in
+    (omega arith, omega arith)
 
 slots-rising : (k : ℕ) (tree : List ℕ) (n i : ℕ) → Rising (placesSeen (slotsFrom k tree n i))
 unfolding slotsFrom
@@ -45,17 +113,6 @@ slots-rising k tree (suc n) i = (
   λ p m. let r = slots-range k tree n (suc i) p m in omega arith,
   slots-rising k tree n (suc i),
 )
-
--- The waiting places from number i on have places from the tree's length plus 32 times i on.
-waiting-range : (k i : ℕ) (ps : List Place) (p : ℕ) → List·Memᴰ p (placesSeen (waitingFrom k i ps)) → waitingPlace k i ≤ p
-unfolding waitingFrom
-waiting-range k i [] p m = absurd (List·Memᴰ·not-nil m)
-waiting-range k i (x ∷ ps) p m = go (waiting-range k (suc i) ps p) (List·Memᴰ·cases-cons m)
-  where
-    go : (List·Memᴰ p (placesSeen (waitingFrom k (suc i) ps)) → waitingPlace k (suc i) ≤ p)
-        → (p ≡ waitingPlace k i) ⊎ List·Memᴰ p (placesSeen (waitingFrom k (suc i) ps)) → waitingPlace k i ≤ p
-    go later (inl e) = omega arith
-    go later (inr t) = let r = later t in omega arith
 
 waiting-rising : (k i : ℕ) (ps : List Place) → Rising (placesSeen (waitingFrom k i ps))
 unfolding waitingFrom
@@ -73,6 +130,64 @@ seen-rising s tree =
     (slots-rising (s .size) tree (slotCount (s .size)) 0) (waiting-rising (s .size) 0 (used s))
     (λ a b m n. let r = slots-range (s .size) tree (slotCount (s .size)) 0 a m in
     let q = waiting-range (s .size) 0 (used s) b n in omega arith))
+
+-- All places are below the tree's length and 32 times the waiting places.
+pub seen-below : (s : State) (tree : List ℕ) (p : ℕ) → List·Memᴰ p (placesSeen (slotsSeen s tree ++ waitingSeen s)) → p < waitingPlace (s .size) (length (used s))
+seen-below s tree p m =
+    ⊎-elim {A = List·Memᴰ p (placesSeen (slotsSeen s tree))} {B = List·Memᴰ p (placesSeen (waitingSeen s))}
+    (λ n. let r = slots-range (s .size) tree (slotCount (s .size)) 0 p n in omega arith)
+    (λ n. let r = waiting-range (s .size) 0 (used s) p n in
+    let e : waitingPlace (s .size) (0 + length (used s)) ≡ waitingPlace (s .size) (length (used s)) = omega arith in omega arith)
+    (List·Memᴰ·append-cases (placesSeen (slotsSeen s tree))
+    (rw (map-append (λ (x : Seen). x .place) (slotsSeen s tree) (waitingSeen s)) at m))
+
+-- ---- how many
+slots-length : (k : ℕ) (tree : List ℕ) (n i : ℕ) → length (slotsFrom k tree n i) ≡ n
+unfolding slotsFrom
+slots-length k tree zero i = refl
+slots-length k tree (suc n) i = ap suc (slots-length k tree n (suc i))
+
+waiting-length : (k i : ℕ) (ps : List Place) → length (waitingFrom k i ps) ≡ length ps
+unfolding waitingFrom
+waiting-length k i [] = refl
+waiting-length k i (p ∷ ps) = ap suc (waiting-length k (suc i) ps)
+
+good-length : (ss : List Seen) → length (goodIn ss) ≤ length ss
+unfolding goodIn goodAt
+good-length [] = omega arith
+good-length (s ∷ ss) = go (s .reading) (good-length ss)
+  where
+    go : (y : Reading) → length (goodIn ss) ≤ length ss → length (goodAt (s .place) y ++ goodIn ss) ≤ suc (length ss)
+    go (Full n) h = omega arith
+    go Empty h = omega arith
+    go Bad h = omega arith
+
+others-length : (k : ℕ) (es : List Entry) → length (others k es) ≤ length es
+unfolding others
+others-length k [] = omega arith
+others-length k (e ∷ es) = go (eqb k (e .key)) (others-length k es)
+  where
+    go : (t : Bool) → length (others k es) ≤ length es → length (pick t (others k es) (e ∷ others k es)) ≤ suc (length es)
+    go true h = omega arith
+    go false h = omega arith
+
+firsts-length : (es : List Entry) → length (firsts es) ≤ length es
+unfolding firsts
+firsts-length [] = omega arith
+firsts-length (e ∷ es) =
+    let a = others-length (e .key) (firsts es) in
+    let b = firsts-length es in
+    omega arith
+
+-- Taken are at most as many as there are slots and waiting places.
+pub taken-length : (s : State) (tree : List ℕ) → length (firsts (good s tree)) ≤ slotCount (s .size) + length (used s)
+taken-length s tree =
+    let a = firsts-length (good s tree) in
+    let b = good-length (waitingSeen s ++ slotsSeen s tree) in
+    let c = length-append (waitingSeen s) (slotsSeen s tree) in
+    let d = slots-length (s .size) tree (slotCount (s .size)) 0 in
+    let e = waiting-length (s .size) 0 (used s) in
+    omega arith
 
 -- ---- good nodes
 -- A good node comes from a slot or a waiting place, and has its place.
@@ -313,7 +428,7 @@ module _ (taken : List ℕ) where
           let at : o .place ≡ x .place = ap (λ (y : Omitted). y .place) same in
           inl (ap (λ (y : Omitted). y .reason) same, Memᴰ·cast (λ i. record { place = at i; reading = sym q i }) m)
 
-  omitted-place : (o : Omitted) (ss : List Seen) → List·Memᴰ o (omittedIn taken ss) → List·Memᴰ (o .place) (placesSeen ss)
+  pub omitted-place : (o : Omitted) (ss : List Seen) → List·Memᴰ o (omittedIn taken ss) → List·Memᴰ (o .place) (placesSeen ss)
   omitted-place o ss m =
       ⊎-elim (λ r. Memᴰ·map (λ (x : Seen). x .place) (r .1)) (λ r. Memᴰ·map (λ (x : Seen). x .place) (r .there)) (omitted-only o ss m)
 

@@ -1,18 +1,43 @@
 -- A file that was written is read back: its entries without their places, and its report.
 use mathlib.Core.Path.{_≡_, refl, sym, _∙_, ap, ap₂, subst}
-use mathlib.Core.Logic.{⊎-elim}
-use mathlib.Core.List.{List, [], _∷_, _++_, map, append-assoc, append-nil, List·Memᴰ, List·Memᴰ·head, List·Memᴰ·tail}
+use mathlib.Core.Logic.{_⊎_, inl, inr, ⊎-elim}
+use mathlib.Core.Bool.{Bool, true, false, _&&_, and-eq-true-iff}
+use mathlib.Core.List.{List, [], _∷_, _++_, map, append-assoc, append-nil, List·Memᴰ, List·Memᴰ·head, List·Memᴰ·tail, List·Memᴰ·append-cases}
 use Prim.Native.Nat.{ℕ, zero, suc, _+_, _-_, _*_, _/_, _^_, _<_, _≤_}
 use native.Mathlib.Omega.{arith}
-use lib.ListN.{length, getD, take, drop, length-append, length-map, List·getD-map}
+use borrow.Author.Tests.{leb-true}
+use lib.Dec.{leb}
+use lib.Pow.{pow-mono}
+use lib.ListN.{length, getD, take, drop, length-take, length-drop, length-append, length-map, List·getD-map}
 use lib.Seq.{take-at, drop-at}
 use Rattle.list_spec.specs.Distinct.{All}
-use Rattle.slot_spec.specs.LittleEndian.{value, bytes}
-use Rattle.slot_laws.specs.LittleEndianLaws.{length-bytes, value-read}
+use Rattle.list_spec.specs.Choice.{pick}
+use Rattle.list_laws.specs.PermLaws.{perm-length}
+use Rattle.list_laws.specs.SortingLaws.{sort-perm}
+use Rattle.slot_spec.specs.LittleEndian.{value, bytes, Bytes}
+use Rattle.slot_spec.specs.Layout.{Fit}
+use Rattle.slot_spec.specs.Tree.{slotLength, treeLength}
+use Rattle.slot_spec.specs.Slot.{fieldsOf, Ranged}
+use Rattle.slot_spec.specs.declared.Node.{Node}
+use Rattle.slot_spec.specs.declared.Reading.the-variants.{Full, Bad}
+use Rattle.slot_laws.specs.LittleEndianLaws.{length-bytes, value-read, bytes-take, bytes-drop}
+use Rattle.round_laws.specs.NodeLaws.{read-ranged}
+use Rattle.state_spec.specs.declared.Place.{Place}
+use Rattle.state_spec.specs.declared.State.{State}
+use Rattle.state_spec.specs.Fit.{largestStructure, largestSize, inRange, placeGood, places, used}
+use Rattle.state_spec.specs.Widths.{Widths}
+use Rattle.state_laws.specs.FitLaws.{in-range-true}
+use Rattle.fitness_laws.specs.FitState.{places-length}
 use Rattle.method_spec.specs.Plain.{Pair}
-use Rattle.readout_spec.specs.Taken.{Entry, Omitted}
+use Rattle.readout_spec.specs.Seen.{Seen, slotPlace, bucketOf, slotCount, slotBytesAt, placeReading, slotsSeen, waitingSeen}
+use Rattle.readout_spec.specs.Taken.{Entry, good, firsts, entries, Omitted, report}
+use Rattle.readout_spec.specs.declared.ReadOut.the-variants.{Written}
+use Rattle.readout_spec.specs.ReadOut.{fileOf, known, readOut}
 use Rattle.readout_spec.specs.File.{countWidth, keyWidth, offsetWidth, valueWidth, placeWidth, reasonWidth, indexWidth, reportWidth, index, valuesPart, reportPart, valuesStart, reportStart, file}
 use Rattle.readout_spec.specs.ReadBack.{numberAt, entriesAt, reportAt, Read, countIn, readBack}
+use Rattle.readout_laws.specs.TakenLaws.{slot-in, waiting-in, taken-length, seen-below, omitted-place, omitted-only}
+use Rattle.readout_laws.specs.Complete.{full-seen, complete}
+use Rattle.readout_laws.specs.Outcomes.{WasWritten, was-written}
 use Rattle.readout_laws.specs.Pairs.{pairOfEntry}
 use Rattle.readout_laws.specs.FileLaws.{index-length, values-length, file-length}
 
@@ -154,3 +179,83 @@ offset-leads es os i before h =
     ∙ ap (λ (ps : List Pair). getD ps i (pairOfEntry none) .value) (r .entries)
     ∙ ap (λ (p : Pair). p .value) (List·getD-map pairOfEntry es i none)
     ∙ sym (List·getD-map (λ (e : Entry). e .value) es i none)
+
+-- ---- a store's file
+-- The nodes of a machine's store are within their widths: those read from its bytes, and those in its state.
+place-node : (k : ℕ) (p : Place) (n : Node) → placeReading k p ≡ Full n → p .node ≡ n
+place-node k p n e = go (placeGood k p) e
+  where
+    go : (t : Bool) → pick t (Full (p .node)) Bad ≡ Full n → p .node ≡ n
+    go true e = cc
+    go false e = cc
+
+seen-ranged : (s : State) (tree : List ℕ) → Bytes tree → Widths s → length tree ≡ treeLength (s .size) → (p : ℕ) (n : Node)
+    → List·Memᴰ (record { place = p; reading = Full n }) (slotsSeen s tree ++ waitingSeen s) → Ranged n
+seen-ranged s tree bs w l p n m = go (List·Memᴰ·append-cases (slotsSeen s tree) m)
+  where
+    x : Seen
+    x = record { place = p; reading = Full n }
+
+    go : List·Memᴰ x (slotsSeen s tree) ⊎ List·Memᴰ x (waitingSeen s) → Ranged n
+    go (inl t) =
+        let r = slot-in (s .size) tree (slotCount (s .size)) 0 x t in
+        let b = r .below in
+        let i = r .number in
+        read-ranged (s .size) (bucketOf i) (slotBytesAt tree i) n
+        (bytes-take slotLength (drop (slotPlace i) tree) (bytes-drop (slotPlace i) tree bs))
+        (simp (length-take, length-drop) (omega arith))
+        (sym (ap (λ (y : Seen). y .reading) (r .same)))
+    go (inr t) =
+        let r = waiting-in (s .size) 0 (used s) x t in
+        rw (place-node (s .size) (r .place) n (sym (ap (λ (y : Seen). y .reading) (r .same)))) at (w .nodes (r .place) (r .there))
+
+-- An entry's numbers are its node's.
+ranged-entry : (n : Node) (e : Entry) (p : ℕ) → Ranged n → e ≡ record { place = p; key = n .key; value = n .value } → (e .key < 2 ^ 32) × (e .value < 2 ^ 64)
+unfolding Ranged Fit fieldsOf
+ranged-entry n e p h q =
+    let k : e .key ≡ n .key = ap (λ (x : Entry). x .key) q in
+    let v : e .value ≡ n .value = ap (λ (x : Entry). x .value) q in
+    (omega arith, omega arith)
+
+entry-ranged : (s : State) (tree : List ℕ) → Bytes tree → Widths s → length tree ≡ treeLength (s .size) → (e : Entry)
+    → List·Memᴰ e (entries s tree) → (e .key < 2 ^ 32) × (e .value < 2 ^ 64)
+entry-ranged s tree bs w l e m =
+    let f = full-seen s tree e (complete s tree .entries-good e m) in
+    ranged-entry (f .node) e (e .place) (seen-ranged s tree bs w l (e .place) (f .node) (f .there)) (f .same)
+
+reason-small : (s : State) (tree : List ℕ) (o : Omitted) → List·Memᴰ o (report s tree) → o .reason < 256
+reason-small s tree o m =
+    ⊎-elim (λ b. let r = b .reason in omega arith) (λ b. let r = b .reason in omega arith) (complete s tree .only-these o m)
+
+-- The size and the number of waiting places that reading out allows.
+known-small : (s : State) → known s ≡ true → (s .size ≤ largestSize) × (s .count ≤ places)
+known-small s e =
+    let a = and-eq-true-iff (inRange (s .structure) largestStructure) (inRange (s .size) largestSize && leb (s .count) places) .0 e in
+    let b = and-eq-true-iff (inRange (s .size) largestSize) (leb (s .count) places) .0 (a .1) in
+    (in-range-true (s .size) largestSize (b .0) .1, leb-true (s .count) places (b .1))
+
+-- What a machine's store is read out to fits the file.
+pub store-in-widths : (s : State) (tree : List ℕ) → Bytes tree → Widths s → known s ≡ true → length tree ≡ treeLength (s .size)
+    → InWidths (entries s tree) (report s tree)
+store-in-widths s tree bs w k l =
+    let small = known-small s k in
+    let buckets : 2 ^ (s .size + 1) ≤ 2 ^ (largestSize + 1) = pow-mono {i = s .size + 1} {j = largestSize + 1} (omega arith) in
+    let waiting = places-length (s .count) 0 (s .places) in
+    let sorted = perm-length (sort-perm (λ (e : Entry). e .key) (firsts (good s tree))) in
+    let number = taken-length s tree in
+    record {
+      count = omega arith;
+      keys = λ e m. entry-ranged s tree bs w l e m .0;
+      values = λ e m. entry-ranged s tree bs w l e m .1;
+      places = λ o m. let r = seen-below s tree (o .place) (omitted-place (map (λ (e : Entry). e .place) (entries s tree)) o (slotsSeen s tree ++ waitingSeen s) m) in omega arith;
+      reasons = reason-small s tree;
+    }
+
+-- What was written is read back from the buffer.
+pub read-back : (s : State) (tree out : List ℕ) (n : ℕ) → Bytes tree → Widths s → readOut s tree out .result ≡ Written n
+    → readBack n (readOut s tree out .out) ≡ record { entries = map pairOfEntry (entries s tree); report = report s tree }
+read-back s tree out n bs w e =
+    let r = was-written s tree out n e in
+    rw (r .file-then-rest, r .file-length)
+    (file-read-back (entries s tree) (report s tree) (drop (length (fileOf s tree)) out)
+    (store-in-widths s tree bs w (r .is-known) (r .tree-length)))

@@ -86,7 +86,8 @@ module _ (s : State) (tree : List ℕ) where
   good-places =
       good-distinct (waitingSeen s ++ slotsSeen s tree) (distinct-perm (perm-map (λ (x : Seen). x .place) turned) seen-distinct)
 
-  full-seen : (e : Entry) → List·Memᴰ e (good s tree) → FullAt e seen
+  -- A good node is a full reading at its place.
+  pub full-seen : (e : Entry) → List·Memᴰ e (good s tree) → FullAt e seen
   full-seen e m =
       let f = good-full e (waitingSeen s ++ slotsSeen s tree) m in
       record { node = f .node; there = perm-member (perm-sym turned) (f .there); same = f .same }

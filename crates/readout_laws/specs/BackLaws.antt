@@ -1,5 +1,5 @@
 -- A file that was written is read back: its entries without their places, and its report.
-use mathlib.Core.Path.{_≡_, refl, sym, _∙_, ap, ap₂, subst}
+use mathlib.Core.Path.{_≡_, refl, sym, _∙_, ap, subst}
 use mathlib.Core.Logic.{_⊎_, inl, inr, ⊎-elim}
 use mathlib.Core.Bool.{Bool, true, false, _&&_, and-eq-true-iff}
 use mathlib.Core.List.{List, [], _∷_, _++_, map, append-assoc, append-nil, List·Memᴰ, List·Memᴰ·head, List·Memᴰ·tail, List·Memᴰ·append-cases}
@@ -8,7 +8,7 @@ use native.Mathlib.Omega.{arith}
 use borrow.Author.Tests.{leb-true}
 use lib.Dec.{leb}
 use lib.Pow.{pow-mono}
-use lib.ListN.{length, getD, take, drop, length-take, length-drop, length-append, length-map, List·getD-map}
+use lib.ListN.{length, getD, drop, length-take, length-drop, length-append, length-map, List·getD-map}
 use lib.Seq.{take-at, drop-at}
 use Rattle.list_spec.specs.Distinct.{All}
 use Rattle.list_spec.specs.Choice.{pick}
@@ -34,10 +34,11 @@ use Rattle.readout_spec.specs.Taken.{Entry, good, firsts, entries, Omitted, rep
 use Rattle.readout_spec.specs.declared.ReadOut.the-variants.{Written}
 use Rattle.readout_spec.specs.ReadOut.{fileOf, known, readOut}
 use Rattle.readout_spec.specs.File.{countWidth, keyWidth, offsetWidth, valueWidth, placeWidth, reasonWidth, indexWidth, reportWidth, index, valuesPart, reportPart, valuesStart, reportStart, file}
-use Rattle.readout_spec.specs.ReadBack.{numberAt, entriesAt, reportAt, Read, countIn, readBack}
-use Rattle.readout_laws.specs.TakenLaws.{slot-in, waiting-in, taken-length, seen-below, omitted-place, omitted-only}
+use Rattle.readout_spec.specs.ReadBack.{numberAt, entriesAt, reportAt, countIn, readBack}
+use Rattle.readout_laws.specs.SeenLaws.{slot-in, waiting-in, seen-below}
+use Rattle.readout_laws.specs.TakenLaws.{taken-length, omitted-place}
 use Rattle.readout_laws.specs.Complete.{full-seen, complete}
-use Rattle.readout_laws.specs.Outcomes.{WasWritten, was-written}
+use Rattle.readout_laws.specs.Outcomes.{was-written}
 use Rattle.readout_laws.specs.Pairs.{pairOfEntry}
 use Rattle.readout_laws.specs.FileLaws.{index-length, values-length, file-length}
 

@@ -1,13 +1,13 @@
 -- Reading out is complete: every good node is an entry or reported as repeated, every bad slot and waiting place is reported,
 -- and nothing else is in either.
 use mathlib.Core.Path.{_≡_, refl, sym, _∙_, ap}
-use mathlib.Core.Logic.{_⊎_, inl, inr, ⊎-elim}
+use mathlib.Core.Logic.{_⊎_, inl, inr}
 use mathlib.Core.Bool.{Bool, true, false}
-use mathlib.Core.List.{List, _∷_, _++_, map, List·Memᴰ, Memᴰ·cast, Memᴰ·map, Memᴰ·of-map, List·Memᴰ·append-cases, Memᴰ·append-left, Memᴰ·append-right}
+use mathlib.Core.List.{List, _∷_, _++_, map, List·Memᴰ, Memᴰ·cast, Memᴰ·map, Memᴰ·of-map}
 use Prim.Native.Nat.{ℕ}
 use native.Mathlib.Omega.{arith}
 use Rattle.list_spec.specs.Perm.{Perm}
-use Rattle.list_spec.specs.Distinct.{Distinct, Disjoint, All}
+use Rattle.list_spec.specs.Distinct.{Distinct, All}
 use Rattle.list_spec.specs.Ascending.{ascending}
 use Rattle.list_laws.specs.PermLaws.{perm-sym, perm-map, perm-member, perm-append-comm}
 use Rattle.list_laws.specs.DistinctLaws.{distinct-perm, distinct-append, distinct-injective}
@@ -15,13 +15,13 @@ use Rattle.list_laws.specs.AscendingLaws.{Rising, rising-ascending, rising-dist
 use Rattle.list_laws.specs.SortingLaws.{sort-perm, sort-ascending}
 use Rattle.slot_spec.specs.Tree.{among}
 use Rattle.slot_laws.specs.TreeLaws.{among-member, member-among}
-use Rattle.slot_spec.specs.declared.Node.{Node}
 use Rattle.slot_spec.specs.declared.Reading.{Reading}
 use Rattle.slot_spec.specs.declared.Reading.the-variants.{Full, Bad}
 use Rattle.state_spec.specs.declared.State.{State}
 use Rattle.readout_spec.specs.Seen.{Seen, slotsSeen, waitingSeen}
 use Rattle.readout_spec.specs.Taken.{Entry, good, firsts, entries, Omitted, isBad, isRepeated, report}
-use Rattle.readout_laws.specs.TakenLaws.{placesSeen, placesOf, keysOf, placesOut, seen-rising, FullAt, good-full, full-good, good-distinct, firsts-member, firsts-keys, firsts-places, key-taken, first-of-key, OutBad, OutRepeated, omitted-bad, omitted-repeated, omitted-only, omitted-rising}
+use Rattle.readout_laws.specs.SeenLaws.{placesSeen, seen-rising}
+use Rattle.readout_laws.specs.TakenLaws.{placesOf, placesOut, FullAt, good-full, full-good, good-distinct, firsts-member, firsts-keys, firsts-places, key-taken, first-of-key, OutBad, OutRepeated, omitted-bad, omitted-repeated, omitted-only, omitted-rising}
 
 module _ (s : State) (tree : List ℕ) where
   -- All slots and waiting places, by place.

@@ -10,7 +10,7 @@ use Rattle.readout_spec.specs.Taken.{Entry, Omitted}
 use Rattle.readout_spec.specs.File.{countWidth, keyWidth, offsetWidth, valueWidth, placeWidth, reasonWidth, indexWidth, reportWidth, index, valuesPart, reportPart, valuesStart, reportStart, file}
 
 -- Bytes of a number, and more: as long as the number's width and the rest.
-pub length-number : (w n : ℕ) (rest : List ℕ) → length (bytes w n ++ rest) ≡ w + length rest
+length-number : (w n : ℕ) (rest : List ℕ) → length (bytes w n ++ rest) ≡ w + length rest
 length-number w n rest = rw (length-append (bytes w n) rest, length-bytes w n)
 
 pub index-length : (at : ℕ) (ks : List ℕ) → length (index at ks) ≡ indexWidth * length ks

@@ -1,5 +1,5 @@
 -- What a result of reading out says: a refusal writes nothing, and where a file was written the checks were passed.
-use mathlib.Core.Path.{_≡_, refl, sym, _∙_, ap}
+use mathlib.Core.Path.{_≡_, refl}
 use mathlib.Core.Logic.{_⊎_, inl, inr}
 use mathlib.Core.Bool.{Bool, true, false, not}
 use mathlib.Core.List.{List, _++_}
@@ -11,7 +11,6 @@ use lib.ListN.{length, drop}
 use Rattle.list_spec.specs.Choice.{pick}
 use Rattle.slot_spec.specs.Tree.{treeLength}
 use Rattle.state_spec.specs.declared.State.{State}
-use Rattle.readout_spec.specs.declared.ReadOut.{ReadOut}
 use Rattle.readout_spec.specs.declared.ReadOut.the-variants.{Written, Refused}
 use Rattle.readout_spec.specs.ReadOut.{fileOf, closedMark, known, Left, refusing, writing, readOut}
 

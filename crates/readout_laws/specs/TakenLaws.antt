@@ -1,196 +1,29 @@
--- Laws of the slots and waiting places of a store, of the nodes taken from them, and of what is left out.
+-- Laws of the nodes that are taken from the slots and waiting places of a store, and of what is left out.
 use mathlib.Core.Path.{_≡_, refl, sym, _∙_, ap, subst}
 use mathlib.Core.Logic.{_⊎_, inl, inr, ⊎-elim}
 use mathlib.Core.Bool.{Bool, true, false}
-use mathlib.Core.List.{List, [], _∷_, _++_, map, List·Memᴰ, List·Memᴰ·head, List·Memᴰ·tail, List·Memᴰ·cases-cons, List·Memᴰ·not-nil, List·Memᴰ·append-cases, List·Memᴰ·eq-of-singleton, Memᴰ·append-left, Memᴰ·append-right, Memᴰ·cast, Memᴰ·map, Memᴰ·of-map, map-append}
-use Prim.Native.Nat.{ℕ, zero, suc, _+_, _*_, _<_, _≤_}
+use mathlib.Core.List.{List, [], _∷_, _++_, map, List·Memᴰ, List·Memᴰ·head, List·Memᴰ·tail, List·Memᴰ·cases-cons, List·Memᴰ·not-nil, List·Memᴰ·append-cases, List·Memᴰ·eq-of-singleton, Memᴰ·append-left, Memᴰ·append-right, Memᴰ·cast, Memᴰ·map, Memᴰ·of-map}
+use Prim.Native.Nat.{ℕ, suc, _+_, _≤_}
 use native.Mathlib.Omega.{arith}
-use borrow.Author.Tests.{eqb-true, eqb-false, ne-eqb}
+use borrow.Author.Tests.{eqb-true, eqb-false}
 use lib.Dec.{eqb}
 use lib.ListN.{length, length-append}
 use Rattle.list_spec.specs.Choice.{pick}
-use Rattle.list_spec.specs.Perm.{Perm}
 use Rattle.list_spec.specs.Distinct.{Distinct, All}
 use Rattle.list_laws.specs.DistinctLaws.{all-nil, all-cons}
-use Rattle.list_laws.specs.AscendingLaws.{Rising, rising-append}
-use Rattle.slot_spec.specs.Tree.{slotLength, treeLength, among}
-use Rattle.slot_spec.specs.Slot.{readSlot}
+use Rattle.list_laws.specs.AscendingLaws.{Rising}
+use Rattle.slot_spec.specs.Tree.{among}
 use Rattle.slot_spec.specs.declared.Node.{Node}
 use Rattle.slot_spec.specs.declared.Reading.{Reading}
 use Rattle.slot_spec.specs.declared.Reading.the-variants.{Full, Empty, Bad}
-use Rattle.state_spec.specs.declared.Place.{Place}
 use Rattle.state_spec.specs.declared.State.{State}
 use Rattle.state_spec.specs.Fit.{used}
-use Rattle.readout_spec.specs.Seen.{Seen, slotPlace, bucketOf, slotBytesAt, slotCount, waitingPlace, placeReading, slotsFrom, waitingFrom, slotsSeen, waitingSeen}
+use Rattle.readout_spec.specs.Seen.{Seen, slotCount, slotsSeen, waitingSeen}
 use Rattle.readout_spec.specs.Taken.{Entry, goodAt, goodIn, others, firsts, good, Omitted, isBad, isRepeated, omittedAt, omittedIn}
-
--- ---- places
-abbrev pub placesSeen : List Seen → List ℕ
-placesSeen ss = map (λ (s : Seen). s .place) ss
-
--- The slot with a number, and a waiting place with one, as they are seen.
-abbrev pub slotSeen : (size : ℕ) → List ℕ → ℕ → Seen
-slotSeen k tree i = record { place = slotPlace i; reading = readSlot k (bucketOf i) (slotBytesAt tree i) }
-
-abbrev pub waitingOne : (size : ℕ) → ℕ → Place → Seen
-waitingOne k i p = record { place = waitingPlace k i; reading = placeReading k p }
-
--- What is among the n slots from number i on is one of them.
-pub record SlotIn (k : ℕ) (tree : List ℕ) (n i : ℕ) (x : Seen) : Type 0 where
-  pub number : ℕ
-  pub from : i ≤ number
-  pub below : number < i + n
-  pub same : x ≡ slotSeen k tree number
-
-pub slot-in : (k : ℕ) (tree : List ℕ) (n i : ℕ) (x : Seen) → List·Memᴰ x (slotsFrom k tree n i) → SlotIn k tree n i x
-unfolding slotsFrom
-slot-in k tree zero i x m = absurd (List·Memᴰ·not-nil m)
-slot-in k tree (suc n) i x m = go (slot-in k tree n (suc i) x) (List·Memᴰ·cases-cons m)
-  where
-    go : (List·Memᴰ x (slotsFrom k tree n (suc i)) → SlotIn k tree n (suc i) x) → (x ≡ slotSeen k tree i) ⊎ List·Memᴰ x (slotsFrom k tree n (suc i))
-        → SlotIn k tree (suc n) i x
-    go more (inl e) = record { number = i; from = omega arith; below = omega arith; same = e }
-    go more (inr t) =
-        let r = more t in
-        let f = r .from in
-        let b = r .below in
-        record { number = r .number; from = omega arith; below = omega arith; same = r .same }
-
--- What is among the waiting places from number i on is one of them.
-pub record WaitingIn (k i : ℕ) (ps : List Place) (x : Seen) : Type 0 where
-  pub number : ℕ
-  pub from : i ≤ number
-  pub below : number < i + length ps
-  pub place : Place
-  pub there : List·Memᴰ place ps
-  pub same : x ≡ waitingOne k number place
-
-pub waiting-in : (k i : ℕ) (ps : List Place) (x : Seen) → List·Memᴰ x (waitingFrom k i ps) → WaitingIn k i ps x
-unfolding waitingFrom
-waiting-in k i [] x m = absurd (List·Memᴰ·not-nil m)
-waiting-in k i (p ∷ ps) x m = go (waiting-in k (suc i) ps x) (List·Memᴰ·cases-cons m)
-  where
-    go : (List·Memᴰ x (waitingFrom k (suc i) ps) → WaitingIn k (suc i) ps x) → (x ≡ waitingOne k i p) ⊎ List·Memᴰ x (waitingFrom k (suc i) ps)
-        → WaitingIn k i (p ∷ ps) x
-    go more (inl e) =
-        record { number = i; from = omega arith; below = omega arith; place = p; there = List·Memᴰ·head refl; same = e }
-    go more (inr t) =
-        let r = more t in
-        let f = r .from in
-        let b = r .below in
-        record {
-          number = r .number;
-          from = omega arith;
-          below = omega arith;
-          place = r .place;
-          there = List·Memᴰ·tail (r .there);
-          same = r .same;
-        }
-
--- Their places.
-slots-range : (k : ℕ) (tree : List ℕ) (n i p : ℕ) → List·Memᴰ p (placesSeen (slotsFrom k tree n i)) → (slotPlace i ≤ p) × (p < slotPlace (i + n))
-slots-range k tree n i p m =
-    let r = Memᴰ·of-map (λ (x : Seen). x .place) (slotsFrom k tree n i) m in
-    let s = slot-in k tree n i (r .0) (r .1) in
-    let e : p ≡ slotPlace (s .number) = sym (r .2) ∙ ap (λ (x : Seen). x .place) (s .same) in
-    let f = s .from in
-    let b = s .below in
-    (omega arith, omega arith)
-
-waiting-range : (k i : ℕ) (ps : List Place) (p : ℕ) → List·Memᴰ p (placesSeen (waitingFrom k i ps)) → (waitingPlace k i ≤ p) × (p < waitingPlace k (i + length ps))
-waiting-range k i ps p m =
-    let r = Memᴰ·of-map (λ (x : Seen). x .place) (waitingFrom k i ps) m in
-    let s = waiting-in k i ps (r .0) (r .1) in
-    let e : p ≡ waitingPlace k (s .number) = sym (r .2) ∙ ap (λ (x : Seen). x .place) (s .same) in
-    let f = s .from in
-    let b = s .below in
-    (omega arith, omega arith)
-
-slots-rising : (k : ℕ) (tree : List ℕ) (n i : ℕ) → Rising (placesSeen (slotsFrom k tree n i))
-unfolding slotsFrom
-slots-rising k tree zero i = tt
-slots-rising k tree (suc n) i = (
-  λ p m. let r = slots-range k tree n (suc i) p m in omega arith,
-  slots-rising k tree n (suc i),
-)
-
-waiting-rising : (k i : ℕ) (ps : List Place) → Rising (placesSeen (waitingFrom k i ps))
-unfolding waitingFrom
-waiting-rising k i [] = tt
-waiting-rising k i (x ∷ ps) = (
-  λ p m. let r = waiting-range k (suc i) ps p m in omega arith,
-  waiting-rising k (suc i) ps,
-)
-
--- The tree's slots come before the waiting places.
-pub seen-rising : (s : State) (tree : List ℕ) → Rising (placesSeen (slotsSeen s tree ++ waitingSeen s))
-seen-rising s tree =
-    rw (map-append (λ (x : Seen). x .place) (slotsSeen s tree) (waitingSeen s))
-    (rising-append (placesSeen (slotsSeen s tree)) (placesSeen (waitingSeen s))
-    (slots-rising (s .size) tree (slotCount (s .size)) 0) (waiting-rising (s .size) 0 (used s))
-    (λ a b m n. let r = slots-range (s .size) tree (slotCount (s .size)) 0 a m in
-    let q = waiting-range (s .size) 0 (used s) b n in omega arith))
-
--- All places are below the tree's length and 32 times the waiting places.
-pub seen-below : (s : State) (tree : List ℕ) (p : ℕ) → List·Memᴰ p (placesSeen (slotsSeen s tree ++ waitingSeen s)) → p < waitingPlace (s .size) (length (used s))
-seen-below s tree p m =
-    ⊎-elim {A = List·Memᴰ p (placesSeen (slotsSeen s tree))} {B = List·Memᴰ p (placesSeen (waitingSeen s))}
-    (λ n. let r = slots-range (s .size) tree (slotCount (s .size)) 0 p n in omega arith)
-    (λ n. let r = waiting-range (s .size) 0 (used s) p n in
-    let e : waitingPlace (s .size) (0 + length (used s)) ≡ waitingPlace (s .size) (length (used s)) = omega arith in omega arith)
-    (List·Memᴰ·append-cases (placesSeen (slotsSeen s tree))
-    (rw (map-append (λ (x : Seen). x .place) (slotsSeen s tree) (waitingSeen s)) at m))
-
--- ---- how many
-slots-length : (k : ℕ) (tree : List ℕ) (n i : ℕ) → length (slotsFrom k tree n i) ≡ n
-unfolding slotsFrom
-slots-length k tree zero i = refl
-slots-length k tree (suc n) i = ap suc (slots-length k tree n (suc i))
-
-waiting-length : (k i : ℕ) (ps : List Place) → length (waitingFrom k i ps) ≡ length ps
-unfolding waitingFrom
-waiting-length k i [] = refl
-waiting-length k i (p ∷ ps) = ap suc (waiting-length k (suc i) ps)
-
-good-length : (ss : List Seen) → length (goodIn ss) ≤ length ss
-unfolding goodIn goodAt
-good-length [] = omega arith
-good-length (s ∷ ss) = go (s .reading) (good-length ss)
-  where
-    go : (y : Reading) → length (goodIn ss) ≤ length ss → length (goodAt (s .place) y ++ goodIn ss) ≤ suc (length ss)
-    go (Full n) h = omega arith
-    go Empty h = omega arith
-    go Bad h = omega arith
-
-others-length : (k : ℕ) (es : List Entry) → length (others k es) ≤ length es
-unfolding others
-others-length k [] = omega arith
-others-length k (e ∷ es) = go (eqb k (e .key)) (others-length k es)
-  where
-    go : (t : Bool) → length (others k es) ≤ length es → length (pick t (others k es) (e ∷ others k es)) ≤ suc (length es)
-    go true h = omega arith
-    go false h = omega arith
-
-firsts-length : (es : List Entry) → length (firsts es) ≤ length es
-unfolding firsts
-firsts-length [] = omega arith
-firsts-length (e ∷ es) =
-    let a = others-length (e .key) (firsts es) in
-    let b = firsts-length es in
-    omega arith
-
--- Taken are at most as many as there are slots and waiting places.
-pub taken-length : (s : State) (tree : List ℕ) → length (firsts (good s tree)) ≤ slotCount (s .size) + length (used s)
-taken-length s tree =
-    let a = firsts-length (good s tree) in
-    let b = good-length (waitingSeen s ++ slotsSeen s tree) in
-    let c = length-append (waitingSeen s) (slotsSeen s tree) in
-    let d = slots-length (s .size) tree (slotCount (s .size)) 0 in
-    let e = waiting-length (s .size) 0 (used s) in
-    omega arith
+use Rattle.readout_laws.specs.SeenLaws.{placesSeen, slots-length, waiting-length}
 
 -- ---- good nodes
--- A good node comes from a slot or a waiting place, and has its place.
+-- A good node comes from a slot or a waiting place.
 of-good : (e : Entry) (ss : List Seen) → List·Memᴰ e (goodIn ss) → (x : Seen) × List·Memᴰ x ss × List·Memᴰ e (goodAt (x .place) (x .reading))
 unfolding goodIn
 of-good e [] m = absurd (List·Memᴰ·not-nil m)
@@ -208,12 +41,12 @@ in-good e x (s ∷ ss) m t = go (λ n. in-good e x ss n t) (List·Memᴰ·cases-
         Memᴰ·append-left (goodIn ss) (subst (λ (y : Seen). List·Memᴰ e (goodAt (y .place) (y .reading))) p t)
     go more (inr n) = Memᴰ·append-right (goodAt (s .place) (s .reading)) (more n)
 
+-- A full reading is a good node, and a good node is a full reading at its place.
 pub full-good : (p : ℕ) (n : Node) (ss : List Seen) → List·Memᴰ (record { place = p; reading = Full n }) ss → List·Memᴰ (record { place = p; key = n .key; value = n .value }) (goodIn ss)
 unfolding goodAt
 full-good p n ss m =
     in-good (record { place = p; key = n .key; value = n .value }) (record { place = p; reading = Full n }) ss m (List·Memᴰ·head refl)
 
--- A good node is a full reading at its place.
 pub record FullAt (e : Entry) (ss : List Seen) : Type 0 where
   pub node : Node
   pub there : List·Memᴰ (record { place = e .place; reading = Full node }) ss
@@ -235,6 +68,7 @@ good-full e ss m = let r = of-good e ss m in go (r .0) (r .0 .reading) refl (r .
     go x Empty q m t = absurd (List·Memᴰ·not-nil t)
     go x Bad q m t = absurd (List·Memᴰ·not-nil t)
 
+-- The places and the keys of entries.
 abbrev pub placesOf : List Entry → List ℕ
 placesOf es = map (λ (e : Entry). e .place) es
 
@@ -258,6 +92,7 @@ good-distinct (s ∷ ss) d = go (s .reading) (good-distinct ss (d .1))
 
 -- ---- of each key the first
 module _ (k : ℕ) where
+  -- Others are exactly those with another key.
   pub others-member : (e : Entry) (es : List Entry) → List·Memᴰ e (others k es) → List·Memᴰ e es × (¬ (k ≡ e .key))
   unfolding others
   others-member e [] m = absurd (List·Memᴰ·not-nil m)
@@ -296,6 +131,7 @@ module _ (k : ℕ) where
         more,
       )
 
+-- What is taken is there.
 pub firsts-member : (e : Entry) (es : List Entry) → List·Memᴰ e (firsts es) → List·Memᴰ e es
 unfolding firsts
 firsts-member e [] m = m
@@ -313,6 +149,7 @@ firsts-keys (a ∷ es) = (
   others-distinct (a .key) (λ (e : Entry). e .key) (firsts es) (firsts-keys es),
 )
 
+-- No place stands twice, if none did before.
 pub firsts-places : (es : List Entry) → Distinct (placesOf es) → Distinct (placesOf (firsts es))
 unfolding firsts
 firsts-places [] d = tt
@@ -322,7 +159,7 @@ firsts-places (a ∷ es) d = (
   others-distinct (a .key) (λ (e : Entry). e .place) (firsts es) (firsts-places es (d .1)),
 )
 
--- Each key is taken once.
+-- Of each key there is, one is taken.
 pub key-taken : (e : Entry) (es : List Entry) → List·Memᴰ e es → (f : Entry) × List·Memᴰ f (firsts es) × (f .key ≡ e .key)
 unfolding firsts
 key-taken e [] m = absurd (List·Memᴰ·not-nil m)
@@ -359,11 +196,52 @@ first-of-key e (a ∷ es) m = go (first-of-key e es) (List·Memᴰ·cases-cons m
           ),
         )
 
+-- ---- how many
+good-length : (ss : List Seen) → length (goodIn ss) ≤ length ss
+unfolding goodIn goodAt
+good-length [] = omega arith
+good-length (s ∷ ss) = go (s .reading) (good-length ss)
+  where
+    go : (y : Reading) → length (goodIn ss) ≤ length ss → length (goodAt (s .place) y ++ goodIn ss) ≤ suc (length ss)
+    go (Full n) h = omega arith
+    go Empty h = omega arith
+    go Bad h = omega arith
+
+others-length : (k : ℕ) (es : List Entry) → length (others k es) ≤ length es
+unfolding others
+others-length k [] = omega arith
+others-length k (e ∷ es) = go (eqb k (e .key)) (others-length k es)
+  where
+    go : (t : Bool) → length (others k es) ≤ length es → length (pick t (others k es) (e ∷ others k es)) ≤ suc (length es)
+    go true h = omega arith
+    go false h = omega arith
+
+firsts-length : (es : List Entry) → length (firsts es) ≤ length es
+unfolding firsts
+firsts-length [] = omega arith
+firsts-length (e ∷ es) =
+    let a = others-length (e .key) (firsts es) in
+    let b = firsts-length es in
+    omega arith
+
+-- Taken are at most as many as there are slots and waiting places.
+pub taken-length : (s : State) (tree : List ℕ) → length (firsts (good s tree)) ≤ slotCount (s .size) + length (used s)
+taken-length s tree =
+    let a = firsts-length (good s tree) in
+    let b = good-length (waitingSeen s ++ slotsSeen s tree) in
+    let c = length-append (waitingSeen s) (slotsSeen s tree) in
+    let d = slots-length (s .size) tree (slotCount (s .size)) 0 in
+    let e = waiting-length (s .size) 0 (used s) in
+    omega arith
+
 -- ---- what is left out
+-- The places of what is left out.
 abbrev pub placesOut : List Omitted → List ℕ
 placesOut os = map (λ (o : Omitted). o .place) os
 
+-- By the places of the nodes that are taken.
 module _ (taken : List ℕ) where
+  -- What is left out comes from a slot or a waiting place.
   of-omitted : (o : Omitted) (ss : List Seen) → List·Memᴰ o (omittedIn taken ss) → (x : Seen) × List·Memᴰ x ss × List·Memᴰ o (omittedAt taken (x .place) (x .reading))
   unfolding omittedIn
   of-omitted o [] m = absurd (List·Memᴰ·not-nil m)
@@ -428,6 +306,7 @@ module _ (taken : List ℕ) where
           let at : o .place ≡ x .place = ap (λ (y : Omitted). y .place) same in
           inl (ap (λ (y : Omitted). y .reason) same, Memᴰ·cast (λ i. record { place = at i; reading = sym q i }) m)
 
+  -- Its place is one that is seen, so the places ascend.
   pub omitted-place : (o : Omitted) (ss : List Seen) → List·Memᴰ o (omittedIn taken ss) → List·Memᴰ (o .place) (placesSeen ss)
   omitted-place o ss m =
       ⊎-elim (λ r. Memᴰ·map (λ (x : Seen). x .place) (r .1)) (λ r. Memᴰ·map (λ (x : Seen). x .place) (r .there)) (omitted-only o ss m)

@@ -4,3 +4,4 @@ pub mod Shuffle
 pub mod DistinctLaws
 pub mod SortingLaws
 pub mod Merging
+pub mod AscendingLaws

@@ -1,0 +1,2 @@
+pub mod LeftWhole
+pub mod AfterOverflow

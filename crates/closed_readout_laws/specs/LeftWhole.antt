@@ -39,7 +39,8 @@ use Rattle.demand_spec.specs.History.{Brought, callOn, pairsIn}
 use Rattle.demand_laws.specs.OpenStates.{stateOf, keptOf, used-places}
 use Rattle.demand_laws.specs.FitKept.{good-places, structure-fits, in-range, state-fits}
 use Rattle.demand_laws.specs.ListSteps.{structure-back, leaving}
-use Rattle.demand_laws.specs.UntilClosed.{Overflows, overflow-pairs, overflows}
+use Rattle.demand_laws.specs.NoneLost.{pairs-left}
+use Rattle.demand_laws.specs.UntilClosed.{Overflows}
 use Rattle.readout_spec.specs.ReadOut.{known}
 use Rattle.readout_laws.specs.Whole.{WholeStore}
 
@@ -48,6 +49,13 @@ pub record Readable (s : State) (tree : List ℕ) : Type 0 where
   pub whole : WholeStore s tree
   pub is-known : known s ≡ true
   pub sized : length tree ≡ treeLength (s .size)
+
+-- No key is twice among the pairs of a memory.
+memory-distinct : (st : Structure) (k : ℕ) (t : Contents st) (m : Memory ℕ) → Held 0 st (capacity k) t m → {ps : List Pair}
+    → Perm (memoryEntries m) ps → Distinct (map (λ (p : Pair). p .key) ps)
+memory-distinct st k t m held p =
+    distinct-perm (perm-map (λ (p : Pair). p .key) p)
+    (rw (map-map (λ (p : Pair). p .key) pairOf (m .nodes)) (represents {T = ℕ} 0 st k .distinct-keys t m held))
 
 module _ (st : Structure) (k : ℕ) (positive : 1 ≤ k) (small : k ≤ 8) (s : Store) (m : Memory ℕ) (sim : Simulates k s m)
     (t : Contents st) (held : Held 0 st (capacity k) t m) where
@@ -78,8 +86,25 @@ module _ (st : Structure) (k : ℕ) (positive : 1 ≤ k) (small : k ≤ 8) (s : 
     remains-distinct : {ps : List Pair} {y : Round (Outcome ℕ)}
         → Remains (Perm (memoryEntries m)) (Perm (memoryEntries (call 0 (rounds st k) (capacity k) (x .op) (drawOf k (b .tape)) m .memory))) ps y
         → Distinct (map (λ (p : Pair). p .key) ps)
-    remains-distinct (as-before g p) = ?
-    remains-distinct (as-after g o p) = ?
+    remains-distinct (as-before g p) = memory-distinct st k t m held p
+    remains-distinct (as-after g o p) =
+        memory-distinct st k (plain (capacity k) (x .op) t .contents) _ (call-held k (omega arith) t m held (x .op) (drawOf k (b .tape))) p
 
-    closed-readable : Readable (callOn (keptOf st k s) b .state) (callOn (keptOf st k s) b .tree)
-    closed-readable = ?
+    -- So the store left can be read out.
+    pub left-readable : Readable (callOn (keptOf st k s) b .state) (callOn (keptOf st k s) b .tree)
+    left-readable =
+        let keeps = left-kept .1 in
+        subst⁻¹ (λ (y : Ended). Readable (y .state) (y .tree)) (x .ends)
+        (record {
+          whole =
+              record {
+                none-bad = x .overflow .none-bad;
+                places-good = rw (used-places st k (leftBy l)) (good-places k (l .waiting) (keeps .proper));
+                none-twice =
+                    subst⁻¹ (λ (ps : List Pair). Distinct (map (λ (p : Pair). p .key) ps)) (pairs-left (stateOf st k s) l)
+                    (remains-distinct (x .overflow .nothing-lost));
+              };
+          is-known =
+              rw (structure-fits st, in-range k largestSize positive small, le-leb (length (l .waiting)) places (keeps-room small keeps));
+          sized = keeps .is-tree .sized;
+        })

@@ -96,11 +96,11 @@ split s (b ∷ bs) = go (eqb (callOn s b .state .mark) 0) refl (split-cons s b (
 
 -- ---- the call that closes the store
 
-remains-of : {Before After Before′ After′ : List Pair → Type 0} {left : List Pair} {x : Round (Outcome ℕ)}
-    → ((ps : List Pair) → Before ps → Before′ ps) → ((ps : List Pair) → After ps → After′ ps)
-    → Remains Before After left x → Remains Before′ After′ left x
-remains-of {left = left} p q (as-before g h) = as-before g (p left h)
-remains-of {left = left} p q (as-after g o h) = as-after g o (q left h)
+-- What follows of the pairs left, in either case.
+pub remains-of : {Before After Before′ After′ : List Pair → Type 0} {ps qs : List Pair} {x : Round (Outcome ℕ)}
+    → (Before ps → Before′ qs) → (After ps → After′ qs) → Remains Before After ps x → Remains Before′ After′ qs x
+remains-of p q (as-before g h) = as-before g (p h)
+remains-of p q (as-after g o h) = as-after g o (q h)
 
 module _ (st : Structure) (k : ℕ) (s : Store) (m : Memory ℕ) (b : Brought) where
   abbrev here : Kept
@@ -159,8 +159,8 @@ module _ (st : Structure) (k : ℕ) (s : Store) (m : Memory ℕ) (b : Brought) w
           contents =
               subst₂ (Remains (Entries st t) (Entries st (plain (capacity k) op t .contents))) (sym (overflow-pairs x))
               (sym (ap (came op) (store-back st k s)))
-              (remains-of (λ ps p. entries-perm st t p (held-entries 0 st (capacity k) t m held))
-              (λ ps p. entries-perm st _ p (held-entries 0 st (capacity k) _ (r op .memory) (call-held k (omega arith) t m held op (drawOf k (b .tape)))))
+              (remains-of (λ p. entries-perm st t p (held-entries 0 st (capacity k) t m held))
+              (λ p. entries-perm st _ p (held-entries 0 st (capacity k) _ (r op .memory) (call-held k (omega arith) t m held op (drawOf k (b .tape)))))
               (y .nothing-lost));
         }
 

@@ -1,6 +1,6 @@
 -- A call that meets overflow, on a store that keeps the method's memory, leaves a whole store that can be read out.
 use Prim.Native.Nat.{ℕ, _≤_}
-use mathlib.Core.Path.{_≡_, refl, sym, _∙_, ap, subst, subst⁻¹}
+use mathlib.Core.Path.{_≡_, subst, subst⁻¹}
 use mathlib.Core.Bool.{true}
 use mathlib.Core.List.{List, map, map-map}
 use native.Mathlib.Nat.{mod-lt}
@@ -13,8 +13,7 @@ use Rattle.list_spec.specs.Perm.{Perm}
 use Rattle.list_laws.specs.PermLaws.{perm-map}
 use Rattle.list_laws.specs.DistinctLaws.{distinct-perm}
 use Rattle.slot_spec.specs.Tree.{treeLength}
-use Rattle.method_spec.specs.Node.{Node}
-use Rattle.method_spec.specs.Answer.{Structure, Op}
+use Rattle.method_spec.specs.Answer.{Structure}
 use Rattle.method_spec.specs.Plain.{Pair, Contents, plain}
 use Rattle.method_spec.specs.Map.{Outcome}
 use Rattle.method_spec.specs.Rounds.{rounds}
@@ -32,10 +31,10 @@ use Rattle.simulation_laws.specs.CallSim.{simulates-fits}
 use Rattle.simulation_laws.specs.HeldProper.{held-root}
 use Rattle.simulation_laws.specs.ProperCall.{call-held}
 use Rattle.state_spec.specs.declared.State.{State}
-use Rattle.state_spec.specs.Fit.{largestSize, places, used}
+use Rattle.state_spec.specs.Fit.{largestSize, places}
 use Rattle.fitness_laws.specs.FitState.{fit-state}
-use Rattle.call_spec.specs.Store.{Ended, stateLeft}
-use Rattle.demand_spec.specs.History.{Brought, callOn, pairsIn}
+use Rattle.call_spec.specs.Store.{Ended}
+use Rattle.demand_spec.specs.History.{Brought, callOn}
 use Rattle.demand_laws.specs.OpenStates.{stateOf, keptOf, used-places}
 use Rattle.demand_laws.specs.FitKept.{good-places, structure-fits, in-range, state-fits}
 use Rattle.demand_laws.specs.ListSteps.{structure-back, leaving}
@@ -50,7 +49,7 @@ pub record Readable (s : State) (tree : List ℕ) : Type 0 where
   pub is-known : known s ≡ true
   pub sized : length tree ≡ treeLength (s .size)
 
--- No key is twice among the pairs of a memory.
+-- No key is twice among the pairs of a memory, in any order.
 memory-distinct : (st : Structure) (k : ℕ) (t : Contents st) (m : Memory ℕ) → Held 0 st (capacity k) t m → {ps : List Pair}
     → Perm (memoryEntries m) ps → Distinct (map (λ (p : Pair). p .key) ps)
 memory-distinct st k t m held p =
@@ -74,6 +73,7 @@ module _ (st : Structure) (k : ℕ) (positive : 1 ≤ k) (small : k ≤ 8) (s : 
       }
 
   module _ (b : Brought) (x : Overflows st k s m b) where
+    -- What the rounds left.
     abbrev l : Left
     l = leaving st k s b (x .op)
 
@@ -82,7 +82,7 @@ module _ (st : Structure) (k : ℕ) (positive : 1 ≤ k) (small : k ≤ 8) (s : 
     left-kept =
         ends-kept (call-ends k positive (omega arith) (x .op) (x .fits) (drawOf k (b .tape)) (λ d. mod-lt _ (pow-pos k)) s start-fit)
 
-    -- No key is twice: none is in the method's memory, before the call or after it.
+    -- No key is twice among the pairs left, since none is in the method's memory before the call or after it.
     remains-distinct : {ps : List Pair} {y : Round (Outcome ℕ)}
         → Remains (Perm (memoryEntries m)) (Perm (memoryEntries (call 0 (rounds st k) (capacity k) (x .op) (drawOf k (b .tape)) m .memory))) ps y
         → Distinct (map (λ (p : Pair). p .key) ps)

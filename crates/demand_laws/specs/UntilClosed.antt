@@ -144,6 +144,7 @@ module _ (st : Structure) (k : ℕ) (s : Store) (m : Memory ℕ) (b : Brought) w
             in-rounds op asks fits e
             (simulate k positive (omega arith) t m held s sim op fits (drawOf k (b .tape)) (λ d. mod-lt _ (pow-pos k)))
 
+    -- It closed the store as demand 2 says.
     overflow-closes : Overflows → ClosedBy st k here m t b
     unfolding traceOf replied
     overflow-closes x =

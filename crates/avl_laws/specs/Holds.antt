@@ -37,7 +37,7 @@ module _ {T : Type 0} where
       (trans (cons (e .key) (perm-append (node-keys nil l) (node-keys nil r)))
       (perm-sym (perm-front (map (λ p. p .key) (pairs l)) (e .key) (map (λ p. p .key) (pairs r)))))
 
-ascending-member : {k j : ℕ} {high : Option ℕ} {xs : List Pair} → Ascending (some k) high xs
+pub ascending-member : {k j : ℕ} {high : Option ℕ} {xs : List Pair} → Ascending (some k) high xs
     → List·Memᴰ j (map (λ p. p .key) xs) → k < j
 ascending-member ends m = absurd (List·Memᴰ·not-nil m)
 ascending-member {k} {j} (next {p = p} a b h) m =

@@ -33,7 +33,7 @@ use Rattle.demand_laws.specs.OpenStates.{stateOf, holding, used-places, 
 
 -- ---- the waiting nodes
 
-good-places : (k : ℕ) (ns : List (Node ℕ)) → All (ProperLeaf k) ns → allOf (placeGood k) (map holding ns) ≡ true
+pub good-places : (k : ℕ) (ns : List (Node ℕ)) → All (ProperLeaf k) ns → allOf (placeGood k) (map holding ns) ≡ true
 unfolding allOf
 good-places k [] h = refl
 good-places k (n ∷ ns) h =

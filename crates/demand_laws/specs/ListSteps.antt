@@ -25,7 +25,7 @@ use Rattle.demand_laws.specs.FitKept.{state-fits}
 use Rattle.demand_laws.specs.HistorySteps.{Refuses, next}
 use Rattle.fitness_laws.specs.Tickets.{op-fits}
 
-structure-back : (st : Structure) → structureOf (numberOf st) ≡ st
+pub structure-back : (st : Structure) → structureOf (numberOf st) ≡ st
 structure-back map = refl
 structure-back stack = refl
 structure-back heap = refl

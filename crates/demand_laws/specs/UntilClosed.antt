@@ -51,14 +51,16 @@ unfolding finally
 finally-append s [] ys = refl
 finally-append s (x ∷ xs) ys = finally-append (leftBy (callOn s x)) xs ys
 
--- The store stays as the call that met 9 left it.
-closed-at : (s : Kept) (xs : List Brought) (b : Brought) (after : List Brought) → callOn (finally s xs) b .reply ≡ Refused 9
-    → finally s (xs ++ (b ∷ after)) .state .mark ≡ 9
+-- A call that met 9 set the mark, and the store stays as that call left it.
+closing-mark : (s : Kept) (b : Brought) → callOn s b .reply ≡ Refused 9 → callOn s b .state .mark ≡ 9
+closing-mark s b r = stays-closed (s .state) (s .tree) (b .ticket) (b .tape) (b .trace) 9 r (inr refl) .0
+
+pub closed-at : (s : Kept) (xs : List Brought) (b : Brought) (after : List Brought) → callOn (finally s xs) b .reply ≡ Refused 9
+    → finally s (xs ++ (b ∷ after)) ≡ leftBy (callOn (finally s xs) b)
 unfolding finally
 closed-at s xs b after r =
-    let x = finally s xs in
-    let m : callOn x b .state .mark ≡ 9 = stays-closed (x .state) (x .tree) (b .ticket) (b .tape) (b .trace) 9 r (inr refl) .0 in
-    rw (finally-append s xs (b ∷ after), closed-finally (leftBy (callOn x b)) (λ z. omega arith) after) m
+    let m = closing-mark (finally s xs) b r in
+    finally-append s xs (b ∷ after) ∙ closed-finally (leftBy (callOn (finally s xs) b)) (λ z. omega arith) after
 
 -- The calls before the one that closed an open store left it open.
 until-open : (s : Kept) (bs : List Brought) → s .state .mark ≡ 0 → finally s (untilClosed s bs) .state .mark ≡ 0
@@ -94,62 +96,74 @@ split s (b ∷ bs) = go (eqb (callOn s b .state .mark) 0) refl (split-cons s b (
 
 -- ---- the call that closes the store
 
-remains-of : {Before After Before′ After′ : List Pair → Type 0} {left : List Pair} {x : Round (Outcome ℕ)}
-    → ((ps : List Pair) → Before ps → Before′ ps) → ((ps : List Pair) → After ps → After′ ps)
-    → Remains Before After left x → Remains Before′ After′ left x
-remains-of {left = left} p q (as-before g h) = as-before g (p left h)
-remains-of {left = left} p q (as-after g o h) = as-after g o (q left h)
+-- What follows of the pairs left, in either case.
+pub remains-of : {Before After Before′ After′ : List Pair → Type 0} {ps qs : List Pair} {x : Round (Outcome ℕ)}
+    → (Before ps → Before′ qs) → (After ps → After′ qs) → Remains Before After ps x → Remains Before′ After′ qs x
+remains-of p q (as-before g h) = as-before g (p h)
+remains-of p q (as-after g o h) = as-after g o (q h)
 
-module _ (st : Structure) (k : ℕ) (positive : 1 ≤ k) (small : k ≤ 8) (s : Store) (m : Memory ℕ) (sim : Simulates k s m)
-    (t : Contents st) (held : Held 0 st (capacity k) t m) (b : Brought) where
+module _ (st : Structure) (k : ℕ) (s : Store) (m : Memory ℕ) (b : Brought) where
   abbrev here : Kept
   here = keptOf st k s
 
-  module _ (op : Op st) (asks : opIn st (b .ticket) ≡ some op) (fits : OpFits op)
-      (e : callOn here b ≡ roundsEnd (stateOf st k s) (b .trace) (leaving st k s b op)) where
-    -- What the rounds left, what the method's call does, and where the fetch rounds came to.
-    abbrev l : Left
-    l = leaving st k s b op
+  -- What the rounds leave, what the method's call does, and where the fetch rounds come to.
+  abbrev l : Op st → Left
+  l op = leaving st k s b op
 
-    abbrev r : Called ℕ
-    r = call 0 (rounds st k) (capacity k) op (drawOf k (b .tape)) m
+  abbrev r : Op st → Called ℕ
+  r op = call 0 (rounds st k) (capacity k) op (drawOf k (b .tape)) m
 
-    abbrev came : Store → Round (Outcome ℕ)
-    came x = fetchedBy k (rounds st k) op (drawOf k (b .tape)) x
+  abbrev came : Op st → Store → Round (Outcome ℕ)
+  came op x = fetchedBy k (rounds st k) op (drawOf k (b .tape)) x
 
-    pairs : pairsIn (callOn here b .state) (callOn here b .tree) ≡ storeEntries k (relation.leftBy l)
-    pairs = ap (λ (y : Ended). pairsIn (y .state) (y .tree)) e ∙ pairs-left (stateOf st k s) l
+  -- The call came to its rounds and met overflow.
+  pub record Overflows : Type 0 where
+    pub op : Op st
+    pub asks : opIn st (b .ticket) ≡ some op
+    pub fits : OpFits op
+    pub ends : callOn here b ≡ roundsEnd (stateOf st k s) (b .trace) (l op)
+    pub overflow : Overflowed k m (came op s) (l op) (r op)
 
-    overflow-closes : Overflowed k m (came s) l r → ClosedBy st k here m t b
+  -- The pairs that it left.
+  pub overflow-pairs : (x : Overflows) → pairsIn (callOn here b .state) (callOn here b .tree) ≡ storeEntries k (relation.leftBy (l (x .op)))
+  overflow-pairs x = ap (λ (y : Ended). pairsIn (y .state) (y .tree)) (x .ends) ∙ pairs-left (stateOf st k s) (l (x .op))
+
+  module _ (positive : 1 ≤ k) (small : k ≤ 8) (sim : Simulates k s m) (t : Contents st) (held : Held 0 st (capacity k) t m) where
+    -- A call that closes the store is such a one.
+    pub overflows : Bytes (b .ticket) → (callOn here b .state .mark ≡ 0 → ⊥) → Overflows
+    overflows bytes shut = go (step st k positive small s m sim t held b bytes)
+      where
+        in-rounds : (op : Op st) → opIn st (b .ticket) ≡ some op → OpFits op → callOn here b ≡ roundsEnd (stateOf st k s) (b .trace) (l op)
+            → Overflowed k m (came op s) (l op) (r op) ⊎ Matches k (l op) (r op) → Overflows
+        in-rounds op asks fits e (inl x) = record { op = op; asks = asks; fits = fits; ends = e; overflow = x }
+        in-rounds op asks fits e (inr x) = absurd (shut (ap (λ (y : Ended). y .state .mark) e ∙ x .mark))
+
+        go : Step st k s b → Overflows
+        go (refused n low high e) = absurd (shut (ap (λ (y : Ended). y .state .mark) e))
+        go (runs op asks fits e) =
+            in-rounds op asks fits e
+            (simulate k positive (omega arith) t m held s sim op fits (drawOf k (b .tape)) (λ d. mod-lt _ (pow-pos k)))
+
+    -- It closed the store as demand 2 says.
+    overflow-closes : Overflows → ClosedBy st k here m t b
     unfolding traceOf replied
     overflow-closes x =
+        let op = x .op in
+        let y = x .overflow in
+        let leaves = l op .leaves in
         record {
           op = op;
-          asks = asks;
-          overflow = rw (e, x .mark, x .answer);
-          rest = x .rest;
-          reveals = rw (e, first-part (l .leaves) (drop (length (l .leaves)) (b .trace)), append-nil) (x .leaves);
+          asks = x .asks;
+          overflow = rw (x .ends, y .mark, y .answer);
+          rest = y .rest;
+          reveals = rw (x .ends, first-part leaves (drop (length leaves) (b .trace)), append-nil) (y .leaves);
           contents =
-              subst₂ (Remains (Entries st t) (Entries st (plain (capacity k) op t .contents))) (sym pairs) (sym (ap came (store-back st k s)))
-              (remains-of (λ ps p. entries-perm st t p (held-entries 0 st (capacity k) t m held))
-              (λ ps p. entries-perm st _ p (held-entries 0 st (capacity k) _ (r .memory) (call-held k (omega arith) t m held op (drawOf k (b .tape)))))
-              (x .nothing-lost));
+              subst₂ (Remains (Entries st t) (Entries st (plain (capacity k) op t .contents))) (sym (overflow-pairs x))
+              (sym (ap (came op) (store-back st k s)))
+              (remains-of (λ p. entries-perm st t p (held-entries 0 st (capacity k) t m held))
+              (λ p. entries-perm st _ p (held-entries 0 st (capacity k) _ (r op .memory) (call-held k (omega arith) t m held op (drawOf k (b .tape)))))
+              (y .nothing-lost));
         }
-
-    rounds-close : (callOn here b .state .mark ≡ 0 → ⊥) → ClosedBy st k here m t b
-    rounds-close shut =
-        go (simulate k positive (omega arith) t m held s sim op fits (drawOf k (b .tape)) (λ d. mod-lt _ (pow-pos k)))
-      where
-        go : Overflowed k m (came s) l r ⊎ Matches k l r → ClosedBy st k here m t b
-        go (inl x) = overflow-closes x
-        go (inr x) = absurd (shut (ap (λ (y : Ended). y .state .mark) e ∙ x .mark))
-
-  closing-call : Bytes (b .ticket) → (callOn here b .state .mark ≡ 0 → ⊥) → ClosedBy st k here m t b
-  closing-call bytes shut = go (step st k positive small s m sim t held b bytes)
-    where
-      go : Step st k s b → ClosedBy st k here m t b
-      go (refused n low high e) = absurd (shut (ap (λ (y : Ended). y .state .mark) e))
-      go (runs op asks fits e) = rounds-close op asks fits e shut
 
 -- ---- from a good opening
 
@@ -177,13 +191,19 @@ module _ (st : Structure) (k : ℕ) (positive : 1 ≤ k) (small : k ≤ 8) (tree
   abbrev holds : Contents st
   holds = plainContents (capacity k) (asked st k tree bs) (nothing st)
 
+  -- What holds of each store that keeps that memory holds of the store left.
+  pub of-left : (P : Kept → Type 0) → ((s : Store) → Simulates k s memory → P (keptOf st k s)) → P (left st k tree bs)
+  of-left P h =
+      subst⁻¹ P (left-store st k positive small tree sized first before-bytes before-open)
+      (h _ (matches st k positive small tree sized first before-bytes before-open .simulates))
+
   closed-by : (b : Brought) → Bytes (b .ticket) → (callOn (left st k tree bs) b .state .mark ≡ 0 → ⊥)
       → ClosedBy st k (left st k tree bs) memory holds b
   closed-by b ticket =
-      subst⁻¹ (λ (s : Kept). (callOn s b .state .mark ≡ 0 → ⊥) → ClosedBy st k s memory holds b)
-      (left-store st k positive small tree sized first before-bytes before-open)
-      (closing-call st k positive small _ memory (matches st k positive small tree sized first before-bytes before-open .simulates) holds
-      (method-held st k positive small tree sized first before-bytes) b ticket)
+      let held = method-held st k positive small tree sized first before-bytes in
+      of-left (λ s. (callOn s b .state .mark ≡ 0 → ⊥) → ClosedBy st k s memory holds b)
+      (λ s sim shut. overflow-closes st k s memory b positive small sim holds held
+      (overflows st k s memory b positive small sim holds held ticket shut))
 
   pub ending : Ending st k tree bs
   ending = go (split start bs)
@@ -193,4 +213,4 @@ module _ (st : Structure) (k : ℕ) (positive : 1 ≤ k) (small : k ≤ 8) (tree
       go (next b after e shut) =
           let ticket : Bytes (b .ticket) = all-right {P = λ b. Bytes (b .ticket)} first (rw e at bytes) b (List·Memᴰ·head refl) in
           let by = closed-by b ticket shut in
-          closes b after e (rw e (closed-at start first b after (by .overflow))) by
+          closes b after e (rw (e, closed-at start first b after (by .overflow)) (closing-mark (left st k tree bs) b (by .overflow))) by

@@ -2,7 +2,7 @@
 -- over buckets comes to.
 use mathlib.Core.Path.{_≡_}
 use mathlib.Core.List.{List, [], _++_, map}
-use mathlib.Core.Option.{none}
+use mathlib.Core.Option.{none, some}
 use Prim.Native.Nat.{ℕ, _+_, _≤_, _<_}
 use lib.ListN.{length, replicate}
 use Rattle.list_spec.specs.Perm.{Perm}
@@ -11,11 +11,11 @@ use Rattle.method_spec.specs.Node.{Node, absent}
 use Rattle.method_spec.specs.Plain.{Pair}
 use Rattle.method_spec.specs.Map.{Outcome}
 use Rattle.method_spec.specs.Call.{Memory, Called}
-use Rattle.round_spec.specs.Round.{limit}
+use Rattle.round_spec.specs.Round.{allGood, readBuckets, limit}
 use Rattle.leaf_spec.specs.Leaf.{leafFormat, ProperLeaf}
 use Rattle.bucket_call_spec.specs.Fetch.{Held, Going, heldKeys, Left, Round}
 use Rattle.bucket_call_spec.specs.Call.{Store}
-use Rattle.round_spec.specs.Whole.{contents, Kept, Ascending}
+use Rattle.round_spec.specs.Whole.{allBuckets, contents, Kept, Ascending}
 use Rattle.leaf_spec.specs.Entries.{pairOf}
 use Rattle.bucket_call_spec.specs.Simulates.{Simulates, Remains}
 
@@ -43,7 +43,7 @@ pub record Matches (k : ℕ) (l : Left) (r : Called ℕ) : Type 0 where
   pub simulates : Simulates k (leftBy l) (r .memory)
 
 -- The call over buckets, whose fetch rounds came to x, met overflow: more than 64 wait; it revealed the first part of what the method's
--- call reveals; and no entry is lost.
+-- call reveals; no entry is lost; and no slot is bad.
 pub record Overflowed (k : ℕ) (m : Memory ℕ) (x : Round (Outcome ℕ)) (l : Left) (r : Called ℕ) : Type 0 where
   pub mark : l .mark ≡ 9
   pub answer : l .answer ≡ none
@@ -51,6 +51,7 @@ pub record Overflowed (k : ℕ) (m : Memory ℕ) (x : Round (Outcome ℕ)) (l : 
   pub rest : List ℕ
   pub leaves : r .revealed ≡ l .leaves ++ rest
   pub nothing-lost : Remains (Perm (memoryEntries m)) (Perm (memoryEntries (r .memory))) (storeEntries k (leftBy l)) x
+  pub none-bad : allGood (readBuckets leafFormat k (l .tree) (allBuckets k)) ≡ some (contents leafFormat k (l .tree))
 
 -- ---- between the rounds of a call
 

@@ -143,6 +143,7 @@ module _ (s : Structure) (k F : ℕ) (some-rounds : 1 ≤ F) (draw : ℕ → ℕ
         rest = rest;
         leaves = shown;
         nothing-lost = as-after f o (rw remembers (closing-entries st 9 (o .entries) (o .root)));
+        none-bad = st .kept .none-bad;
       })
 
   module _ (fetched : List ℕ) (revealed : r .revealed ≡ fetched ++ drawsFrom draw F (putDraw s F 0))
@@ -166,4 +167,5 @@ module _ (s : Structure) (k F : ℕ) (some-rounds : 1 ≤ F) (draw : ℕ → ℕ
               revealed ∙ ap (λ (l : List ℕ). l ++ drawsFrom draw F (putDraw s F 0)) shown
               ∙ append-assoc (g .leaves) rest (drawsFrom draw F (putDraw s F 0));
           nothing-lost = as-before g (closing-entries stands 9 (st .entries) (st .root));
+          none-bad = stands .kept .none-bad;
         })

@@ -1,0 +1,3 @@
+pub mod InOrder
+pub mod LeftWhole
+pub mod AfterOverflow

@@ -30,7 +30,7 @@ use Rattle.state_laws.specs.FitLaws.{in-range-true}
 use Rattle.fitness_laws.specs.FitState.{places-length}
 use Rattle.method_spec.specs.Plain.{Pair}
 use Rattle.readout_spec.specs.Seen.{Seen, slotPlace, bucketOf, slotCount, slotBytesAt, placeReading, slotsSeen, waitingSeen}
-use Rattle.readout_spec.specs.Taken.{Entry, good, firsts, entries, Omitted, report}
+use Rattle.readout_spec.specs.Taken.{Entry, pairOfEntry, good, firsts, entries, Omitted, report}
 use Rattle.readout_spec.specs.declared.ReadOut.the-variants.{Written}
 use Rattle.readout_spec.specs.ReadOut.{fileOf, known, readOut}
 use Rattle.readout_spec.specs.File.{countWidth, keyWidth, offsetWidth, valueWidth, placeWidth, reasonWidth, indexWidth, reportWidth, index, valuesPart, reportPart, valuesStart, reportStart, file}
@@ -39,8 +39,7 @@ use Rattle.readout_laws.specs.SeenLaws.{slot-in, waiting-in, seen-below}
 use Rattle.readout_laws.specs.TakenLaws.{taken-length, omitted-place}
 use Rattle.readout_laws.specs.Complete.{full-seen, complete}
 use Rattle.readout_laws.specs.Outcomes.{was-written}
-use Rattle.readout_laws.specs.Pairs.{pairOfEntry}
-use Rattle.readout_laws.specs.FileLaws.{index-length, values-length, file-length}
+use Rattle.survey_laws.specs.FileLaws.{index-length, values-length, file-length}
 
 -- What fits the file's widths. The offsets then do: they are below 2 + 16 * 2^16.
 pub record InWidths (es : List Entry) (os : List Omitted) : Type 0 where

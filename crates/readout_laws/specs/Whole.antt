@@ -31,11 +31,7 @@ use Rattle.state_spec.specs.declared.State.{State}
 use Rattle.state_spec.specs.Fit.{allOf, placeGood, used}
 use Rattle.demand_spec.specs.History.{pairsIn}
 use Rattle.readout_spec.specs.Seen.{Seen, slotPlace, bucketOf, slotBytesAt, slotsInBucket, slotsFrom, waitingFrom, slotsSeen, waitingSeen}
-use Rattle.readout_spec.specs.Taken.{Entry, goodAt, goodIn, others, firsts, good, entries, omittedAt, omittedIn, report}
-
--- An entry's key and value.
-abbrev pub pairOfEntry : Entry → Pair
-pairOfEntry e = record { key = e .key; value = e .value }
+use Rattle.readout_spec.specs.Taken.{Entry, pairOfEntry, goodAt, goodIn, others, firsts, good, entries, omittedAt, omittedIn, report}
 
 -- What is read at a place, as a round reads it.
 abbrev readAt : Seen → Read (Node ℕ)

@@ -17,7 +17,7 @@ ghost use Rattle.slot_spec.specs.LittleEndian.{bytes};
 ghost use Rattle.slot_spec.specs.Slot.{slotBytes};
 ghost use Rattle.readout_spec.specs.Seen.{mostItems};
 ghost use Rattle.readout_spec.specs.File.{indexWidth, valueWidth, reportWidth, index, valuesPart, reportPart, valuesStart};
-ghost use Rattle.readout_laws.specs.Items.{keyIn, itemBytes, valueIn, omittedBy};
+ghost use Rattle.survey_laws.specs.Items.{keyIn, itemBytes, valueIn, omittedBy};
 
 // A number in as many bytes as the part has, little-endian.
 pub fn put_number(part: &mut [u8], n: u64)

@@ -7,6 +7,7 @@ use Rattle.list_spec.specs.Sorting.{sortBy}
 use Rattle.slot_spec.specs.Tree.{among}
 use Rattle.slot_spec.specs.declared.Reading.{Reading}
 use Rattle.slot_spec.specs.declared.Reading.the-variants.{Full, Empty, Bad}
+use Rattle.method_spec.specs.Plain.{Pair}
 use Rattle.state_spec.specs.declared.State.{State}
 use Rattle.readout_spec.specs.Seen.{Seen, slotsSeen, waitingSeen}
 
@@ -15,6 +16,10 @@ pub record Entry : Type 0 where
   pub place : ℕ
   pub key : ℕ
   pub value : ℕ
+
+-- Without its place: what a file says of it.
+abbrev pub pairOfEntry : Entry → Pair
+pairOfEntry e = record { key = e .key; value = e .value }
 
 unfoldable pub goodAt : ℕ → Reading → List Entry
 goodAt place (Full n) = record { place = place; key = n .key; value = n .value } ∷ []

@@ -11,7 +11,7 @@ ghost use lib.ListN.{length, getD};
 ghost use lib.Seq.{sets};
 ghost use Rattle.slot_spec.specs.Tree.{slotLength};
 ghost use Rattle.readout_spec.specs.Seen.{mostItems};
-ghost use Rattle.readout_laws.specs.Items.{keyIn, markOf, bucketFor, marksFrom, keysFrom, goodFrom, heads, cleared};
+ghost use Rattle.survey_laws.specs.Items.{keyIn, markOf, bucketFor, marksFrom, keysFrom, goodFrom, heads, cleared};
 
 // The reason for which an item is reported if it is not taken: 1 bad, 2 good and so repeated, 0 none.
 pub const BAD: u8 = 1;

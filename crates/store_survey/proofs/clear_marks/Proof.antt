@@ -3,8 +3,8 @@ use mathlib.Core.Path.{_≡_, refl, sym, _∙_}
 use mathlib.Core.Logic.{⊎-elim}
 use Prim.Native.Nat.{_+_, _-_, _≤_}
 use lib.ListN.{length, drop, length-set}
-use Rattle.readout_laws.specs.Items.{cleared}
-use Rattle.readout_laws.specs.ItemLaws.{clear-next, clear-past, clear-end}
+use Rattle.survey_laws.specs.Items.{cleared}
+use Rattle.survey_laws.specs.ItemLaws.{clear-next, clear-past, clear-end}
 use borrow.Author.Needs.{needs}
 use native.Mathlib.Omega.{arith}
 use Rattle.store_survey.proofs.clear_marks.Statement.{statement}

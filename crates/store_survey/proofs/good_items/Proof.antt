@@ -5,8 +5,8 @@ use mathlib.Core.List.{List}
 use Prim.Native.Nat.{ℕ, _+_, _-_, _≤_}
 use lib.ListN.{length, drop, length-set}
 use lib.Seq.{sets}
-use Rattle.readout_laws.specs.Items.{goodFrom}
-use Rattle.readout_laws.specs.ItemLaws.{sets-next, good-start, good-here, none-here, good-end}
+use Rattle.survey_laws.specs.Items.{goodFrom}
+use Rattle.survey_laws.specs.ItemLaws.{sets-next, good-start, good-here, none-here, good-end}
 use borrow.Author.Needs.{needs}
 use native.Mathlib.Omega.{arith}
 use Rattle.store_survey.proofs.good_items.Statement.{statement}

@@ -1,5 +1,5 @@
 -- `store_survey::key_at` meets its contract.
-use Rattle.readout_laws.specs.ItemLaws.{getD-past}
+use Rattle.survey_laws.specs.ItemLaws.{getD-past}
 use mathlib.Core.Path.{sym}
 use borrow.Author.Needs.{needs}
 use Rattle.store_survey.proofs.key_at.Statement.{statement}

@@ -1,6 +1,6 @@
 -- `store_survey::mark_of` meets its contract, case by case.
 use borrow.Author.Needs.{needs}
-use Rattle.readout_laws.specs.Items.{markOf}
+use Rattle.survey_laws.specs.Items.{markOf}
 use Rattle.store_survey.proofs.mark_of.Statement.{statement}
 use Rattle.store_survey.proofs.mark_of.Tie as tie
 

@@ -4,8 +4,8 @@ use mathlib.Core.List.{List, _++_}
 use Prim.Native.Nat.{ℕ, _+_, _-_, _≤_}
 use lib.ListN.{length, take, length-set}
 use Rattle.slot_spec.specs.Slot.{fieldsIn, readSlot}
-use Rattle.readout_laws.specs.Items.{markOf, marksFrom, markAt, keyAt, keysFrom}
-use Rattle.readout_laws.specs.ItemLaws.{row-start, row-next, row-whole}
+use Rattle.survey_laws.specs.Items.{markOf, marksFrom, markAt, keyAt, keysFrom}
+use Rattle.survey_laws.specs.ItemLaws.{row-start, row-next, row-whole}
 use borrow.Author.Needs.{needs}
 use native.Mathlib.Omega.{arith}
 use Rattle.store_survey.proofs.survey.Statement.{statement}

@@ -26,11 +26,11 @@ use Rattle.heap_laws.specs.HeapTree.{Sorted}
 use Rattle.demand_laws.specs.OpenedRuns.{method-held}
 use Rattle.demand_laws.specs.UntilClosed.{overflows, closed-at, remains-of, before-bytes, of-left}
 use Rattle.demand_laws.specs.Proved.{demand2}
-use Rattle.readout_spec.specs.Taken.{entries, report}
+use Rattle.readout_spec.specs.Taken.{pairOfEntry, entries, report}
 use Rattle.readout_spec.specs.ReadOut.{fileOf, writing, readOut}
-use Rattle.readout_laws.specs.Whole.{pairOfEntry, whole-entries, whole-report}
-use Rattle.closed_readout_laws.specs.InOrder.{plain-ascends, entries-sorted, in-order-once}
-use Rattle.closed_readout_laws.specs.LeftWhole.{Readable, left-readable}
+use Rattle.readout_laws.specs.Whole.{whole-entries, whole-report}
+use Rattle.readout_laws.specs.InOrder.{plain-ascends, entries-sorted, in-order-once}
+use Rattle.readout_laws.specs.LeftWhole.{Readable, left-readable}
 
 -- ---- the statement
 

@@ -4,15 +4,15 @@ use mathlib.Core.List.{List, [], _∷_, _++_, map, append-assoc, append-nil}
 use Prim.Native.Nat.{ℕ, suc, _+_, _-_, _*_, _/_, _%_, _≤_, _<_}
 use native.Mathlib.Numerals.{add-one}
 use native.Mathlib.Omega.{arith}
-use lib.ListN.{length, getD, set, take, drop, length-append, length-take, length-drop, drop-of-length-le}
+use lib.ListN.{length, getD, set, take, drop, length-append, length-take, length-drop, length-map, drop-of-length-le}
 use lib.Seq.{drop-cons, take-at, drop-at, take-suc-set, take-all}
 use borrow.Author.Tests.{eq-eqb, ne-eqb}
 use Rattle.slot_spec.specs.LittleEndian.{bytes}
 use Rattle.slot_laws.specs.LittleEndianLaws.{length-bytes}
 use Rattle.readout_spec.specs.Seen.{slotPlace}
-use Rattle.readout_spec.specs.Taken.{Omitted}
-use Rattle.readout_spec.specs.File.{keyWidth, offsetWidth, valueWidth, placeWidth, reasonWidth, indexWidth, reportWidth, index, valuesPart, reportPart}
-use Rattle.readout_laws.specs.Items.{omittedBy}
+use Rattle.readout_spec.specs.Taken.{Entry, Omitted}
+use Rattle.readout_spec.specs.File.{countWidth, keyWidth, offsetWidth, valueWidth, placeWidth, reasonWidth, indexWidth, reportWidth, index, valuesPart, reportPart, valuesStart, reportStart, file}
+use Rattle.survey_laws.specs.Items.{omittedBy}
 
 -- ---- lengths
 pub index-length : (at : ℕ) (ks : List ℕ) → length (index at ks) ≡ indexWidth * length ks
@@ -29,6 +29,24 @@ pub report-length : (os : List Omitted) → length (reportPart os) ≡ reportWid
 unfolding reportPart
 report-length [] = refl
 report-length (o ∷ os) = simp (length-append, length-bytes, report-length os) (omega arith)
+
+pub file-length : (es : List Entry) (os : List Omitted) → length (file es os) ≡ reportStart (length es) + reportWidth * length os
+unfolding file
+file-length es os =
+    let ks : List ℕ = map (λ (e : Entry). e .key) es in
+    let vs : List ℕ = map (λ (e : Entry). e .value) es in
+    rw (
+      length-append (bytes countWidth (length es)),
+      length-bytes countWidth (length es),
+      length-append (index (valuesStart (length es)) ks),
+      length-append (valuesPart vs),
+      index-length (valuesStart (length es)) ks,
+      values-length vs,
+      report-length os,
+      length-map es (λ (e : Entry). e .key),
+      length-map es (λ (e : Entry). e .value),
+    )
+    (omega arith)
 
 -- ---- one line, and the rest: from item i on, and none past the last
 bytes-more : (w n : ℕ) → bytes (suc w) n ≡ n % 256 ∷ bytes w (n / 256)

@@ -24,8 +24,7 @@ use Rattle.heap_laws.specs.Collections.{enter-sorted, sorted-once}
 use Rattle.method_laws.specs.Represented.{represents}
 use Rattle.method_laws.specs.Theorems.{held}
 use Rattle.state_spec.specs.declared.State.{State}
-use Rattle.readout_spec.specs.Taken.{Entry, good, firsts, entries}
-use Rattle.readout_laws.specs.Whole.{pairOfEntry}
+use Rattle.readout_spec.specs.Taken.{Entry, pairOfEntry, good, firsts, entries}
 
 -- The keys of pairs.
 abbrev keysOf : List Pair → List ℕ

@@ -10,7 +10,7 @@ use lib.Seq.{sets, take-all, drop-cons, take-suc-set, append-snoc, set-out}
 use borrow.Author.Tests.{eq-eqb, ne-eqb}
 use Rattle.list_spec.specs.Choice.{pick}
 use Rattle.readout_spec.specs.Taken.{isRepeated}
-use Rattle.readout_laws.specs.Items.{rowFrom, goodFrom, headsAfter, heads, cleared}
+use Rattle.survey_laws.specs.Items.{rowFrom, goodFrom, headsAfter, heads, cleared}
 
 -- ---- a row that is filled from its start
 pub row-start : (f : ℕ → ℕ) (xs : List ℕ) (n : ℕ) → take 0 xs ++ rowFrom f (n - 0) 0 ≡ rowFrom f n 0

@@ -24,7 +24,7 @@ use Rattle.slot_laws.specs.ReadLaws.{own-tag-too-large, read-full, read-zero}
 use Rattle.state_spec.specs.declared.Place.{Place}
 use Rattle.readout_spec.specs.Seen.{placeReading, slotBytesAt}
 use Rattle.readout_spec.specs.Taken.{isBad, isRepeated}
-use Rattle.readout_laws.specs.Items.{placeBytes, placesBytes, markOf}
+use Rattle.survey_laws.specs.Items.{placeBytes, placesBytes, markOf}
 
 -- ---- the root
 pub root-passes : (k t : ℕ) → t < 2 ^ k → passes k t 1 ≡ true

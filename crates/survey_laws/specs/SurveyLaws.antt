@@ -20,9 +20,9 @@ use Rattle.slot_laws.specs.TreeLaws.{among-member}
 use Rattle.state_spec.specs.declared.Place.{Place}
 use Rattle.readout_spec.specs.Seen.{Seen, slotPlace, slotCount, slotBytesAt, slotsFrom, bucketOf, waitingPlace, waitingFrom, placeReading}
 use Rattle.readout_spec.specs.Taken.{Entry, goodAt, goodIn, firsts, Omitted, isBad, isRepeated, omittedAt, omittedIn}
-use Rattle.readout_laws.specs.Items.{keyIn, slotsIn, itemBytes, valueIn, placeBytes, placesBytes, markAt, markOf, rowFrom, marksFrom, keyAt, keysFrom, goodFrom, headsAfter, heads, cleared, entryFor, omittedBy}
-use Rattle.readout_laws.specs.WaitingSlots.{Shows, good, empty, bad, place-shows, slot-shows, place-length, places-length, place-at}
-use Rattle.readout_laws.specs.HeadsLaws.{heads-sorted}
+use Rattle.survey_laws.specs.Items.{keyIn, slotsIn, itemBytes, valueIn, placeBytes, placesBytes, markAt, markOf, rowFrom, marksFrom, keyAt, keysFrom, goodFrom, headsAfter, heads, cleared, entryFor, omittedBy}
+use Rattle.survey_laws.specs.WaitingSlots.{Shows, good, empty, bad, place-shows, slot-shows, place-length, places-length, place-at}
+use Rattle.survey_laws.specs.HeadsLaws.{heads-sorted}
 
 -- ---- what is seen and the marks, item by item from number i on
 module _ (entry : ℕ → Entry) where

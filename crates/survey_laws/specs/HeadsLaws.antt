@@ -9,7 +9,7 @@ use borrow.Author.Tests.{eqb-true, eqb-false, leb-true, leb-false, eq-eqb, ne-eq
 use Rattle.list_spec.specs.Choice.{pick}
 use Rattle.list_spec.specs.Sorting.{insertBy, sortBy}
 use Rattle.readout_spec.specs.Taken.{Entry, others, firsts}
-use Rattle.readout_laws.specs.Items.{headsAfter, heads}
+use Rattle.survey_laws.specs.Items.{headsAfter, heads}
 
 abbrev key : Entry → ℕ
 key e = e .key

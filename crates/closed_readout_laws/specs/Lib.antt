@@ -1,3 +1,0 @@
-pub mod InOrder
-pub mod LeftWhole
-pub mod AfterOverflow

@@ -1,0 +1,6 @@
+pub mod Items
+pub mod ItemLaws
+pub mod HeadsLaws
+pub mod WaitingSlots
+pub mod SurveyLaws
+pub mod FileLaws

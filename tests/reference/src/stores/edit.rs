@@ -16,7 +16,10 @@ enum Spot {
     Waiting(usize),
 }
 
-const OF_TREE: [fn(&mut Random, u8, &mut [u8], usize); 5] = [
+/// Makes a full slot or waiting place of a size bad.
+type Spoil = fn(&mut Random, u8, &mut [u8]);
+
+const OF_TREE: [Spoil; 5] = [
     bad_flag,
     empty_and_nonzero,
     zero_byte,
@@ -76,7 +79,7 @@ pub fn to_refuse(random: &mut Random, store: &mut Closed) {
 pub fn tree(random: &mut Random, state: &State, tree: &mut [u8]) {
     let at = full_slot(random, state.size, tree, 0);
     let slot = &mut tree[SLOT_BYTES * at..][..SLOT_BYTES];
-    random.pick(&OF_TREE)(random, state.size, slot, at);
+    random.pick(&OF_TREE)(random, state.size, slot);
 }
 
 // ---- nodes
@@ -156,12 +159,12 @@ impl Closed {
 
 // ---- bad slots
 
-fn bad_flag(random: &mut Random, _: u8, slot: &mut [u8], _: usize) {
+fn bad_flag(random: &mut Random, _: u8, slot: &mut [u8]) {
     slot[0] = random.pick(&[2, 3, 128, 255]);
 }
 
 /// A full slot loses its flag, or all but one byte.
-fn empty_and_nonzero(random: &mut Random, _: u8, slot: &mut [u8], _: usize) {
+fn empty_and_nonzero(random: &mut Random, _: u8, slot: &mut [u8]) {
     if random.one_in(2) {
         slot.fill(0);
         slot[1 + random.index(SLOT_BYTES - 1)] = 1 + random.below(255) as u8;
@@ -169,12 +172,12 @@ fn empty_and_nonzero(random: &mut Random, _: u8, slot: &mut [u8], _: usize) {
     slot[0] = 0;
 }
 
-fn zero_byte(random: &mut Random, _: u8, slot: &mut [u8], _: usize) {
+fn zero_byte(random: &mut Random, _: u8, slot: &mut [u8]) {
     slot[random.pick(&ZERO_BYTES)] = random.pick(&[1, 128, 255]);
 }
 
 /// An absent link with a key, a tag or both.
-fn spoil_link(random: &mut Random, size: u8, slot: &mut [u8], _: usize) {
+fn spoil_link(random: &mut Random, size: u8, slot: &mut [u8]) {
     let side = random.index(2);
     let what = random.below(3);
     let key = if what == 0 { 0 } else { key(random) | 1 };
@@ -189,7 +192,7 @@ fn spoil_link(random: &mut Random, size: u8, slot: &mut [u8], _: usize) {
 }
 
 /// An own tag, or that of a link that is there, that is no leaf.
-fn spoil_tag(random: &mut Random, size: u8, slot: &mut [u8], _: usize) {
+fn spoil_tag(random: &mut Random, size: u8, slot: &mut [u8]) {
     let which = random.index(3);
     if which > 0 {
         slot[which] = slot[which].max(1);
@@ -227,10 +230,10 @@ fn bad_twin(random: &mut Random, store: &mut Closed) {
     let size = store.state.size;
     let (good, twin) = (store.spot(random), store.spot(random));
     let key: [u8; 4] = store.bytes_mut(good)[4..8].try_into().unwrap();
-    let spoil = random.pick(&[spoil_link, spoil_tag]);
+    let spoil = random.pick::<Spoil>(&[spoil_link, spoil_tag]);
     let slot = store.bytes_mut(twin);
     slot[4..8].copy_from_slice(&key);
-    spoil(random, size, slot, 0);
+    spoil(random, size, slot);
 }
 
 // ---- waiting nodes
@@ -238,8 +241,8 @@ fn bad_twin(random: &mut Random, store: &mut Closed) {
 fn bad_waiting(random: &mut Random, store: &mut Closed) {
     if let Some(number) = store.waiting(random) {
         let size = store.state.size;
-        let spoil = random.pick(&[spoil_link, spoil_tag]);
-        spoil(random, size, store.bytes_mut(Spot::Waiting(number)), 0);
+        let spoil = random.pick::<Spoil>(&[spoil_link, spoil_tag]);
+        spoil(random, size, store.bytes_mut(Spot::Waiting(number)));
     }
 }
 

@@ -45,7 +45,7 @@ pub fn trial(seed: u64) -> Trial {
         edit::any(&mut random, &mut store);
         as_left = false;
     }
-    for _ in 0..random.pick(&[0, 0, 0, 0, 1, 1, 2]) {
+    for _ in 0..random.pick(&[0, 0, 0, 0, 0, 0, 1, 1, 2]) {
         edit::to_refuse(&mut random, &mut store);
         as_left = false;
     }
@@ -67,6 +67,6 @@ fn room(random: &mut Random, store: &Closed) -> usize {
                 _ => random.pick(&[less, 0]),
             }
         }
-        Err(_) => random.pick(&[0, 1, 2, 500, 4000]),
+        Err(_) => random.pick(&[0, 1, 2, 20, 500, 2000, 4000]),
     }
 }

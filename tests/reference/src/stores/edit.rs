@@ -46,24 +46,14 @@ const EDITS: [Edit; 16] = [
     |random, store| store.state.structure = random.pick(&[MAP, STACK, HEAP]),
 ];
 
-const REFUSALS: [Edit; 5] = [
-    |random, store| {
-        let any = random.next() as u8;
-        store.state.mark = random.pick(&[0, 1, 3, 7, 10, 11, 12, 255, any]);
-    },
-    |random, store| {
-        let any = random.next() as u8;
-        store.state.structure = random.pick(&[0, 4, 255, any]);
-    },
-    |random, store| {
-        let any = random.next() as u8;
-        store.state.size = random.pick(&[0, 9, 255, any]);
-    },
+const REFUSALS: [Edit; 7] = [
+    mark,
+    mark,
+    structure,
+    size,
     |random, store| store.state.count = random.pick(&[PLACES + 1, 103, 65535]),
-    |random, store| {
-        let length = tree_length(random, store.tree.len(), store.state.size);
-        store.tree.resize(length, 0);
-    },
+    tree_length,
+    tree_length,
 ];
 
 pub fn any(random: &mut Random, store: &mut Closed) {
@@ -323,18 +313,36 @@ fn resize(random: &mut Random, store: &mut Closed) {
     store.tree.resize(tree_bytes(store.state.size), 0);
 }
 
+// ---- what is refused
+
+fn mark(random: &mut Random, store: &mut Closed) {
+    let any = random.next() as u8;
+    store.state.mark = random.pick(&[0, 1, 3, 7, 10, 11, 12, 255, any]);
+}
+
+fn structure(random: &mut Random, store: &mut Closed) {
+    let any = random.next() as u8;
+    store.state.structure = random.pick(&[0, 4, 255, any]);
+}
+
+fn size(random: &mut Random, store: &mut Closed) {
+    let any = random.next() as u8;
+    store.state.size = random.pick(&[0, 9, 255, any]);
+}
+
 /// A length that is not the tree's, within what a record may have.
-fn tree_length(random: &mut Random, length: usize, size: u8) -> usize {
-    let other = tree_bytes(1 + (size as usize + random.index(7)) as u8 % GREATEST_SIZE);
-    random
-        .pick(&[
-            length + 1,
-            length.saturating_sub(1),
-            length + BUCKET_BYTES,
-            length.saturating_sub(BUCKET_BYTES),
-            length.saturating_sub(SLOT_BYTES),
-            other,
-            0,
-        ])
-        .min(super::MOST_ROOM)
+fn tree_length(random: &mut Random, store: &mut Closed) {
+    let old = store.tree.len();
+    let step = usize::from(store.state.size) + random.index(7);
+    let of_another_size = tree_bytes(1 + (step % 8) as u8);
+    let new = random.pick(&[
+        old + 1,
+        old.saturating_sub(1),
+        old + BUCKET_BYTES,
+        old.saturating_sub(BUCKET_BYTES),
+        old.saturating_sub(SLOT_BYTES),
+        of_another_size,
+        0,
+    ]);
+    store.tree.resize(new.min(super::MOST_TREE), 0);
 }

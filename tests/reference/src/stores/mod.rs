@@ -12,8 +12,9 @@ use crate::plain::{self, State};
 use crate::random::Random;
 use crate::record::Record;
 
-/// The longest output buffer that a record asks for.
-pub const MOST_ROOM: usize = 65536;
+/// The longest tree and output buffer that a record may have.
+const MOST_TREE: usize = 65536;
+const MOST_ROOM: usize = 65536;
 
 /// A closed store, to be edited.
 #[derive(Clone)]

@@ -6,7 +6,7 @@ mod common;
 use common::*;
 use reference::paper::*;
 use reference::plain::{write_slot, Node, State};
-use reference::record::Record;
+use reference::record::{Record, ZERO_BYTES};
 use reference::stores::{branches, trial, BRANCHES};
 use reference::{fast, plain, readout, Store};
 use std::collections::{BTreeMap, HashSet};
@@ -496,6 +496,18 @@ fn random_stores_meet_every_branch() {
     for (group, names) in BRANCHES {
         for name in names {
             assert!(met.contains(&(group, name.to_string())), "{group}: {name}");
+        }
+    }
+}
+
+/// What the test program's states can hold, and its limits.
+#[test]
+fn random_stores_keep_the_records_form() {
+    for seed in 0..1440 {
+        let Record { state, tree, room } = trial(seed).record;
+        assert!(tree.len() <= 65536 && room <= 65536 && state.places.len() == PLACES);
+        for place in state.places {
+            assert!(place[0] <= 1 && ZERO_BYTES.iter().all(|&at| place[at] == 0));
         }
     }
 }

@@ -4,8 +4,9 @@
 //! - `plain`: the store written for reading, over Vecs and recursion.
 //! - `fast`: the same store written for speed, over fixed arrays.
 //! - `origin`: the origin rule, a machine with no buckets and no tape.
-//! - `walk`, `listing`: what the programs print.
+//! - `walk`, `readout`, `listing`: what the programs print.
 //! - `inputs`, `random`: random inputs of the walk program, from seeds.
+//! - `record`, `stores`: closed stores as bytes, and random ones from seeds.
 //! - `checksum`: what the benchmark compares.
 
 pub mod checksum;
@@ -16,6 +17,9 @@ pub mod origin;
 pub mod paper;
 pub mod plain;
 pub mod random;
+pub mod readout;
+pub mod record;
+pub mod stores;
 pub mod walk;
 
 use paper::Outcome;
@@ -24,6 +28,8 @@ use paper::Outcome;
 pub trait Store: Clone {
     fn open(structure: u8, size: u8, tree: &mut [u8]) -> Self;
     fn call(&mut self, tree: &mut [u8], ticket: &[u8], tape: &[u16], trace: &mut [u16]) -> Outcome;
+    /// Reads a closed store out: the file's length, or the number of a refusal.
+    fn read_out(&self, tree: &[u8], output: &mut [u8]) -> Result<usize, u8>;
     /// The state in its plain form, every byte of every place included.
     fn to_plain(&self) -> plain::State;
     fn from_plain(state: &plain::State) -> Self;

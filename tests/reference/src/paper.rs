@@ -38,6 +38,14 @@ pub const OVERFLOW: u8 = 9;
 pub const FULL: u8 = 10;
 pub const BAD_STRUCTURE: u8 = 11;
 pub const BAD_SIZE: u8 = 12;
+/// Of a read-out: the mark is neither 8 nor 9.
+pub const NOT_CLOSED: u8 = 14;
+/// Of a read-out: the output buffer is too short.
+pub const OUTPUT_SHORT: u8 = 15;
+
+/// A read-out's reasons to leave a node or slot out.
+pub const BAD: u8 = 1;
+pub const REPEATED: u8 = 2;
 
 pub type Slot = [u8; SLOT_BYTES];
 
@@ -172,6 +180,10 @@ pub fn fetch_rounds(structure: u8, size: u8) -> usize {
 
 pub fn structure_is_known(structure: u8) -> bool {
     (MAP..=HEAP).contains(&structure)
+}
+
+pub fn size_is_known(size: u8) -> bool {
+    (1..=GREATEST_SIZE).contains(&size)
 }
 
 pub fn kind_fits(structure: u8, kind: u8) -> bool {

@@ -11,42 +11,65 @@ pub fn run<S: Store>(input: impl Read, output: impl Write) -> io::Result<()> {
 
 /// The walk program with calls that are made by this function.
 pub fn run_with<S: Store>(
-    mut input: impl Read,
+    input: impl Read,
     mut output: impl Write,
     mut make: impl FnMut(&mut S, &mut [u8], &[u8], &[u16], &mut [u16]) -> Outcome,
 ) -> io::Result<()> {
-    let mut opening = [0; 2];
-    if read_some(&mut input, &mut opening)? < opening.len() {
+    let mut input = Input(input);
+    let Some([structure, size]) = input.opening()? else {
         return print(&mut output, "short");
-    }
-    let [structure, size] = opening;
-    let known_size = size.clamp(1, GREATEST_SIZE);
-    let mut tree = vec![0; tree_bytes(known_size)];
-    let mut store = S::open(structure, size, &mut tree);
+    };
+    let (mut store, mut tree) = open::<S>(structure, size);
     let mark = store.to_plain().mark;
     if mark != 0 {
         return print(&mut output, &format!("refused {mark}"));
     }
     let rounds = fetch_rounds(structure, size);
-    let mut call = vec![0; TICKET_BYTES + 2 * (2 * rounds + 1)];
     loop {
-        let got = read_some(&mut input, &mut call)?;
-        if got == 0 {
-            return Ok(());
-        }
-        if got < call.len() {
-            return print(&mut output, "short");
-        }
-        let (ticket, tape) = call.split_at(TICKET_BYTES);
+        let (ticket, tape) = match input.call(rounds)? {
+            Next::Call(ticket, tape) => (ticket, tape),
+            Next::Short => return print(&mut output, "short"),
+            Next::End => return Ok(()),
+        };
         let mut trace = vec![0; 2 * rounds];
-        let outcome = make(
-            &mut store,
-            &mut tree,
-            ticket,
-            &tape_numbers(tape),
-            &mut trace,
-        );
+        let outcome = make(&mut store, &mut tree, &ticket, &tape, &mut trace);
         print(&mut output, &line(outcome, &trace))?;
+    }
+}
+
+/// A store and its tree; one of an unknown size has some other's tree.
+pub fn open<S: Store>(structure: u8, size: u8) -> (S, Vec<u8>) {
+    let mut tree = vec![0; tree_bytes(size.clamp(1, GREATEST_SIZE))];
+    (S::open(structure, size, &mut tree), tree)
+}
+
+/// The walk program's input, read as far as it is asked for.
+pub struct Input<R>(pub R);
+
+/// What comes next in it: a ticket and a tape, or no whole call.
+pub enum Next {
+    Call(Vec<u8>, Vec<u16>),
+    Short,
+    End,
+}
+
+impl<R: Read> Input<R> {
+    /// The structure and the size, unless the input ends before.
+    pub fn opening(&mut self) -> io::Result<Option<[u8; 2]>> {
+        let mut opening = [0; 2];
+        let got = read_some(&mut self.0, &mut opening)?;
+        Ok((got == opening.len()).then_some(opening))
+    }
+
+    pub fn call(&mut self, rounds: usize) -> io::Result<Next> {
+        let mut call = vec![0; TICKET_BYTES + 2 * (2 * rounds + 1)];
+        let got = read_some(&mut self.0, &mut call)?;
+        let tape = tape_numbers(&call.split_off(TICKET_BYTES));
+        Ok(match got {
+            0 => Next::End,
+            _ if got < TICKET_BYTES + 2 * tape.len() => Next::Short,
+            _ => Next::Call(call, tape),
+        })
     }
 }
 

@@ -1,4 +1,4 @@
-//! `fast` allocates nothing in a call.
+//! `fast` allocates nothing in a call or a read-out.
 
 use reference::fast;
 use reference::paper::*;
@@ -44,4 +44,20 @@ fn calls_allocate_nothing() {
         }
         assert_eq!(ALLOCATIONS.get(), before);
     }
+}
+
+#[test]
+fn read_outs_allocate_nothing() {
+    let mut tree = vec![0; tree_bytes(8)];
+    let mut state = fast::open(STACK, 8, &mut tree);
+    let (mut trace, mut output) = ([0; 2], vec![0; 2000]);
+    for number in 1..=101 {
+        let ticket = Ticket::new(PUSH, 0, number).bytes();
+        fast::call(&mut state, &mut tree, &ticket, &[0; 3], &mut trace);
+    }
+    // A bad slot, so that there is a report.
+    tree[0] = 2;
+    let before = ALLOCATIONS.get();
+    assert_eq!(fast::read_out(&state, &tree, &mut output), Ok(1607));
+    assert_eq!(ALLOCATIONS.get(), before);
 }

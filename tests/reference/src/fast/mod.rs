@@ -3,11 +3,13 @@
 mod heap;
 mod map;
 mod node;
+mod read_out;
 mod rounds;
 mod stack;
 mod state;
 
 pub use node::Node;
+pub use read_out::read_out;
 pub use state::{open, State};
 
 use crate::paper::*;
@@ -61,6 +63,10 @@ impl Store for State {
 
     fn call(&mut self, tree: &mut [u8], ticket: &[u8], tape: &[u16], trace: &mut [u16]) -> Outcome {
         call(self, tree, ticket, tape, trace)
+    }
+
+    fn read_out(&self, tree: &[u8], output: &mut [u8]) -> Result<usize, u8> {
+        read_out(self, tree, output)
     }
 
     fn to_plain(&self) -> plain::State {

@@ -3,12 +3,14 @@
 mod branch;
 mod heap;
 mod map;
+mod read_out;
 mod round;
 mod slot;
 mod stack;
 mod state;
 
 pub use branch::{Branch, BRANCHES};
+pub use read_out::read_out;
 pub use slot::{passes, path, read_slot, write_slot, Node, Reading, Side};
 pub use state::{open, State};
 
@@ -98,6 +100,10 @@ impl Store for State {
 
     fn call(&mut self, tree: &mut [u8], ticket: &[u8], tape: &[u16], trace: &mut [u16]) -> Outcome {
         call(self, tree, ticket, tape, trace)
+    }
+
+    fn read_out(&self, tree: &[u8], output: &mut [u8]) -> Result<usize, u8> {
+        read_out(self, tree, output)
     }
 
     fn to_plain(&self) -> State {

@@ -48,7 +48,7 @@ impl State {
 
     pub fn is_fit(&self) -> bool {
         structure_is_known(self.structure)
-            && (1..=GREATEST_SIZE).contains(&self.size)
+            && size_is_known(self.size)
             && self.entries <= capacity(self.size)
             && self.places_are_fit()
             && self.root_is_fit()
@@ -83,7 +83,7 @@ pub fn open(structure: u8, size: u8, tree: &mut [u8]) -> State {
     if !structure_is_known(structure) {
         return State::closed(BAD_STRUCTURE);
     }
-    if !(1..=GREATEST_SIZE).contains(&size) {
+    if !size_is_known(size) {
         return State::closed(BAD_SIZE);
     }
     if tree.len() != tree_bytes(size) {

@@ -1,4 +1,5 @@
 // The parts of the file that a closed store is read out to, each written into a part of the output buffer that has just its length.
+use merge_sort::key_at;
 use readout_spec::COUNT_WIDTH;
 use readout_spec::INDEX_WIDTH;
 use readout_spec::KEY_WIDTH;
@@ -41,17 +42,6 @@ fn put_pair(part: &mut [u8], width: usize, first: u64, second: u64)
     put_number(&mut part[width..], second);
 }
 
-// The key of an item; 0 for a number past the keys.
-fn item_key(keys: &[u64], i: u16) -> u64
-    ensures { λ r. ⌜ r ≡ keyIn (now (keys .entry)) i ⌝ }
-{
-    let at = i as usize;
-    if at < keys.len() {
-        return keys[at];
-    }
-    0
-}
-
 // The bytes of an item as words: one of the tree, or a waiting one.
 fn load_item(tree: &[u8], waiting: &[u8], i: u16) -> Slot
     ensures { λ r. ⌜ slotBytes r ≡ itemBytes (now (tree .entry)) (now (waiting .entry)) i ⌝ }
@@ -91,7 +81,7 @@ pub fn put_index(part: &mut [u8], keys: &[u64], taken: &[u16])
         let a = INDEX_WIDTH * i;
         let e = a + INDEX_WIDTH;
         let offset = start + VALUE_WIDTH * i;
-        let key = item_key(keys, taken[i]);
+        let key = key_at(keys, taken[i]);
         put_pair(&mut part[a..e], KEY_WIDTH, key, offset as u64);
         i += 1;
     }

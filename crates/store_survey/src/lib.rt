@@ -1,5 +1,6 @@
 // What a closed store holds, item by item: its slots and waiting places numbered by place, the keys and marks of them, the good ones,
 // and of these the first of each key.
+use merge_sort::key_at;
 use slot_fields::key_of;
 use slot_spec::Reading;
 use slot_spec::SLOT_LENGTH;
@@ -77,17 +78,6 @@ pub fn good_items(marks: &[u8], first: usize, order: &mut [u16]) -> usize
         i += 1;
     }
     n
-}
-
-// The key of an item; 0 for a number past the keys.
-fn key_at(keys: &[u64], i: u16) -> u64
-    ensures { λ r. ⌜ r ≡ keyIn (now (keys .entry)) i ⌝ }
-{
-    let at = i as usize;
-    if at < keys.len() {
-        return keys[at];
-    }
-    0
 }
 
 // Of items in order of keys the first of each key are put at the start of `taken`; how many they are.

@@ -34,11 +34,6 @@ row-whole f xs n i all sized e =
 pub sets-next : (xs : List ℕ) (n v : ℕ) (vs : List ℕ) → sets xs n (v ∷ vs) ≡ sets (set xs n v) (n + 1) vs
 sets-next xs n v vs = let h : n + 1 ≡ suc n = omega arith in rw h
 
-pub getD-past : (xs : List ℕ) (i : ℕ) → length xs ≤ i → getD xs i 0 ≡ 0
-getD-past [] i past = refl
-getD-past (x ∷ xs) zero past = let z : ⊥ = omega arith in absurd z
-getD-past (x ∷ xs) (suc i) past = getD-past xs i (omega arith)
-
 -- ---- the good items
 module _ (marks : List ℕ) (first i : ℕ) (within : i < length marks) where
   abbrev rest : ℕ → List ℕ

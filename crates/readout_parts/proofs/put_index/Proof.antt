@@ -44,14 +44,14 @@ mul-offset c = search needs
 add-offset : tie.Need-add-offset Inv-loop μ-loop
 add-offset c = search needs
 
-mul-item-key : tie.Need-mul-item-key Inv-loop μ-loop
-mul-item-key c = search needs
+mul-key-at : tie.Need-mul-key-at Inv-loop μ-loop
+mul-key-at c = search needs
 
-shared-slice-read-item-key : tie.Need-shared-slice-read-item-key Inv-loop μ-loop
-shared-slice-read-item-key c = search needs
+shared-slice-read-key-at : tie.Need-shared-slice-read-key-at Inv-loop μ-loop
+shared-slice-read-key-at c = search needs
 
-item-key-requires : tie.Need-item-key-requires Inv-loop μ-loop
-item-key-requires c κs = search needs
+key-at-requires : tie.Need-key-at-requires Inv-loop μ-loop
+key-at-requires c κs = search needs
 
 sub-put-pair : tie.Need-sub-put-pair Inv-loop μ-loop
 sub-put-pair c = search needs
@@ -75,7 +75,7 @@ loop-again : tie.Need-loop-again Inv-loop μ-loop
 loop-again c =
     let s = c .before .before .before .before .before .before .before .before .before .before .before in
     let l = c .before .before .before .before .before .before .before .loop in
-    let k = c .before .before .before .before .item-key in
+    let k = c .before .before .before .before .key-at in
     let w = c .before .before .put-pair in
     let t = s .args .taken .now in
     let f = keyIn (s .args .keys .now) in
@@ -110,9 +110,9 @@ put-index-spec =
     add-e
     mul-offset
     add-offset
-    mul-item-key
-    shared-slice-read-item-key
-    item-key-requires
+    mul-key-at
+    shared-slice-read-key-at
+    key-at-requires
     sub-put-pair
     part-put-pair-start
     part-put-pair-end

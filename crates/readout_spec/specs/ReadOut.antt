@@ -32,13 +32,17 @@ pub record Left : Type 0 where
   pub result : ReadOut
   pub out : List ℕ
 
+-- What a function that returns r leaves of the output buffer.
+abbrev pub leaving : ReadOut → List ℕ → Left
+leaving r out = record { result = r; out = out }
+
 -- "None of them writes a byte."
 abbrev pub refusing : ℕ → List ℕ → Left
-refusing n out = record { result = Refused n; out = out }
+refusing n out = leaving (Refused n) out
 
 -- "It returns the file's length and changes no other byte."
 abbrev pub writing : List ℕ → List ℕ → Left
-writing bytes out = record { result = Written (length bytes); out = bytes ++ drop (length bytes) out }
+writing bytes out = leaving (Written (length bytes)) (bytes ++ drop (length bytes) out)
 
 unfoldable pub readOut : State → (tree out : List ℕ) → Left
 readOut s tree out =

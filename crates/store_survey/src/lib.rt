@@ -66,7 +66,7 @@ pub fn survey(size: usize, in_tree: bool, slots: &[u8], keys: &mut [u64], marks:
 // The good items, numbered from `first` on, are put at the start of `order`; how many they are.
 pub fn good_items(marks: &[u8], first: usize, order: &mut [u16]) -> usize
     requires { ⌜ (length (now marks) ≤ length (now order)) × (first + length (now marks) ≤ mostItems) ⌝ }
-    ensures { λ r. ⌜ (r ≡ length (goodFrom first (now (marks .entry)))) × (now (order .exit) ≡ sets (now (order .entry)) 0 (goodFrom first (now (marks .entry)))) ⌝ }
+    ensures { λ r. ⌜ (r ≤ length (now (marks .entry))) × (r ≡ length (goodFrom first (now (marks .entry)))) × (now (order .exit) ≡ sets (now (order .entry)) 0 (goodFrom first (now (marks .entry)))) ⌝ }
 {
     let mut n = 0;
     let mut i = 0;
@@ -83,7 +83,7 @@ pub fn good_items(marks: &[u8], first: usize, order: &mut [u16]) -> usize
 // Of items in order of keys the first of each key are put at the start of `taken`; how many they are.
 pub fn first_of_each(keys: &[u64], order: &[u16], taken: &mut [u16]) -> usize
     requires { ⌜ length (now order) ≤ length (now taken) ⌝ }
-    ensures { λ r. ⌜ (r ≡ length (heads (keyIn (now (keys .entry))) (now (order .entry)))) × (now (taken .exit) ≡ sets (now (taken .entry)) 0 (heads (keyIn (now (keys .entry))) (now (order .entry)))) ⌝ }
+    ensures { λ r. ⌜ (r ≤ length (now (order .entry))) × (r ≡ length (heads (keyIn (now (keys .entry))) (now (order .entry)))) × (now (taken .exit) ≡ sets (now (taken .entry)) 0 (heads (keyIn (now (keys .entry))) (now (order .entry)))) ⌝ }
 {
     if order.len() == 0 {
         return 0;

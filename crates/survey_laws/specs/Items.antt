@@ -1,11 +1,12 @@
 -- A store's slots and waiting places as numbered items, as the code that reads it out holds them: the slots of the tree, then those of
 -- the waiting nodes, each by its number, so that an item's place is 32 times its number.
-use Prim.Native.Nat.{ℕ, zero, suc, _+_, _-_, _*_, _/_}
+use Prim.Native.Nat.{ℕ, zero, suc, _-_, _/_}
 use mathlib.Core.Bool.{Bool, true, false}
-use mathlib.Core.List.{List, [], _∷_, _++_}
+use mathlib.Core.List.{List, [], _∷_, _++_, map}
 use lib.Dec.{eqb, ltb}
-use lib.ListN.{length, getD, set, replicate}
+use lib.ListN.{length, getD, set, take, drop, replicate}
 use Rattle.list_spec.specs.Choice.{pick}
+use Rattle.list_spec.specs.Sorting.{sortBy}
 use Rattle.slot_spec.specs.Tree.{slotLength}
 use Rattle.slot_spec.specs.Slot.{fieldsIn, encode, readSlot}
 use Rattle.slot_spec.specs.declared.Reading.{Reading}
@@ -13,6 +14,8 @@ use Rattle.slot_spec.specs.declared.Reading.the-variants.{Full, Empty, Bad}
 use Rattle.state_spec.specs.declared.Place.{Place}
 use Rattle.readout_spec.specs.Seen.{slotPlace, bucketOf, slotBytesAt}
 use Rattle.readout_spec.specs.Taken.{Omitted, Entry, isBad, isRepeated}
+use Rattle.readout_spec.specs.File.{file}
+use Rattle.readout_spec.specs.ReadOut.{Left, refusing, writing}
 
 -- The key of an item; 0 for a number past the keys.
 abbrev pub keyIn : List ℕ → ℕ → ℕ
@@ -85,6 +88,19 @@ module _ {A : Type 0} (key : A → ℕ) where
   heads [] = []
   heads (a ∷ xs) = a ∷ headsAfter (key a) xs
 
+-- The good items, of marks the first of which are the tree's slots: the waiting ones come first, so that of a key they are taken over
+-- the tree's.
+unfoldable pub goodOrder : (slots : ℕ) → List ℕ → List ℕ
+goodOrder slots marks = goodFrom slots (drop slots marks) ++ goodFrom 0 (take slots marks)
+
+-- Items in order of their keys, the first of each.
+unfoldable pub firstSorted : (keys : List ℕ) → List ℕ → List ℕ
+firstSorted keys order = heads (keyIn keys) (sortBy (keyIn keys) order)
+
+-- The items taken.
+abbrev pub takenItems : (slots : ℕ) → (keys marks : List ℕ) → List ℕ
+takenItems slots keys marks = firstSorted keys (goodOrder slots marks)
+
 -- The marks of the items taken are cleared.
 unfoldable pub cleared : List ℕ → List ℕ → List ℕ
 cleared [] marks = marks
@@ -99,3 +115,25 @@ unfoldable pub omittedBy : ℕ → List ℕ → List Omitted
 omittedBy i [] = []
 omittedBy i (m ∷ ms) =
     pick (eqb m 0) (omittedBy (suc i) ms) (record { place = slotPlace i; reason = m } ∷ omittedBy (suc i) ms)
+
+-- ---- all of it
+-- The keys and the marks of all items.
+unfoldable pub allKeys : (tree waiting : List ℕ) → List ℕ
+allKeys tree waiting = keysFrom tree (slotsIn tree) 0 ++ keysFrom waiting (slotsIn waiting) 0
+
+unfoldable pub allMarks : (size : ℕ) → (tree waiting : List ℕ) → List ℕ
+allMarks k tree waiting = marksFrom true k tree (slotsIn tree) 0 ++ marksFrom false k waiting (slotsIn waiting) 0
+
+-- The file of the items taken and of the marks left.
+unfoldable pub itemsFile : (tree waiting keys taken marks : List ℕ) → List ℕ
+itemsFile tree waiting keys taken marks = file (map (entryFor keys tree waiting) taken) (omittedBy 0 marks)
+
+-- The file of a tree and the slots of waiting nodes.
+unfoldable pub slotsFile : (size : ℕ) → (tree waiting : List ℕ) → List ℕ
+slotsFile k tree waiting =
+    itemsFile tree waiting (allKeys tree waiting) (takenItems (slotsIn tree) (allKeys tree waiting) (allMarks k tree waiting))
+    (cleared (takenItems (slotsIn tree) (allKeys tree waiting) (allMarks k tree waiting)) (allMarks k tree waiting))
+
+-- What is left of an output buffer for a file: 15 where it is too short.
+unfoldable pub fitting : List ℕ → List ℕ → Left
+fitting f out = pick (ltb (length out) (length f)) (refusing 15 out) (writing f out)

@@ -4,3 +4,4 @@ pub mod HeadsLaws
 pub mod WaitingSlots
 pub mod SurveyLaws
 pub mod FileLaws
+pub mod PartLaws

@@ -212,7 +212,7 @@ getD-append-before [] ys i low = let z : ⊥ = omega arith in absurd z
 getD-append-before (x ∷ xs) ys zero low = refl
 getD-append-before (x ∷ xs) ys (suc i) low = getD-append-before xs ys i (omega arith)
 
-row-length : (f : ℕ → ℕ) (n i : ℕ) → length (rowFrom f n i) ≡ n
+pub row-length : (f : ℕ → ℕ) (n i : ℕ) → length (rowFrom f n i) ≡ n
 unfolding rowFrom
 row-length f zero i = refl
 row-length f (suc n) i = ap suc (row-length f n (suc i))

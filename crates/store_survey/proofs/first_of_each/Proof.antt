@@ -24,7 +24,7 @@ returns : tie.Need-returns Inv-loop μ-loop
 returns c =
     let a = c .before .before .before .before .args in
     let e = heads-none (keyIn (a .keys .now)) (a .order .now) (c .if1 .taken) in
-    rw e (refl, refl)
+    (omega arith, rw e, rw e)
 
 shared-slice-read-item : tie.Need-shared-slice-read-item Inv-loop μ-loop
 shared-slice-read-item c = search needs
@@ -99,7 +99,7 @@ returns-2 c =
     let e = heads-end (keyIn (a .keys .now)) (a .order .now) (l .last) (l .i) (c .loop-test .left) in
     let s = heads-start (keyIn (a .keys .now)) (a .order .now) (a .taken .now) (omega (arith, c .before .before .before .before .if1 .left)) in
     let k = c .before .before .key-at .ensures in
-    (omega (arith, ap length e, rw k at (l .inv .3), s .0), (rw (e, k) at (l .inv .4)) ∙ s .1)
+    (omega (arith, l .inv .0, l .inv .1), omega (arith, ap length e, rw k at (l .inv .3), s .0), (rw (e, k) at (l .inv .4)) ∙ s .1)
 
 pub first-of-each-spec : {M : Type 1} → statement M
 first-of-each-spec =

@@ -79,7 +79,7 @@ returns : tie.Need-returns Inv-loop μ-loop
 returns c =
     let l = c .before .loop in
     let e = good-end (c .before .before .args .marks .now) (c .before .before .args .first) (l .i) (c .loop-test .left) in
-    (omega (arith, ap length e, l .inv .3), rw e at (l .inv .4))
+    (omega (arith, l .inv .0, l .inv .1), omega (arith, ap length e, l .inv .3), rw e at (l .inv .4))
 
 pub good-items-spec : {M : Type 1} → statement M
 good-items-spec =

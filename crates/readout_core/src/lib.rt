@@ -90,24 +90,40 @@ fn write_file(
     ReadOut::Written(end)
 }
 
+// Reads out with the lent rows for keys, marks and items taken, whose content before and after means nothing.
+fn read_out_with(
+    size: usize,
+    tree: &[u8],
+    waiting: &[u8],
+    keys: &mut [u64],
+    marks: &mut [u8],
+    taken: &mut [u16],
+    out: &mut [u8],
+) -> ReadOut
+    requires { ⌜ (size ≤ 16) × (length (now tree) ≡ slotLength * slotsIn (now tree)) × (length (now waiting) ≡ slotLength * slotsIn (now waiting)) × (length (now keys) ≡ slotsIn (now tree) + slotsIn (now waiting)) × (length (now marks) ≡ length (now keys)) × (length (now keys) ≤ mostItems) × (mostItems ≤ length (now taken)) ⌝ }
+    ensures { λ r. ⌜ leaving r (now (out .exit)) ≡ fitting (slotsFile size (now (tree .entry)) (now (waiting .entry))) (now (out .entry)) ⌝ }
+{
+    survey_all(size, tree, waiting, keys, marks);
+    let count = take_items(keys, tree.len() / SLOT_LENGTH, marks, taken);
+    write_file(tree, waiting, keys, &taken[..count], marks, out)
+}
+
 // Reads out a tree of that size and the slots of the waiting nodes.
 pub fn read_out_slots(size: usize, tree: &[u8], waiting: &[u8], out: &mut [u8]) -> ReadOut
     requires { ⌜ (size ≤ 16) × (length (now tree) ≡ slotLength * slotsIn (now tree)) × (length (now waiting) ≡ slotLength * slotsIn (now waiting)) × (slotsIn (now tree) + slotsIn (now waiting) ≤ mostItems) ⌝ }
     ensures { λ r. ⌜ leaving r (now (out .exit)) ≡ fitting (slotsFile size (now (tree .entry)) (now (waiting .entry))) (now (out .entry)) ⌝ }
 {
-    let slots = tree.len() / SLOT_LENGTH;
-    let n = slots + waiting.len() / SLOT_LENGTH;
+    let n = tree.len() / SLOT_LENGTH + waiting.len() / SLOT_LENGTH;
     let mut keys = [0u64; MOST_ITEMS];
     let mut marks = [0u8; MOST_ITEMS];
     let mut taken = [0u16; MOST_ITEMS];
-    survey_all(size, tree, waiting, &mut keys[..n], &mut marks[..n]);
-    let count = take_items(&keys[..n], slots, &mut marks[..n], &mut taken);
-    write_file(
+    read_out_with(
+        size,
         tree,
         waiting,
-        &keys[..n],
-        &taken[..count],
-        &marks[..n],
+        &mut keys[..n],
+        &mut marks[..n],
+        &mut taken,
         out,
     )
 }

@@ -5,3 +5,4 @@ pub mod WaitingSlots
 pub mod SurveyLaws
 pub mod FileLaws
 pub mod PartLaws
+pub mod WriteLaws

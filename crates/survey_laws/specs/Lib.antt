@@ -6,3 +6,4 @@ pub mod SurveyLaws
 pub mod FileLaws
 pub mod PartLaws
 pub mod WriteLaws
+pub mod StoreLaws

@@ -66,6 +66,12 @@ put-whole row vs fits =
     let z : 0 + length vs ≡ length vs = omega arith in
     rw z at (sets-eq vs row 0 (omega arith))
 
+-- A list that is as long as the row.
+pub put-exact : (row vs : List ℕ) → length vs ≡ length row → sets row 0 vs ≡ vs
+put-exact row vs e =
+    let none : drop (length vs) row ≡ [] = drop-of-length-le row {i = length vs} (omega (arith, e)) in
+    put-whole row vs (omega (arith, e)) ∙ rw (none, append-nil vs)
+
 -- The first of it is what was put there.
 pub put-first : (row vs : List ℕ) (n : ℕ) → n ≡ length vs → length vs ≤ length row → take n (sets row 0 vs) ≡ vs
 put-first row vs n e fits = rw (e, put-whole row vs fits) (take-append-seam vs (drop (length vs) row))

@@ -1,0 +1,72 @@
+-- A store's file is that of its tree and of the slots of its waiting places.
+use mathlib.Core.Path.{_≡_, refl, sym, _∙_, ap, ap₂}
+use mathlib.Core.Bool.{true, false}
+use mathlib.Core.List.{List, _++_, map}
+use Prim.Native.Nat.{ℕ, _+_, _*_, _^_, _≤_}
+use native.Mathlib.Omega.{arith}
+use lib.ListN.{length}
+use lib.Pow.{pow-mono, pow-pos}
+use lib.Seq.{take-at, drop-at}
+use Rattle.list_spec.specs.Distinct.{All}
+use Rattle.slot_spec.specs.Tree.{slotLength, treeLength}
+use Rattle.slot_spec.specs.Slot.{Ranged}
+use Rattle.state_spec.specs.declared.Place.{Place}
+use Rattle.state_spec.specs.declared.State.{State}
+use Rattle.state_spec.specs.Fit.{used, largestSize, places}
+use Rattle.readout_spec.specs.Seen.{slotCount, mostItems, slotsSeen, waitingSeen}
+use Rattle.readout_spec.specs.Taken.{Entry, entries, report, omittedIn}
+use Rattle.readout_spec.specs.File.{file}
+use Rattle.readout_spec.specs.ReadOut.{fileOf}
+use Rattle.survey_laws.specs.Items.{slotsIn, placesBytes, markAt, keysFrom, marksFrom, goodFrom, goodOrder, firstSorted, takenItems, cleared, entryFor, omittedBy, allKeys, allMarks, itemsFile, slotsFile}
+use Rattle.survey_laws.specs.WaitingSlots.{places-length}
+use Rattle.survey_laws.specs.SurveyLaws.{row-length, keys, marks, taken, survey-entries, survey-report}
+
+-- ---- lengths
+-- A tree has slots, and no store too many.
+pub tree-slots : (size : ℕ) (tree : List ℕ) → length tree ≡ treeLength size → (slotsIn tree ≡ slotCount size) × (length tree ≡ slotLength * slotsIn tree)
+tree-slots size tree sized = (omega (arith, sized), omega (arith, sized))
+
+pub few-items : (size count : ℕ) → size ≤ largestSize → count ≤ places → slotCount size + count ≤ mostItems
+few-items size count small few =
+    let p : 2 ^ (size + 1) ≤ 2 ^ 9 = pow-mono {i = size + 1} {j = 9} (omega (arith, small)) in
+    omega (arith, p, few)
+
+-- ---- the file
+module _ (s : State) (tree : List ℕ) (sized : length tree ≡ treeLength (s .size)) (ranged : All (λ (p : Place). Ranged (p .node)) (used s)) where
+  abbrev k : ℕ
+  k = s .size
+
+  abbrev waiting : List ℕ
+  waiting = placesBytes (used s)
+
+  slots-there : slotsIn tree ≡ slotCount k
+  slots-there = tree-slots k tree sized .0
+
+  waiting-there : slotsIn waiting ≡ length (used s)
+  waiting-there = omega (arith, places-length (used s))
+
+  same-keys : keys k tree sized (used s) ranged ≡ allKeys tree waiting
+  unfolding allKeys
+  same-keys = sym (ap₂ (λ (n m : ℕ). keysFrom tree n 0 ++ keysFrom waiting m 0) slots-there waiting-there)
+
+  same-marks : marks k tree sized (used s) ranged ≡ allMarks k tree waiting
+  unfolding allMarks
+  same-marks = sym (ap₂ (λ (n m : ℕ). marksFrom true k tree n 0 ++ marksFrom false k waiting m 0) slots-there waiting-there)
+
+  same-taken : taken k tree sized (used s) ranged ≡ takenItems (slotsIn tree) (allKeys tree waiting) (allMarks k tree waiting)
+  unfolding goodOrder firstSorted
+  same-taken =
+      let m = marksFrom true k tree (slotCount k) 0 in
+      let w = marksFrom false k waiting (length (used s)) 0 in
+      let n : length m ≡ slotCount k = row-length (markAt true k tree) (slotCount k) 0 in
+      rw (← same-keys, ← same-marks, slots-there, drop-at m w (slotCount k) n, take-at m w (slotCount k) n)
+
+  pub store-file : fileOf s tree ≡ slotsFile k tree waiting
+  unfolding slotsFile itemsFile
+  store-file =
+      let e : entries s tree ≡ map (entryFor (keys k tree sized (used s) ranged) tree waiting) (taken k tree sized (used s) ranged) =
+      survey-entries k tree sized (used s) ranged in
+      let r : report s tree ≡ omittedBy 0 (cleared (taken k tree sized (used s) ranged) (marks k tree sized (used s) ranged)) =
+      ap (λ (es : List Entry). omittedIn (map (λ (x : Entry). x .place) es) (slotsSeen s tree ++ waitingSeen s)) e
+      ∙ survey-report k tree sized (used s) ranged in
+      ap₂ file e r ∙ rw (← same-taken, ← same-keys, ← same-marks)

@@ -1,0 +1,46 @@
+-- `readout::make_call` meets its contract: the tape is read, and the call is made.
+use mathlib.Core.Path.{sym, ap}
+use lib.Seq.{length-take-le}
+use Rattle.call_spec.specs.Store.{Ended}
+use native.Mathlib.Omega.{arith}
+use borrow.Author.Needs.{needs}
+use Rattle.readout.proofs.input.make_call.Statement.{statement}
+use Rattle.readout.proofs.input.make_call.Tie as tie
+
+read-tape-requires : tie.Need-read-tape-requires
+read-tape-requires c κs = search needs
+
+slice-aggregate-call : tie.Need-slice-aggregate-call
+slice-aggregate-call c =
+    let s = c .before .before .before .before .before .before .before .before .before .before in
+    sym (length-take-le 13 (s .args .input .now) (omega (arith, s .pre)))
+
+call-requires : tie.Need-call-requires
+call-requires c κs = search needs
+
+same-length : tie.Need-same-length
+same-length c = search needs
+
+same-length-2 : tie.Need-same-length-2
+same-length-2 c = search needs
+
+same-length-3 : tie.Need-same-length-3
+same-length-3 c = search needs
+
+returns : tie.Need-returns
+returns c =
+    let k = c .before .before .before .before .before in
+    let r = k .before .before .before .before .before .before .before in
+    rw (← r .read-tape .ensures) (ap (λ (x : Ended). x .state) (k .call .ensures), ap (λ (x : Ended). x .tree) (k .call .ensures))
+
+pub make-call-spec : {M : Type 1} → statement M
+make-call-spec =
+    tie.close
+    (tie.spec
+    read-tape-requires
+    slice-aggregate-call
+    call-requires
+    same-length
+    same-length-2
+    same-length-3
+    returns)

@@ -1,11 +1,21 @@
 -- `readout::make_call` meets its contract: the tape is read, and the call is made.
-use mathlib.Core.Path.{sym, ap}
+use mathlib.Core.Path.{_≡_, sym, ap}
+use mathlib.Core.List.{List}
+use Prim.Native.Nat.{ℕ}
 use lib.Seq.{length-take-le}
-use Rattle.call_spec.specs.Store.{Ended}
+use Rattle.state_spec.specs.declared.State.{State}
+use Rattle.call_spec.specs.declared.Reply.{Reply}
+use Rattle.call_spec.specs.Store.{Ended, called}
+use Rattle.walk_spec.specs.Input.{ticketIn}
 use native.Mathlib.Omega.{arith}
 use borrow.Author.Needs.{needs}
 use Rattle.readout.proofs.input.make_call.Statement.{statement}
 use Rattle.readout.proofs.input.make_call.Tie as tie
+
+-- The parts of what a call leaves.
+left-of : {s : State} {reply : Reply} {leaves : ℕ} {tree trace : List ℕ} (e : Ended)
+    → record { state = s; reply = reply; leaves = leaves; tree = tree; trace = trace } ≡ e → (s ≡ e .state) × (tree ≡ e .tree)
+left-of e is = (ap (λ (x : Ended). x .state) is, ap (λ (x : Ended). x .tree) is)
 
 read-tape-requires : tie.Need-read-tape-requires
 read-tape-requires c κs = search needs
@@ -31,7 +41,8 @@ returns : tie.Need-returns
 returns c =
     let k = c .before .before .before .before .before in
     let r = k .before .before .before .before .before .before .before in
-    rw (← r .read-tape .ensures) (ap (λ (x : Ended). x .state) (k .call .ensures), ap (λ (x : Ended). x .tree) (k .call .ensures))
+    let a = r .before .before .before .before .before .before .args in
+    rw (← r .read-tape .ensures) (left-of (called (a .state) (a .tree .now) (ticketIn (a .input .now)) (r .read-tape .last .1 .0) (a .trace .now)) (k .call .ensures))
 
 pub make-call-spec : {M : Type 1} → statement M
 make-call-spec =

@@ -1,0 +1,21 @@
+// What a read-out answers, as two numbers, for programs.
+use readout_spec::ReadOut;
+use state_spec::State;
+use store_readout::read_out;
+ghost use Rattle.io.specs.Counts.{Counts};
+
+// 0 and the length of the file that was written, or the number of a refusal and 0.
+pub struct Outcome {
+    pub number: u8,
+    pub length: usize,
+}
+
+// Reads a closed store out into `out`: a file's length is within it.
+pub fn read_into(state: State, tree: &[u8], out: &mut [u8]) -> Outcome
+    ensures { λ r. ⌜ Counts (r .length) (now (out .exit)) ⌝ }
+{
+    match read_out(state, tree, out) {
+        ReadOut::Written(length) => Outcome { number: 0, length },
+        ReadOut::Refused(number) => Outcome { number, length: 0 },
+    }
+}

@@ -1,4 +1,4 @@
--- A file that was written lies within the output buffer: what the definition of reading out says of it.
+-- A file that was written lies within the output buffer, and what is returned as two numbers: what the definition of reading out says of them.
 use mathlib.Core.Path.{_≡_, refl, sym, _∙_, ap}
 use mathlib.Core.Bool.{Bool, true, false, not}
 use mathlib.Core.List.{List, _++_}
@@ -10,7 +10,7 @@ use Rattle.slot_spec.specs.Tree.{treeLength}
 use Rattle.state_spec.specs.declared.State.{State}
 use Rattle.readout_spec.specs.declared.ReadOut.{ReadOut}
 use Rattle.readout_spec.specs.declared.ReadOut.the-variants.{Written, Refused}
-use Rattle.readout_spec.specs.ReadOut.{Left, readOut, fileOf, closedMark, known, refusing, writing}
+use Rattle.readout_spec.specs.ReadOut.{Left, readOut, fileOf, closedMark, known, leaving, refusing, writing, numberOf, lengthOf}
 use Rattle.list_spec.specs.Choice.{pick}
 
 record Fits (l : Left) : Type 0 where
@@ -34,8 +34,23 @@ all-fit s tree out =
     (either-fits (not (eqb (length tree) (treeLength (s .size)))) (refused-fits 3 out)
     (either-fits (ltb (length out) (length (fileOf s tree))) (refused-fits 15 out) (written-fits (fileOf s tree) out))))
 
--- From the contract's equation.
-pub file-within : (s : State) (tree before after : List ℕ) (r : ReadOut) → record { result = r; out = after } ≡ readOut s tree before
-    → (n : ℕ) → r ≡ Written n → n ≤ length after
-file-within s tree before after r is n e =
-    rw (ap (λ (l : Left). l .out) is) (all-fit s tree before .within n (sym (ap (λ (l : Left). l .result) is) ∙ e))
+-- ---- from the contract's equation
+module _ (s : State) (tree before after : List ℕ) (r : ReadOut) (is : leaving r after ≡ readOut s tree before) where
+  pub file-within : (n : ℕ) → r ≡ Written n → n ≤ length after
+  file-within n e =
+      rw (ap (λ (l : Left). l .out) is) (all-fit s tree before .within n (sym (ap (λ (l : Left). l .result) is) ∙ e))
+
+  result-is : r ≡ readOut s tree before .result
+  result-is = ap (λ (l : Left). l .result) is
+
+  pub bytes-are : after ≡ readOut s tree before .out
+  bytes-are = ap (λ (l : Left). l .out) is
+
+  -- The two numbers, of a file and of a refusal.
+  pub written-numbers : (n : ℕ) → r ≡ Written n → (0 ≡ numberOf (readOut s tree before .result)) × (n ≡ lengthOf (readOut s tree before .result))
+  unfolding numberOf lengthOf
+  written-numbers n e = rw (← result-is, e) (refl, refl)
+
+  pub refused-numbers : (n : ℕ) → r ≡ Refused n → (n ≡ numberOf (readOut s tree before .result)) × (0 ≡ lengthOf (readOut s tree before .result))
+  unfolding numberOf lengthOf
+  refused-numbers n e = rw (← result-is, e) (refl, refl)

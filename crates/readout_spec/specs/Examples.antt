@@ -17,7 +17,7 @@ use Rattle.readout_spec.specs.declared.ReadOut.the-variants.{Written, Re
 use Rattle.readout_spec.specs.Seen.{slotsFrom, waitingFrom}
 use Rattle.readout_spec.specs.Taken.{goodAt, goodIn, others, firsts, omittedAt, omittedIn, Omitted}
 use Rattle.readout_spec.specs.File.{index, valuesPart, reportPart, file}
-use Rattle.readout_spec.specs.ReadOut.{readOut, refusing, writing}
+use Rattle.readout_spec.specs.ReadOut.{readOut, refusing, writing, numberOf, lengthOf}
 use Rattle.readout_spec.specs.ReadBack.{entriesAt, reportAt, readBack}
 use Rattle.method_spec.specs.Plain.{Pair}
 
@@ -98,6 +98,8 @@ pub record Worked : Type 0 where
   pub too-many-wait : readOut (store 9 1 1 102) [] (out 5) ≡ refusing 2 (out 5)
   pub other-length : readOut (store 9 1 1 4) (drop 1 tree) (out 5) ≡ refusing 3 (out 5)
   pub too-short : readOut (store 9 1 1 4) tree (out 95) ≡ refusing 15 (out 95)
+  -- What is returned, as two numbers.
+  pub two-numbers : (numberOf (Written 96) ≡ 0) × (lengthOf (Written 96) ≡ 96) × (numberOf (Refused 15) ≡ 15) × (lengthOf (Refused 15) ≡ 0)
   -- Read back: the file alone, or with bytes after it.
   pub read-back : readBack 96 (expected ++ out 4)
       ≡ record {
@@ -106,7 +108,7 @@ pub record Worked : Type 0 where
       }
 
 pub worked : Worked
-unfolding readOut file index valuesPart reportPart goodAt goodIn others firsts omittedAt omittedIn slotsFrom waitingFrom insertBy sortBy placesFrom readSlot bad wellFormed fieldsIn fieldsOf nodeOf encode fields pack value bytes allZero halvings among entriesAt reportAt readBack
+unfolding readOut file index valuesPart reportPart goodAt goodIn others firsts omittedAt omittedIn slotsFrom waitingFrom insertBy sortBy placesFrom readSlot bad wellFormed fieldsIn fieldsOf nodeOf encode fields pack value bytes allZero halvings among entriesAt reportAt readBack numberOf lengthOf
 worked =
     record {
       written = refl;
@@ -118,5 +120,6 @@ worked =
       too-many-wait = refl;
       other-length = refl;
       too-short = refl;
+      two-numbers = (refl, refl, refl, refl);
       read-back = refl;
     }

@@ -50,3 +50,14 @@ readOut s tree out =
     (pick (not (known s)) (refusing 2 out)
     (pick (not (eqb (length tree) (treeLength (s .size)))) (refusing 3 out)
     (pick (ltb (length out) (length (fileOf s tree))) (refusing 15 out) (writing (fileOf s tree) out))))
+
+-- ---- what is returned, as two numbers
+-- 0 where a file was written, or the number of the refusal.
+unfoldable pub numberOf : ReadOut → ℕ
+numberOf (Written n) = 0
+numberOf (Refused n) = n
+
+-- The file's length, or 0.
+unfoldable pub lengthOf : ReadOut → ℕ
+lengthOf (Written n) = n
+lengthOf (Refused n) = 0

@@ -5,6 +5,7 @@ use Prim.Native.Nat.{ℕ, _≤_}
 use lib.ListN.{length}
 use lib.Seq.{length-take-le}
 use Rattle.io.specs.Counts.{Counts}
+use Rattle.readout_outcomes.specs.Fits.{file-within, bytes-are, written-numbers, refused-numbers}
 use native.Mathlib.Omega.{arith}
 use borrow.Author.Needs.{needs}
 use Rattle.readout_outcomes.proofs.read_into.Statement.{statement}
@@ -26,13 +27,29 @@ same-length : tie.Need-same-length
 same-length c = search needs
 
 returns : tie.Need-returns
-returns c = counts _ _ (c .before .before .before .before .before .read-out .ensures _ (c .before .length .given .1))
+returns c =
+    let a = c .before .before .before .before .before .before .before .before .before .args in
+    let r = c .before .before .before .before .before .read-out in
+    let n = c .before .length .given .0 .0 in
+    let e = c .before .length .given .1 in
+    let is = r .ensures in
+    let t = written-numbers (a .state) (a .tree .now) (a .out .now) (r .last .1 .1 .0) (r .result) is n e in
+    (counts n (r .last .1 .1 .0) (file-within (a .state) (a .tree .now) (a .out .now) (r .last .1 .1 .0) (r .result) is n e),
+    (t .0, t .1, bytes-are (a .state) (a .tree .now) (a .out .now) (r .last .1 .1 .0) (r .result) is))
 
 same-length-2 : tie.Need-same-length-2
 same-length-2 c = search needs
 
 returns-2 : tie.Need-returns-2
-returns-2 c = (omega arith, refl)
+returns-2 c =
+    let a = c .before .before .before .before .before .before .before .before .before .args in
+    let r = c .before .before .before .before .before .read-out in
+    let n = c .before .number .given .0 .0 in
+    let e = c .before .number .given .1 in
+    let is = r .ensures in
+    let t = refused-numbers (a .state) (a .tree .now) (a .out .now) (r .last .1 .1 .0) (r .result) is n e in
+    (counts 0 (r .last .1 .1 .0) (omega arith),
+    (t .0, t .1, bytes-are (a .state) (a .tree .now) (a .out .now) (r .last .1 .1 .0) (r .result) is))
 
 pub read-into-spec : {M : Type 1} → statement M
 read-into-spec =

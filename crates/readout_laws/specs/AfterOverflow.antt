@@ -26,10 +26,12 @@ use Rattle.heap_laws.specs.HeapTree.{Sorted}
 use Rattle.demand_laws.specs.OpenedRuns.{method-held}
 use Rattle.demand_laws.specs.UntilClosed.{overflows, closed-at, remains-of, before-bytes, of-left}
 use Rattle.demand_laws.specs.Proved.{demand2}
-use Rattle.readout_spec.specs.Taken.{pairOfEntry, entries, report}
-use Rattle.readout_spec.specs.ReadOut.{fileOf, writing, readOut}
+use Rattle.readout_spec.specs.Taken.{Omitted, pairOfEntry, entries, report}
+use Rattle.readout_spec.specs.ReadOut.{Left, fileOf, writing, readOut}
+use Rattle.readout_spec.specs.ReadBack.{readBack}
 use Rattle.readout_laws.specs.Whole.{whole-entries, whole-report}
 use Rattle.readout_laws.specs.InOrder.{plain-ascends, entries-sorted, in-order-once}
+use Rattle.readout_laws.specs.BackLaws.{ranged-read-back}
 use Rattle.readout_laws.specs.LeftWhole.{Readable, left-readable}
 
 -- ---- the statement
@@ -58,6 +60,10 @@ module _ (st : Structure) (k : ℕ) (tree : List ℕ) (bs : List Brought) where
     pub contents : Remains (Entries st plainBefore) (Entries st (plain (capacity k) op plainBefore .contents))
         (map pairOfEntry (entries (closed .state) (closed .tree)))
         (fetching (left st k tree bs .state) (left st k tree bs .tree) (b .ticket) (b .tape) (b .trace) st op)
+    -- So a reader of the buffer and the returned length has these entries, and no line of a report.
+    pub reads-back : (out : List ℕ) → length (fileOf (closed .state) (closed .tree)) ≤ length out
+        → readBack (length (fileOf (closed .state) (closed .tree))) (readOut (closed .state) (closed .tree) out .out)
+        ≡ record { entries = map pairOfEntry (entries (closed .state) (closed .tree)); report = [] }
 
 -- ---- the proof
 
@@ -67,6 +73,14 @@ written-out : (s : State) (tree : List ℕ) → s .mark ≡ 9 → Readable s tre
 unfolding readOut
 written-out s tree mark readable out room =
     rw (mark, readable .is-known, eq-eqb (length tree) (treeLength (s .size)) (readable .sized), le-ltb (length out) (length (fileOf s tree)) room)
+
+-- What was written is read back, and has no report.
+read-back-out : (s : State) (tree : List ℕ) → s .mark ≡ 9 → Readable s tree → (out : List ℕ) → length (fileOf s tree) ≤ length out
+    → readBack (length (fileOf s tree)) (readOut s tree out .out) ≡ record { entries = map pairOfEntry (entries s tree); report = [] }
+read-back-out s tree mark readable out room =
+    ranged-read-back s tree out (length (fileOf s tree)) (readable .bytes) (readable .ranged)
+    (ap (λ (l : Left). l .result) (written-out s tree mark readable out room))
+    ∙ ap (λ (os : List Omitted). record { entries = map pairOfEntry (entries s tree); report = os }) (whole-report s tree (readable .whole))
 
 module _ (st : Structure) (k : ℕ) (positive : 1 ≤ k) (small : k ≤ 8) (tree : List ℕ) (sized : length tree ≡ treeLength k)
     (bs : List Brought) (bytes : All (λ b. Bytes (b .ticket)) bs) where
@@ -121,6 +135,7 @@ module _ (st : Structure) (k : ℕ) (positive : 1 ≤ k) (small : k ≤ 8) (tree
           written = written-out s lent mark readable;
           nothing-left-out = whole-report s lent (readable .whole);
           contents = remains-of (entries-perm st _ all-entries) (entries-perm st _ all-entries) (by .contents);
+          reads-back = read-back-out s lent mark readable;
         }
 
 -- From a good opening, with any tickets of bytes, tapes and trace buffers.

@@ -181,6 +181,10 @@ offset-leads es os i before h =
     ∙ sym (List·getD-map (λ (e : Entry). e .value) es i none)
 
 -- ---- a store's file
+-- All that is asked of the numbers of a state: those of the waiting nodes are within their widths.
+abbrev pub WaitingRanged : State → Type 0
+WaitingRanged s = All (λ (p : Place). Ranged (p .node)) (used s)
+
 -- The nodes of a machine's store are within their widths: those read from its bytes, and those in its state.
 place-node : (k : ℕ) (p : Place) (n : Node) → placeReading k p ≡ Full n → p .node ≡ n
 place-node k p n e = go (placeGood k p) e
@@ -189,7 +193,7 @@ place-node k p n e = go (placeGood k p) e
     go true e = cc
     go false e = cc
 
-seen-ranged : (s : State) (tree : List ℕ) → Bytes tree → Widths s → length tree ≡ treeLength (s .size) → (p : ℕ) (n : Node)
+seen-ranged : (s : State) (tree : List ℕ) → Bytes tree → WaitingRanged s → length tree ≡ treeLength (s .size) → (p : ℕ) (n : Node)
     → List·Memᴰ (record { place = p; reading = Full n }) (slotsSeen s tree ++ waitingSeen s) → Ranged n
 seen-ranged s tree bs w l p n m = go (List·Memᴰ·append-cases (slotsSeen s tree) m)
   where
@@ -207,7 +211,7 @@ seen-ranged s tree bs w l p n m = go (List·Memᴰ·append-cases (slotsSeen s tr
         (sym (ap (λ (y : Seen). y .reading) (r .same)))
     go (inr t) =
         let r = waiting-in (s .size) 0 (used s) x t in
-        rw (place-node (s .size) (r .place) n (sym (ap (λ (y : Seen). y .reading) (r .same)))) at (w .nodes (r .place) (r .there))
+        rw (place-node (s .size) (r .place) n (sym (ap (λ (y : Seen). y .reading) (r .same)))) at (w (r .place) (r .there))
 
 -- An entry's numbers are its node's.
 ranged-entry : (n : Node) (e : Entry) (p : ℕ) → Ranged n → e ≡ record { place = p; key = n .key; value = n .value } → (e .key < 2 ^ 32) × (e .value < 2 ^ 64)
@@ -217,7 +221,7 @@ ranged-entry n e p h q =
     let v : e .value ≡ n .value = ap (λ (x : Entry). x .value) q in
     (omega arith, omega arith)
 
-entry-ranged : (s : State) (tree : List ℕ) → Bytes tree → Widths s → length tree ≡ treeLength (s .size) → (e : Entry)
+entry-ranged : (s : State) (tree : List ℕ) → Bytes tree → WaitingRanged s → length tree ≡ treeLength (s .size) → (e : Entry)
     → List·Memᴰ e (entries s tree) → (e .key < 2 ^ 32) × (e .value < 2 ^ 64)
 entry-ranged s tree bs w l e m =
     let f = full-seen s tree e (complete s tree .entries-good e m) in
@@ -235,7 +239,7 @@ known-small s e =
     (in-range-true (s .size) largestSize (b .0) .1, leb-true (s .count) places (b .1))
 
 -- What a machine's store is read out to fits the file.
-pub store-in-widths : (s : State) (tree : List ℕ) → Bytes tree → Widths s → known s ≡ true → length tree ≡ treeLength (s .size)
+pub store-in-widths : (s : State) (tree : List ℕ) → Bytes tree → WaitingRanged s → known s ≡ true → length tree ≡ treeLength (s .size)
     → InWidths (entries s tree) (report s tree)
 store-in-widths s tree bs w k l =
     let small = known-small s k in
@@ -252,10 +256,15 @@ store-in-widths s tree bs w k l =
     }
 
 -- What was written is read back from the buffer.
-pub read-back : (s : State) (tree out : List ℕ) (n : ℕ) → Bytes tree → Widths s → readOut s tree out .result ≡ Written n
+pub ranged-read-back : (s : State) (tree out : List ℕ) (n : ℕ) → Bytes tree → WaitingRanged s → readOut s tree out .result ≡ Written n
     → readBack n (readOut s tree out .out) ≡ record { entries = map pairOfEntry (entries s tree); report = report s tree }
-read-back s tree out n bs w e =
+ranged-read-back s tree out n bs w e =
     let r = was-written s tree out n e in
     rw (r .file-then-rest, r .file-length)
     (file-read-back (entries s tree) (report s tree) (drop (length (fileOf s tree)) out)
     (store-in-widths s tree bs w (r .is-known) (r .tree-length)))
+
+-- So it is where the store is one that a machine holds.
+pub read-back : (s : State) (tree out : List ℕ) (n : ℕ) → Bytes tree → Widths s → readOut s tree out .result ≡ Written n
+    → readBack n (readOut s tree out .out) ≡ record { entries = map pairOfEntry (entries s tree); report = report s tree }
+read-back s tree out n bs w = ranged-read-back s tree out n bs (w .nodes)

@@ -1,18 +1,21 @@
--- A call that meets overflow, on a store that keeps the method's memory, leaves a whole store that can be read out.
+-- A call that meets overflow, on a store that keeps the method's memory, leaves a whole store that can be read out and back.
 use Prim.Native.Nat.{ℕ, _≤_}
-use mathlib.Core.Path.{_≡_, subst, subst⁻¹}
+use mathlib.Core.Path.{_≡_, refl, subst, subst⁻¹}
 use mathlib.Core.Bool.{true}
-use mathlib.Core.List.{List, map, map-map}
+use mathlib.Core.List.{List, [], _∷_, map, map-map, List·Memᴰ·head, List·Memᴰ·tail}
 use native.Mathlib.Nat.{mod-lt}
 use native.Mathlib.Omega.{arith}
 use lib.ListN.{length}
 use lib.Pow.{pow-pos}
 use borrow.Author.Tests.{le-leb}
-use Rattle.list_spec.specs.Distinct.{Distinct}
+use Rattle.list_spec.specs.Distinct.{Distinct, All}
 use Rattle.list_spec.specs.Perm.{Perm}
 use Rattle.list_laws.specs.PermLaws.{perm-map}
-use Rattle.list_laws.specs.DistinctLaws.{distinct-perm}
+use Rattle.list_laws.specs.DistinctLaws.{all-nil, all-cons, distinct-perm}
+use Rattle.slot_spec.specs.LittleEndian.{Bytes}
 use Rattle.slot_spec.specs.Tree.{treeLength}
+use Rattle.slot_spec.specs.Slot.{Ranged}
+use Rattle.method_spec.specs.Node.{Node}
 use Rattle.method_spec.specs.Answer.{Structure}
 use Rattle.method_spec.specs.Plain.{Pair, Contents, plain}
 use Rattle.method_spec.specs.Map.{Outcome}
@@ -20,6 +23,7 @@ use Rattle.method_spec.specs.Rounds.{rounds}
 use Rattle.method_spec.specs.Call.{capacity, Memory, call}
 use Rattle.method_laws.specs.Represented.{Held, represents}
 use Rattle.leaf_spec.specs.Entries.{pairOf}
+use Rattle.leaf_spec.specs.Leaf.{ProperLeaf}
 use Rattle.bucket_call_spec.specs.Fetch.{Left, Round}
 use Rattle.bucket_call_spec.specs.Call.{Store, drawOf}
 use Rattle.bucket_call_spec.specs.Simulates.{Simulates, Remains, as-before, as-after}
@@ -30,24 +34,34 @@ use Rattle.simulation_laws.specs.Relation.{leftBy, memoryEntries}
 use Rattle.simulation_laws.specs.CallSim.{simulates-fits}
 use Rattle.simulation_laws.specs.HeldProper.{held-root}
 use Rattle.simulation_laws.specs.ProperCall.{call-held}
+use Rattle.state_spec.specs.declared.Place.{Place}
 use Rattle.state_spec.specs.declared.State.{State}
 use Rattle.state_spec.specs.Fit.{largestSize, places}
 use Rattle.fitness_laws.specs.FitState.{fit-state}
 use Rattle.call_spec.specs.Store.{Ended}
 use Rattle.demand_spec.specs.History.{Brought, callOn}
-use Rattle.demand_laws.specs.OpenStates.{stateOf, keptOf, used-places}
+use Rattle.demand_laws.specs.OpenStates.{stateOf, keptOf, holding, used-places}
 use Rattle.demand_laws.specs.FitKept.{good-places, structure-fits, in-range, state-fits}
 use Rattle.demand_laws.specs.ListSteps.{structure-back, leaving}
 use Rattle.demand_laws.specs.NoneLost.{pairs-left}
 use Rattle.demand_laws.specs.UntilClosed.{Overflows}
 use Rattle.readout_spec.specs.ReadOut.{known}
 use Rattle.readout_laws.specs.Whole.{WholeStore}
+use Rattle.readout_laws.specs.BackLaws.{WaitingRanged}
 
--- A whole store that a read-out knows, with a tree of its size.
+-- A whole store that a read-out knows, with a tree of its size, and numbers within their widths.
 pub record Readable (s : State) (tree : List ℕ) : Type 0 where
   pub whole : WholeStore s tree
   pub is-known : known s ≡ true
   pub sized : length tree ≡ treeLength (s .size)
+  pub bytes : Bytes tree
+  pub ranged : WaitingRanged s
+
+-- The places of proper nodes hold numbers within their widths.
+ranged-places : (k : ℕ) (ns : List (Node ℕ)) → All (ProperLeaf k) ns → All (λ (p : Place). Ranged (p .node)) (map holding ns)
+ranged-places k [] h = all-nil (λ (p : Place). Ranged (p .node))
+ranged-places k (n ∷ ns) h =
+    all-cons {P = λ (p : Place). Ranged (p .node)} (h n (List·Memᴰ·head refl) .0) (ranged-places k ns (λ m i. h m (List·Memᴰ·tail i)))
 
 -- No key is twice among the pairs of a memory, in any order.
 memory-distinct : (st : Structure) (k : ℕ) (t : Contents st) (m : Memory ℕ) → Held 0 st (capacity k) t m → {ps : List Pair}
@@ -107,4 +121,6 @@ module _ (st : Structure) (k : ℕ) (positive : 1 ≤ k) (small : k ≤ 8) (s : 
           is-known =
               rw (structure-fits st, in-range k largestSize positive small, le-leb (length (l .waiting)) places (keeps-room small keeps));
           sized = keeps .is-tree .sized;
+          bytes = keeps .is-tree .bytes;
+          ranged = rw (used-places st k (leftBy l)) (ranged-places k (l .waiting) (keeps .proper));
         })

@@ -32,7 +32,13 @@ fn survey_all(size: usize, tree: &[u8], waiting: &[u8], keys: &mut [u64], marks:
 {
     let slots = tree.len() / SLOT_LENGTH;
     survey(size, true, tree, &mut keys[..slots], &mut marks[..slots]);
-    survey(size, false, waiting, &mut keys[slots..], &mut marks[slots..]);
+    survey(
+        size,
+        false,
+        waiting,
+        &mut keys[slots..],
+        &mut marks[slots..],
+    );
 }
 
 // The good items, the waiting ones first, are put at the start of `order`; how many they are.

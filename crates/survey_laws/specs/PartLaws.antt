@@ -24,7 +24,7 @@ rest-length : (row a : List ℕ) (h : ℕ) → h ≤ length row → length a ≡
 rest-length row a h within sized =
     let l : length (a ++ drop h row) ≡ length row = length-append a (drop h row) ∙ rw (length-drop h row) (omega (arith, sized)) in
     rw (l, drop-at a (drop h row) h sized)
-    (length-take-le (length row - h) (drop h row) (rw (length-drop h row) (omega arith)) )
+    (length-take-le (length row - h) (drop h row) (rw (length-drop h row) (omega arith)))
 
 module _ (tree waiting row a : List ℕ) (n : length row ≡ slotsIn tree + slotsIn waiting) (e : a ≡ keysFrom tree (length (take (slotsIn tree) row)) 0) where
   abbrev S : ℕ
@@ -97,8 +97,21 @@ put-both row xs ys w e fits =
     let count : length rest ≡ length row - n = length-drop n row in
     let l : length (xs ++ rest) - n ≡ length rest = rw (length-append xs rest) (omega arith) in
     let both : length (xs ++ ys) ≡ n + length ys = length-append xs ys in
-    rw (e, put-whole row xs (omega arith), l, take-append-seam xs rest, drop-append-seam xs rest, take-length rest, drop-length rest,
-    put-whole rest ys (omega (arith, count)), append-nil, put-whole row (xs ++ ys) (omega (arith, both)), both, append-assoc, drop-drop (length ys) n row)
+    rw (
+      e,
+      put-whole row xs (omega arith),
+      l,
+      take-append-seam xs rest,
+      drop-append-seam xs rest,
+      take-length rest,
+      drop-length rest,
+      put-whole rest ys (omega (arith, count)),
+      append-nil,
+      put-whole row (xs ++ ys) (omega (arith, both)),
+      both,
+      append-assoc,
+      drop-drop (length ys) n row,
+    )
 
 -- The good items of the waiting places, and then those of the tree's slots.
 module _ (marks order a : List ℕ) (slots w : ℕ) (split : slots ≤ length marks) (fits : length marks ≤ length order) where

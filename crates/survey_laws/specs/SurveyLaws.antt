@@ -302,9 +302,11 @@ module _ (k : ℕ) (tree : List ℕ) (sized : length tree ≡ treeLength k) (ps 
       let bytes : slotBytesAt waiting i ≡ placeBytes q = ap (λ (x : List ℕ). slotBytesAt x i) e ∙ place-at before i q qs b in
       let n : S + suc i ≡ suc (S + i) = omega arith in
       next {i = S + i} (waitingPlace k i) (placeReading k q) (markAt false k waiting i) (omega arith)
-      (rw (waiting-key i within ∙ ap (λ (bs : List ℕ). fieldsIn bs .key) bytes,
-      ap (λ (bs : List ℕ). fieldsIn bs .value) (waiting-bytes i within ∙ bytes),
-      ap (λ (bs : List ℕ). markOf false (readSlot k 1 bs)) bytes)
+      (rw (
+        waiting-key i within ∙ ap (λ (bs : List ℕ). fieldsIn bs .key) bytes,
+        ap (λ (bs : List ℕ). fieldsIn bs .value) (waiting-bytes i within ∙ bytes),
+        ap (λ (bs : List ℕ). markOf false (readSlot k 1 bs)) bytes,
+      )
       (place-shows k q (r q (List·Memᴰ·head refl))))
       (subst (λ (x : ℕ). Rows entry x (waitingFrom k (suc i) qs) (marksFrom false k waiting (length qs) (suc i))) n
       (waiting-rows (before ++ placeBytes q) (suc i) qs (e ∙ cons-bytes before q qs)

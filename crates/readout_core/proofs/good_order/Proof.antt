@@ -37,17 +37,22 @@ part-good-items-end-2 c = search needs
 good-items-requires-2 : tie.Need-good-items-requires-2
 good-items-requires-2 c κs =
     let b = c .before .before .before .before .before .before .before .before .before in
-    let g = c .before .before .before .before .good-items in
-    (order-room (b .args .marks .now) (b .args .order .now) (g .last .1 .1 .0) (b .args .slots) (g .result) (b .pre .0) (b .pre .1) (g .ensures .0) (g .ensures .2),
-    omega (arith, length-take-le (b .args .slots) (b .args .marks .now) (b .pre .0), b .pre .2))
+    let g = c .before .before .before .before .good-items in (
+      order-room (b .args .marks .now) (b .args .order .now) (g .last .1 .1 .0) (b .args .slots) (g .result) (b .pre .0) (b .pre .1) (g .ensures .0) (g .ensures .2),
+      omega (arith, length-take-le (b .args .slots) (b .args .marks .now) (b .pre .0), b .pre .2),
+    )
 
 add-result : tie.Need-add-result
 add-result c =
     let b = c .before .before .before .before .before .before .before .before .before .before .before .before in
     let g = c .before .before .before .before .before .before .before .good-items in
     let h = c .before .before .good-items2 in
-    omega (arith, order-bound (b .args .marks .now) (b .args .order .now) (g .last .1 .1 .0) (b .args .slots) (g .result) (b .pre .0) (b .pre .1) (g .ensures .0) (g .ensures .2)
-    (h .last .1 .1 .0) (h .result) (g .ensures .1) (h .ensures .0) (h .ensures .1) (h .ensures .2), b .pre .2)
+    omega (
+      arith,
+      order-bound (b .args .marks .now) (b .args .order .now) (g .last .1 .1 .0) (b .args .slots) (g .result) (b .pre .0) (b .pre .1) (g .ensures .0) (g .ensures .2)
+          (h .last .1 .1 .0) (h .result) (g .ensures .1) (h .ensures .0) (h .ensures .1) (h .ensures .2),
+      b .pre .2,
+    )
 
 same-length : tie.Need-same-length
 same-length c = search needs
@@ -61,10 +66,11 @@ returns c =
     let o = b .args .order .now in
     let s = b .args .slots in
     let x = g .last .1 .1 .0 in
-    let y = h .last .1 .1 .0 in
-    (order-bound m o x s (g .result) (b .pre .0) (b .pre .1) (g .ensures .0) (g .ensures .2) y (h .result) (g .ensures .1) (h .ensures .0) (h .ensures .1) (h .ensures .2),
-    order-count m o x s (g .result) (b .pre .0) (b .pre .1) (g .ensures .0) (g .ensures .2) y (h .result) (g .ensures .1) (h .ensures .0) (h .ensures .1) (h .ensures .2),
-    order-put m o x s (g .result) (b .pre .0) (b .pre .1) (g .ensures .0) (g .ensures .2) y (h .result) (g .ensures .1) (h .ensures .0) (h .ensures .1) (h .ensures .2))
+    let y = h .last .1 .1 .0 in (
+      order-bound m o x s (g .result) (b .pre .0) (b .pre .1) (g .ensures .0) (g .ensures .2) y (h .result) (g .ensures .1) (h .ensures .0) (h .ensures .1) (h .ensures .2),
+      order-count m o x s (g .result) (b .pre .0) (b .pre .1) (g .ensures .0) (g .ensures .2) y (h .result) (g .ensures .1) (h .ensures .0) (h .ensures .1) (h .ensures .2),
+      order-put m o x s (g .result) (b .pre .0) (b .pre .1) (g .ensures .0) (g .ensures .2) y (h .result) (g .ensures .1) (h .ensures .0) (h .ensures .1) (h .ensures .2),
+    )
 
 pub good-order-spec : {M : Type 1} → statement M
 good-order-spec =

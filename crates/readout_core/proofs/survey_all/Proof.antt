@@ -66,7 +66,7 @@ returns c =
     let keys = first .last .1 .1 .1 .0 in (
       keys-filled (a .tree .now) (a .waiting .now) (a .keys .now) keys (b .pre .3) (first .ensures .0) (second .last .1 .1 .1 .0) (second .ensures .0),
       marks-filled (a .tree .now) (a .waiting .now) (a .keys .now) keys (b .pre .3) (first .ensures .0) (a .size) (a .marks .now)
-      (first .last .1 .1 .1 .1 .0) (second .last .1 .1 .1 .1 .0) (b .pre .4) (first .ensures .1) (second .ensures .1),
+          (first .last .1 .1 .1 .1 .0) (second .last .1 .1 .1 .1 .0) (b .pre .4) (first .ensures .1) (second .ensures .1),
     )
 
 pub survey-all-spec : {M : Type 1} → statement M

@@ -43,11 +43,12 @@ returns : tie.Need-returns
 returns c =
     let b = c .before .before .before .before .before .before .before .before .before .before .before .before .before .before .before .before .before .before in
     let s = c .before .before .before .before .before .before .before .before .before .before .before .before .sort in
-    let f = c .before .before .before .before .before .before .before .first-of-each in
-    (first-bound (b .args .keys .now) (b .args .order .now) (s .last .1 .0) (b .args .taken .now) (f .last .1 .1 .0) (f .result) (b .pre .1) (s .ensures) (f .ensures .0) (f .ensures .1) (f .ensures .2),
-    first-count (b .args .keys .now) (b .args .order .now) (s .last .1 .0) (b .args .taken .now) (f .last .1 .1 .0) (f .result) (b .pre .1) (s .ensures) (f .ensures .0) (f .ensures .1) (f .ensures .2),
-    first-put (b .args .keys .now) (b .args .order .now) (s .last .1 .0) (b .args .taken .now) (f .last .1 .1 .0) (f .result) (b .pre .1) (s .ensures) (f .ensures .0) (f .ensures .1) (f .ensures .2),
-    c .before .before .clear-marks .ensures ∙ ap (λ (is : List ℕ). cleared is (b .args .marks .now)) (first-taken (b .args .keys .now) (b .args .order .now) (s .last .1 .0) (b .args .taken .now) (f .last .1 .1 .0) (f .result) (b .pre .1) (s .ensures) (f .ensures .0) (f .ensures .1) (f .ensures .2)))
+    let f = c .before .before .before .before .before .before .before .first-of-each in (
+      first-bound (b .args .keys .now) (b .args .order .now) (s .last .1 .0) (b .args .taken .now) (f .last .1 .1 .0) (f .result) (b .pre .1) (s .ensures) (f .ensures .0) (f .ensures .1) (f .ensures .2),
+      first-count (b .args .keys .now) (b .args .order .now) (s .last .1 .0) (b .args .taken .now) (f .last .1 .1 .0) (f .result) (b .pre .1) (s .ensures) (f .ensures .0) (f .ensures .1) (f .ensures .2),
+      first-put (b .args .keys .now) (b .args .order .now) (s .last .1 .0) (b .args .taken .now) (f .last .1 .1 .0) (f .result) (b .pre .1) (s .ensures) (f .ensures .0) (f .ensures .1) (f .ensures .2),
+      c .before .before .clear-marks .ensures ∙ ap (λ (is : List ℕ). cleared is (b .args .marks .now)) (first-taken (b .args .keys .now) (b .args .order .now) (s .last .1 .0) (b .args .taken .now) (f .last .1 .1 .0) (f .result) (b .pre .1) (s .ensures) (f .ensures .0) (f .ensures .1) (f .ensures .2)),
+    )
 
 pub take-sorted-spec : {M : Type 1} → statement M
 take-sorted-spec =

@@ -33,9 +33,10 @@ returns c =
     let n = c .before .length .given .0 .0 in
     let e = c .before .length .given .1 in
     let is = r .ensures in
-    let t = written-numbers (a .state) (a .tree .now) (a .out .now) (r .last .1 .1 .0) (r .result) is n e in
-    (counts n (r .last .1 .1 .0) (file-within (a .state) (a .tree .now) (a .out .now) (r .last .1 .1 .0) (r .result) is n e),
-    (t .0, t .1, bytes-are (a .state) (a .tree .now) (a .out .now) (r .last .1 .1 .0) (r .result) is))
+    let t = written-numbers (a .state) (a .tree .now) (a .out .now) (r .last .1 .1 .0) (r .result) is n e in (
+      counts n (r .last .1 .1 .0) (file-within (a .state) (a .tree .now) (a .out .now) (r .last .1 .1 .0) (r .result) is n e),
+      (t .0, t .1, bytes-are (a .state) (a .tree .now) (a .out .now) (r .last .1 .1 .0) (r .result) is),
+    )
 
 same-length-2 : tie.Need-same-length-2
 same-length-2 c = search needs
@@ -47,9 +48,10 @@ returns-2 c =
     let n = c .before .number .given .0 .0 in
     let e = c .before .number .given .1 in
     let is = r .ensures in
-    let t = refused-numbers (a .state) (a .tree .now) (a .out .now) (r .last .1 .1 .0) (r .result) is n e in
-    (counts 0 (r .last .1 .1 .0) (omega arith),
-    (t .0, t .1, bytes-are (a .state) (a .tree .now) (a .out .now) (r .last .1 .1 .0) (r .result) is))
+    let t = refused-numbers (a .state) (a .tree .now) (a .out .now) (r .last .1 .1 .0) (r .result) is n e in (
+      counts 0 (r .last .1 .1 .0) (omega arith),
+      (t .0, t .1, bytes-are (a .state) (a .tree .now) (a .out .now) (r .last .1 .1 .0) (r .result) is),
+    )
 
 pub read-into-spec : {M : Type 1} → statement M
 read-into-spec =

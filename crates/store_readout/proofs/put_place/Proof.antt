@@ -33,10 +33,11 @@ same-length c = search needs
 returns : tie.Need-returns
 returns c =
     let b = c .before .before .before .before .before .before .before .before in
-    let h = c .before .before .before .before .before .held-slot in
-    (h .ensures .0,
-    c .before .before .store .ensures ∙ put-exact (b .args .part .now) (slotBytes (h .result)) (slot-length (h .result) ∙ sym (b .pre))
-    ∙ h .ensures .1 ∙ rw (c .before .before .before .before .if1 .taken))
+    let h = c .before .before .before .before .before .held-slot in (
+      h .ensures .0,
+      c .before .before .store .ensures ∙ put-exact (b .args .part .now) (slotBytes (h .result)) (slot-length (h .result) ∙ sym (b .pre))
+          ∙ h .ensures .1 ∙ rw (c .before .before .before .before .if1 .taken),
+    )
 
 store-requires-2 : tie.Need-store-requires-2
 store-requires-2 c κs = search needs
@@ -46,10 +47,11 @@ same-length-2 c = search needs
 
 returns-2 : tie.Need-returns-2
 returns-2 c =
-    let b = c .before .before .before .before .before .before .before .before in
-    (c .before .before .before .before .before .held-slot .ensures .0,
-    c .before .before .store2 .ensures ∙ put-exact (b .args .part .now) (slotBytes zeroSlot) (slot-length zeroSlot ∙ sym (b .pre))
-    ∙ zero-slot ∙ rw (c .before .before .before .before .if1 .left))
+    let b = c .before .before .before .before .before .before .before .before in (
+      c .before .before .before .before .before .held-slot .ensures .0,
+      c .before .before .store2 .ensures ∙ put-exact (b .args .part .now) (slotBytes zeroSlot) (slot-length zeroSlot ∙ sym (b .pre))
+          ∙ zero-slot ∙ rw (c .before .before .before .before .if1 .left),
+    )
 
 pub put-place-spec : {M : Type 1} → statement M
 put-place-spec =

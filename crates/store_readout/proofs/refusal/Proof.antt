@@ -23,8 +23,10 @@ is-known-requires c κs = search needs
 returns-2 : tie.Need-returns-2
 unfolding refusalOf
 returns-2 c =
-    rw (sym (c .before .before .before .closed-mark .ensures) ∙ not-false (c .before .before .before .closed-mark .result) (c .before .before .if1 .left),
-    sym (c .before .is-known .ensures) ∙ not-true (c .before .is-known .result) (c .if2 .taken))
+    rw (
+      sym (c .before .before .before .closed-mark .ensures) ∙ not-false (c .before .before .before .closed-mark .result) (c .before .before .if1 .left),
+      sym (c .before .is-known .ensures) ∙ not-true (c .before .is-known .result) (c .if2 .taken),
+    )
 
 tree-length-requires : tie.Need-tree-length-requires
 tree-length-requires c κs =
@@ -36,17 +38,21 @@ returns-3 : tie.Need-returns-3
 unfolding refusalOf
 returns-3 c =
     let a = c .before .before .before .before .before .before .args in
-    rw (sym (c .before .before .before .before .before .closed-mark .ensures) ∙ not-false (c .before .before .before .before .before .closed-mark .result) (c .before .before .before .before .if1 .left),
-    sym (c .before .before .before .is-known .ensures) ∙ not-false (c .before .before .before .is-known .result) (c .before .before .if2 .left),
-    ne-eqb (a .length) (treeLength (a .size)) (λ e. c .if3 .taken (e ∙ sym (c .before .tree-length .ensures))))
+    rw (
+      sym (c .before .before .before .before .before .closed-mark .ensures) ∙ not-false (c .before .before .before .before .before .closed-mark .result) (c .before .before .before .before .if1 .left),
+      sym (c .before .before .before .is-known .ensures) ∙ not-false (c .before .before .before .is-known .result) (c .before .before .if2 .left),
+      ne-eqb (a .length) (treeLength (a .size)) (λ e. c .if3 .taken (e ∙ sym (c .before .tree-length .ensures))),
+    )
 
 returns-4 : tie.Need-returns-4
 unfolding refusalOf
 returns-4 c =
     let a = c .before .before .before .before .before .before .args in
-    rw (sym (c .before .before .before .before .before .closed-mark .ensures) ∙ not-false (c .before .before .before .before .before .closed-mark .result) (c .before .before .before .before .if1 .left),
-    sym (c .before .before .before .is-known .ensures) ∙ not-false (c .before .before .before .is-known .result) (c .before .before .if2 .left),
-    eq-eqb (a .length) (treeLength (a .size)) (c .if3 .left ∙ c .before .tree-length .ensures))
+    rw (
+      sym (c .before .before .before .before .before .closed-mark .ensures) ∙ not-false (c .before .before .before .before .before .closed-mark .result) (c .before .before .before .before .if1 .left),
+      sym (c .before .before .before .is-known .ensures) ∙ not-false (c .before .before .before .is-known .result) (c .before .before .if2 .left),
+      eq-eqb (a .length) (treeLength (a .size)) (c .if3 .left ∙ c .before .tree-length .ensures),
+    )
 
 pub refusal-spec : {M : Type 1} → statement M
 refusal-spec =

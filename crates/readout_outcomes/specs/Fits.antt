@@ -1,11 +1,11 @@
 -- A file that was written lies within the output buffer, and what is returned as two numbers: what the definition of reading out says of them.
 use mathlib.Core.Path.{_≡_, refl, sym, _∙_, ap}
 use mathlib.Core.Bool.{Bool, true, false, not}
-use mathlib.Core.List.{List, _++_}
+use mathlib.Core.List.{List}
 use Prim.Native.Nat.{ℕ, _≤_}
 use native.Mathlib.Omega.{arith}
 use lib.Dec.{eqb, ltb}
-use lib.ListN.{length, drop, length-append}
+use lib.ListN.{length, length-append}
 use Rattle.slot_spec.specs.Tree.{treeLength}
 use Rattle.state_spec.specs.declared.State.{State}
 use Rattle.readout_spec.specs.declared.ReadOut.{ReadOut}

@@ -1,14 +1,14 @@
 -- A worked store of size 1, read out: computed by hand from document 02's words.
 use mathlib.Core.Path.{_≡_, refl}
 use Prim.Native.Nat.{ℕ, _*_}
-use mathlib.Core.Bool.{Bool, true, false}
+use mathlib.Core.Bool.{true}
 use mathlib.Core.List.{List, [], _∷_, _++_}
-use lib.ListN.{length, take, drop, replicate}
+use lib.ListN.{drop, replicate}
 use Rattle.list_spec.specs.Sorting.{insertBy, sortBy}
 use Rattle.slot_spec.specs.LittleEndian.{value, bytes}
 use Rattle.slot_spec.specs.Layout.{fields, pack}
 use Rattle.slot_spec.specs.Tree.{halvings, among}
-use Rattle.slot_spec.specs.Slot.{noLink, noNode, fieldsIn, fieldsOf, nodeOf, encode, allZero, bad, readSlot, wellFormed}
+use Rattle.slot_spec.specs.Slot.{noLink, fieldsIn, fieldsOf, nodeOf, encode, allZero, bad, readSlot, wellFormed}
 use Rattle.slot_spec.specs.declared.Node.{Node}
 use Rattle.state_spec.specs.declared.Place.{Place}
 use Rattle.state_spec.specs.declared.State.{State}

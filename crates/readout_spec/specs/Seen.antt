@@ -6,7 +6,7 @@ use Rattle.list_spec.specs.Choice.{pick}
 use Rattle.slot_spec.specs.Tree.{slotLength, treeLength}
 use Rattle.slot_spec.specs.Slot.{readSlot}
 use Rattle.slot_spec.specs.declared.Reading.{Reading}
-use Rattle.slot_spec.specs.declared.Reading.the-variants.{Full, Empty, Bad}
+use Rattle.slot_spec.specs.declared.Reading.the-variants.{Full, Bad}
 use Rattle.state_spec.specs.declared.Place.{Place}
 use Rattle.state_spec.specs.declared.State.{State}
 use Rattle.state_spec.specs.Fit.{placeGood, used, places, largestSize}

@@ -1,5 +1,5 @@
 -- What a refusal's number says of the checks, and that a store that none refuses is read out from its slots.
-use mathlib.Core.Path.{_≡_, refl, sym, _∙_, ap}
+use mathlib.Core.Path.{_≡_, refl}
 use mathlib.Core.Bool.{Bool, true, false, not, _&&_, and-eq-true-iff}
 use mathlib.Core.List.{List}
 use Prim.Native.Nat.{ℕ, _≤_}
@@ -11,7 +11,7 @@ use Rattle.list_spec.specs.Choice.{pick}
 use Rattle.slot_spec.specs.Tree.{treeLength}
 use Rattle.state_spec.specs.declared.State.{State}
 use Rattle.state_spec.specs.Fit.{inRange, largestSize, places}
-use Rattle.readout_spec.specs.ReadOut.{closedMark, known, refusing, writing, readOut, fileOf}
+use Rattle.readout_spec.specs.ReadOut.{closedMark, known, refusing, readOut, fileOf}
 use Rattle.survey_laws.specs.Items.{fitting}
 use Rattle.store_readout.specs.Refusal.{knownNumbers, refusalOf}
 

@@ -8,7 +8,7 @@ use slot_words::load;
 use slots::reading;
 ghost use mathlib.Core.Path.{_≡_};
 ghost use Prim.Native.Nat.{_+_, _*_, _≤_};
-ghost use lib.ListN.{length, getD};
+ghost use lib.ListN.{length};
 ghost use lib.Seq.{sets};
 ghost use Rattle.slot_spec.specs.Tree.{slotLength};
 ghost use Rattle.readout_spec.specs.Seen.{mostItems};

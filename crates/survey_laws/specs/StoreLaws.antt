@@ -1,11 +1,11 @@
 -- A store's file is that of its tree and of the slots of its waiting places.
-use mathlib.Core.Path.{_≡_, refl, sym, _∙_, ap, ap₂}
+use mathlib.Core.Path.{_≡_, sym, _∙_, ap, ap₂}
 use mathlib.Core.Bool.{true, false}
 use mathlib.Core.List.{List, _++_, map}
 use Prim.Native.Nat.{ℕ, _+_, _*_, _^_, _≤_}
 use native.Mathlib.Omega.{arith}
 use lib.ListN.{length}
-use lib.Pow.{pow-mono, pow-pos}
+use lib.Pow.{pow-mono}
 use lib.Seq.{take-at, drop-at}
 use Rattle.list_spec.specs.Distinct.{All}
 use Rattle.slot_spec.specs.Tree.{slotLength, treeLength}
@@ -17,7 +17,7 @@ use Rattle.readout_spec.specs.Seen.{slotCount, mostItems, slotsSeen, waitingSee
 use Rattle.readout_spec.specs.Taken.{Entry, entries, report, omittedIn}
 use Rattle.readout_spec.specs.File.{file}
 use Rattle.readout_spec.specs.ReadOut.{fileOf}
-use Rattle.survey_laws.specs.Items.{slotsIn, placesBytes, markAt, keysFrom, marksFrom, goodFrom, goodOrder, firstSorted, takenItems, cleared, entryFor, omittedBy, allKeys, allMarks, itemsFile, slotsFile}
+use Rattle.survey_laws.specs.Items.{slotsIn, placesBytes, markAt, keysFrom, marksFrom, goodOrder, firstSorted, takenItems, cleared, entryFor, omittedBy, allKeys, allMarks, itemsFile, slotsFile}
 use Rattle.survey_laws.specs.WaitingSlots.{places-length}
 use Rattle.survey_laws.specs.SurveyLaws.{row-length, keys, marks, taken, survey-entries, survey-report}
 

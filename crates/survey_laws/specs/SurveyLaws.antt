@@ -2,9 +2,9 @@
 use mathlib.Core.Path.{_≡_, refl, sym, _∙_, ap, ap₂, subst}
 use mathlib.Core.Bool.{Bool, true, false, _||_}
 use mathlib.Core.List.{List, [], _∷_, _++_, map, map-append, map-map, append-nil, append-assoc, List·Memᴰ, List·Memᴰ·head, List·Memᴰ·tail}
-use Prim.Native.Nat.{ℕ, zero, suc, _+_, _-_, _*_, _/_, _^_, _≤_, _<_}
+use Prim.Native.Nat.{ℕ, zero, suc, _+_, _-_, _*_, _<_}
 use native.Mathlib.Omega.{arith}
-use lib.Dec.{eqb, ltb}
+use lib.Dec.{eqb}
 use lib.ListN.{length, getD, set, length-append}
 use lib.Seq.{getD-append-add, getD-append-seam, append-snoc}
 use borrow.Author.Tests.{eqb-true, eqb-false, eq-eqb, ne-eqb, lt-ltb, le-ltb}
@@ -20,7 +20,7 @@ use Rattle.slot_laws.specs.TreeLaws.{among-member}
 use Rattle.state_spec.specs.declared.Place.{Place}
 use Rattle.readout_spec.specs.Seen.{Seen, slotPlace, slotCount, slotBytesAt, slotsFrom, bucketOf, waitingPlace, waitingFrom, placeReading}
 use Rattle.readout_spec.specs.Taken.{Entry, goodAt, goodIn, firsts, Omitted, isBad, isRepeated, omittedAt, omittedIn}
-use Rattle.survey_laws.specs.Items.{keyIn, slotsIn, itemBytes, valueIn, placeBytes, placesBytes, markAt, markOf, rowFrom, marksFrom, keyAt, keysFrom, goodFrom, headsAfter, heads, cleared, entryFor, omittedBy}
+use Rattle.survey_laws.specs.Items.{keyIn, slotsIn, itemBytes, placeBytes, placesBytes, markAt, markOf, rowFrom, marksFrom, keyAt, keysFrom, goodFrom, headsAfter, heads, cleared, entryFor, omittedBy}
 use Rattle.survey_laws.specs.WaitingSlots.{Shows, good, empty, bad, place-shows, slot-shows, place-length, places-length, place-at}
 use Rattle.survey_laws.specs.HeadsLaws.{heads-sorted}
 

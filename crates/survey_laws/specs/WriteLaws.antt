@@ -1,5 +1,5 @@
 -- A file written into an output buffer, part after part.
-use mathlib.Core.Path.{_≡_, refl, sym, _∙_, ap, ap₂}
+use mathlib.Core.Path.{_≡_, refl, sym, _∙_, ap}
 use mathlib.Core.List.{List, _++_, map, map-map, append-assoc}
 use Prim.Native.Nat.{ℕ, _+_, _-_, _*_, _≤_, _<_}
 use native.Mathlib.Omega.{arith}
@@ -9,7 +9,7 @@ use borrow.Author.Tests.{lt-ltb, le-ltb}
 use Rattle.slot_spec.specs.LittleEndian.{bytes}
 use Rattle.slot_laws.specs.LittleEndianLaws.{length-bytes}
 use Rattle.readout_spec.specs.Taken.{Entry}
-use Rattle.readout_spec.specs.File.{countWidth, valueWidth, reportWidth, index, valuesPart, reportPart, valuesStart, reportStart, file}
+use Rattle.readout_spec.specs.File.{countWidth, reportWidth, index, valuesPart, reportPart, valuesStart, reportStart, file}
 use Rattle.readout_spec.specs.ReadOut.{leaving, refusing}
 use Rattle.readout_spec.specs.declared.ReadOut.the-variants.{Written}
 use Rattle.survey_laws.specs.Items.{keyIn, slotsIn, valueIn, takenItems, cleared, entryFor, omittedBy, allKeys, allMarks, itemsFile, slotsFile, fitting}

@@ -4,7 +4,7 @@ use mathlib.Core.List.{List}
 use Prim.Native.Nat.{ℕ, _≤_}
 use lib.ListN.{length}
 use Rattle.survey_laws.specs.Items.{slotsIn, takenItems, fitting}
-use Rattle.survey_laws.specs.PartLaws.{put-taken, put-count, put-room}
+use Rattle.survey_laws.specs.PartLaws.{put-taken, put-count}
 use Rattle.survey_laws.specs.WriteLaws.{slots-file}
 use borrow.Author.Needs.{needs}
 use native.Mathlib.Omega.{arith}

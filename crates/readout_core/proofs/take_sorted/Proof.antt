@@ -2,12 +2,10 @@
 use mathlib.Core.Path.{sym, _∙_, ap}
 use mathlib.Core.List.{List}
 use Prim.Native.Nat.{ℕ}
-use lib.ListN.{take}
 use lib.Seq.{length-take-le}
 use Rattle.survey_laws.specs.Items.{cleared}
 use Rattle.survey_laws.specs.PartLaws.{first-bound, first-count, first-put, first-room, first-taken}
 use borrow.Author.Needs.{needs}
-use native.Mathlib.Omega.{arith}
 use Rattle.readout_core.proofs.take_sorted.Statement.{statement}
 use Rattle.readout_core.proofs.take_sorted.Tie as tie
 

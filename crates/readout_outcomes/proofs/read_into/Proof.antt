@@ -1,5 +1,5 @@
 -- `readout_outcomes::read_into` meets its contract: a file that was written lies within the output buffer.
-use mathlib.Core.Path.{refl, sym}
+use mathlib.Core.Path.{sym}
 use mathlib.Core.List.{List}
 use Prim.Native.Nat.{ℕ, _≤_}
 use lib.ListN.{length}

@@ -1,8 +1,6 @@
 -- `store_readout::put_place` meets its contract.
 use mathlib.Core.Path.{_≡_, refl, sym, _∙_}
-use mathlib.Core.List.{List}
-use Prim.Native.Nat.{ℕ}
-use lib.ListN.{length, replicate}
+use lib.ListN.{replicate}
 use Rattle.slot_spec.specs.Tree.{slotLength}
 use Rattle.slot_spec.specs.LittleEndian.{bytes}
 use Rattle.slot_spec.specs.Slot.{slotBytes}
@@ -10,7 +8,6 @@ use Rattle.slot_spec.specs.declared.Slot.{Slot}
 use Rattle.slot_laws.specs.SlotLaws.{slot-length}
 use Rattle.survey_laws.specs.PartLaws.{put-exact}
 use borrow.Author.Needs.{needs}
-use native.Mathlib.Omega.{arith}
 use Rattle.store_readout.proofs.put_place.Statement.{statement}
 use Rattle.store_readout.proofs.put_place.Tie as tie
 

@@ -1,16 +1,15 @@
 -- `store_readout::read_out` meets its contract. The invariant: the first i waiting places are put.
-use mathlib.Core.Path.{_≡_, refl, sym, _∙_, ap}
+use mathlib.Core.Path.{_≡_, sym, _∙_, ap}
 use mathlib.Core.List.{List}
-use Prim.Native.Nat.{ℕ, _+_, _-_, _*_, _≤_}
+use Prim.Native.Nat.{ℕ, _-_, _*_, _≤_}
 use lib.ListN.{length, replicate, length-replicate}
 use lib.Seq.{length-take-le}
 use mathlib.Core.Bool.{true}
-use Rattle.state_spec.specs.Fit.{largestSize, places, used}
+use Rattle.state_spec.specs.Fit.{largestSize, places}
 use Rattle.store_readout.specs.Refusal.{knownNumbers}
 use Rattle.slot_spec.specs.Tree.{slotLength, treeLength}
 use Rattle.readout_spec.specs.ReadOut.{refusing, readOut, fileOf}
-use Rattle.survey_laws.specs.Items.{slotsIn, slotsFile, fitting, placesBytes}
-use Rattle.survey_laws.specs.WaitingSlots.{places-length}
+use Rattle.survey_laws.specs.Items.{slotsFile, fitting}
 use Rattle.survey_laws.specs.StoreLaws.{tree-slots, few-items, store-file}
 use Rattle.store_readout.specs.RefusalLaws.{known-size, refused, passed}
 use Rattle.store_readout.specs.PlacesLaws.{PutSo, put-none, put-more, put-all, put-ranged}

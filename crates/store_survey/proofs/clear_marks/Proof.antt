@@ -1,7 +1,7 @@
 -- `store_survey::clear_marks` meets its contract. The invariant: the marks of the first i items are cleared, those of the others are to be.
 use mathlib.Core.Path.{_≡_, refl, sym, _∙_}
 use mathlib.Core.Logic.{⊎-elim}
-use Prim.Native.Nat.{_+_, _-_, _≤_}
+use Prim.Native.Nat.{_-_, _≤_}
 use lib.ListN.{length, drop, length-set}
 use Rattle.survey_laws.specs.Items.{cleared}
 use Rattle.survey_laws.specs.ItemLaws.{clear-next, clear-past, clear-end}

@@ -4,7 +4,7 @@ use mathlib.Core.Logic.{⊎-elim}
 use Prim.Native.Nat.{_+_, _-_, _≤_}
 use lib.ListN.{length, getD, drop, length-set}
 use lib.Seq.{sets}
-use Rattle.survey_laws.specs.Items.{keyIn, headsAfter, heads}
+use Rattle.survey_laws.specs.Items.{keyIn, headsAfter}
 use Rattle.survey_laws.specs.ItemLaws.{sets-next, heads-none, heads-start, other-key, same-key, heads-end}
 use borrow.Author.Needs.{needs}
 use native.Mathlib.Omega.{arith}

@@ -1,8 +1,7 @@
 -- `store_survey::good_items` meets its contract. The invariant: the good ones of the first i items are put, those of the others are to be.
 use mathlib.Core.Path.{_≡_, refl, sym, _∙_, ap}
 use mathlib.Core.Logic.{⊎-elim}
-use mathlib.Core.List.{List}
-use Prim.Native.Nat.{ℕ, _+_, _-_, _≤_}
+use Prim.Native.Nat.{_+_, _-_, _≤_}
 use lib.ListN.{length, drop, length-set}
 use lib.Seq.{sets}
 use Rattle.survey_laws.specs.Items.{goodFrom}

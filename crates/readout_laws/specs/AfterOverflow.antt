@@ -2,6 +2,7 @@
 -- holds the contents before or after that call." The statement first, for every structure and size, then its proof.
 use Prim.Native.Nat.{ℕ, _≤_}
 use mathlib.Core.Path.{_≡_, refl, sym, _∙_, ap, subst, subst⁻¹}
+use mathlib.Core.Bool.{true}
 use mathlib.Core.List.{List, [], _∷_, _++_, map, List·Memᴰ·head}
 use mathlib.Core.Option.{some}
 use native.Mathlib.Omega.{arith}
@@ -22,7 +23,7 @@ use Rattle.state_spec.specs.Ticket.{opIn}
 use Rattle.call_spec.specs.declared.Reply.the-variants.{Refused}
 use Rattle.demand_spec.specs.History.{Brought, Kept, callOn, leftBy, finally, pairsIn}
 use Rattle.demand_spec.specs.Demands.{fetching, openedStore, method, start, before, asked, left, ClosedBy, Ending, stays-open, closes}
-use Rattle.heap_laws.specs.HeapTree.{Sorted}
+use Rattle.list_spec.specs.Ascending.{ascending}
 use Rattle.demand_laws.specs.OpenedRuns.{method-held}
 use Rattle.demand_laws.specs.UntilClosed.{overflows, closed-at, remains-of, before-bytes, of-left}
 use Rattle.demand_laws.specs.Proved.{demand2}
@@ -30,7 +31,7 @@ use Rattle.readout_spec.specs.Taken.{Omitted, pairOfEntry, entries, report}
 use Rattle.readout_spec.specs.ReadOut.{Left, fileOf, writing, readOut}
 use Rattle.readout_spec.specs.ReadBack.{readBack}
 use Rattle.readout_laws.specs.Whole.{whole-entries, whole-report}
-use Rattle.readout_laws.specs.InOrder.{plain-ascends, entries-sorted, in-order-once}
+use Rattle.readout_laws.specs.InOrder.{keysOf, plain-ascends, entries-ascend, in-order-once}
 use Rattle.readout_laws.specs.BackLaws.{ranged-read-back}
 use Rattle.readout_laws.specs.LeftWhole.{Readable, left-readable}
 
@@ -157,6 +158,6 @@ pub map-exact : (k : ℕ) (tree : List ℕ) (bs : List Brought) (r : ReadsOut th
     (fetching (left the-map k tree bs .state) (left the-map k tree bs .tree) (r .b .ticket) (r .b .tape) (r .b .trace) the-map (r .op))
 map-exact k tree bs r =
     let tables = plain-ascends k (asked the-map k tree bs) (r .op) in
-    let file : Sorted (map (λ (p : Pair). p .key) (map pairOfEntry (entries (closed the-map k tree bs .state) (closed the-map k tree bs .tree)))) =
-    entries-sorted (closed the-map k tree bs .state) (closed the-map k tree bs .tree) in
+    let file : ascending (keysOf (map pairOfEntry (entries (closed the-map k tree bs .state) (closed the-map k tree bs .tree)))) ≡ true =
+    entries-ascend (closed the-map k tree bs .state) (closed the-map k tree bs .tree) in
     remains-of (in-order-once (tables .0) file) (in-order-once (tables .1) file) (r .contents)

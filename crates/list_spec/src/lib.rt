@@ -1,1 +1,1 @@
-// Choices, permutations, lists with no element twice, ascending numbers: definitions.
+// Choices, permutations, lists with no element twice, ascending numbers, sorting: definitions.

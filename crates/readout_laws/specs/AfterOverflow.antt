@@ -14,7 +14,7 @@ use Rattle.list_laws.specs.DistinctLaws.{all-right}
 use Rattle.slot_spec.specs.LittleEndian.{Bytes}
 use Rattle.slot_spec.specs.Tree.{treeLength}
 use Rattle.method_spec.specs.Answer.{Structure, map as the-map, Op}
-use Rattle.method_spec.specs.Plain.{Pair, Contents, Entries, plain, plainContents, nothing}
+use Rattle.method_spec.specs.Plain.{Contents, Entries, plain, plainContents, nothing}
 use Rattle.method_spec.specs.Call.{capacity}
 use Rattle.bucket_call_spec.specs.Simulates.{Remains}
 use Rattle.simulation_laws.specs.Entries.{entries-perm}

@@ -2,7 +2,7 @@
 use Prim.Native.Nat.{ℕ, zero, suc, _+_, _-_, _*_, _^_, _<_}
 use mathlib.Core.Path.{_≡_, refl, sym, _∙_, ap, ap₂, subst}
 use mathlib.Core.Bool.{true, and-eq-true-iff}
-use mathlib.Core.List.{List, [], _∷_, _++_, map, map-append, map-map, append-nil, append-assoc, List·Memᴰ, List·Memᴰ·head, List·Memᴰ·tail}
+use mathlib.Core.List.{List, [], _∷_, _++_, map, map-append, map-map, append-nil, List·Memᴰ, List·Memᴰ·head, List·Memᴰ·tail}
 use mathlib.Core.Option.{some}
 use native.Mathlib.Omega.{arith}
 use lib.ListN.{take, drop}
@@ -31,6 +31,7 @@ use Rattle.state_spec.specs.declared.State.{State}
 use Rattle.state_spec.specs.Fit.{allOf, placeGood, used}
 use Rattle.demand_spec.specs.History.{pairsIn}
 use Rattle.readout_spec.specs.Seen.{Seen, slotPlace, bucketOf, slotBytesAt, slotsInBucket, slotsFrom, waitingFrom, slotsSeen, waitingSeen}
+use Rattle.survey_laws.specs.SurveyLaws.{good-append}
 use Rattle.readout_spec.specs.Taken.{Entry, pairOfEntry, goodAt, goodIn, others, firsts, good, entries, omittedAt, omittedIn, report}
 
 -- What is read at a place, as a round reads it.
@@ -103,15 +104,9 @@ good-pairs (s ∷ ss) = go (s .reading) (good-pairs ss)
     go Empty more = more
     go Bad more = more
 
--- Those of two parts, part by part.
-good-split : (ss ts : List Seen) → goodIn (ss ++ ts) ≡ goodIn ss ++ goodIn ts
-unfolding goodIn
-good-split [] ts = refl
-good-split (s ∷ ss) ts = rw (good-split ss ts) (sym (append-assoc (goodAt (s .place) (s .reading)) (goodIn ss) (goodIn ts)))
-
 -- The same in either order.
 good-either : (ss ts : List Seen) → Perm (goodIn (ss ++ ts)) (goodIn (ts ++ ss))
-good-either ss ts = rw (good-split ss ts, good-split ts ss) (perm-append-comm (goodIn ss) (goodIn ts))
+good-either ss ts = rw (good-append ss ts, good-append ts ss) (perm-append-comm (goodIn ss) (goodIn ts))
 
 -- ---- the waiting places
 
@@ -198,7 +193,7 @@ module _ (s : State) (tree : List ℕ) (whole : WholeStore s tree) where
       let waiting : map pairOfEntry (goodIn (waitingSeen s)) ≡ map pairOf waitingNodes =
       good-pairs (waitingSeen s) ∙ ap (λ (rs : List (Read (Node ℕ))). map pairOf (goodOnes rs)) places-read ∙ ap (map pairOf) (full-good waitingNodes) in
       rw (
-        good-split (waitingSeen s) (slotsSeen s tree),
+        good-append (waitingSeen s) (slotsSeen s tree),
         map-append pairOfEntry (goodIn (waitingSeen s)) (goodIn (slotsSeen s tree)),
         waiting,
         slots-contents s tree,

@@ -18,8 +18,7 @@ use Rattle.readout_spec.specs.Taken.{Entry, entries, report, omittedIn}
 use Rattle.readout_spec.specs.File.{file}
 use Rattle.readout_spec.specs.ReadOut.{fileOf}
 use Rattle.survey_laws.specs.Items.{slotsIn, placesBytes, markAt, keysFrom, marksFrom, goodOrder, firstSorted, takenItems, cleared, entryFor, omittedBy, allKeys, allMarks, itemsFile, slotsFile}
-use Rattle.survey_laws.specs.WaitingSlots.{places-length}
-use Rattle.survey_laws.specs.SurveyLaws.{row-length, keys, marks, taken, survey-entries, survey-report}
+use Rattle.survey_laws.specs.SurveyLaws.{row-length, slots-there, waiting-there, keys, marks, taken, survey-entries, survey-report}
 
 -- ---- lengths
 -- A tree has slots, and no store too many.
@@ -39,19 +38,19 @@ module _ (s : State) (tree : List ℕ) (sized : length tree ≡ treeLength (s .s
   abbrev waiting : List ℕ
   waiting = placesBytes (used s)
 
-  slots-there : slotsIn tree ≡ slotCount k
-  slots-there = tree-slots k tree sized .0
+  abbrev there : slotsIn tree ≡ slotCount k
+  there = slots-there k tree sized (used s) ranged
 
-  waiting-there : slotsIn waiting ≡ length (used s)
-  waiting-there = omega (arith, places-length (used s))
+  abbrev places-there : slotsIn waiting ≡ length (used s)
+  places-there = waiting-there k tree sized (used s) ranged
 
   same-keys : keys k tree sized (used s) ranged ≡ allKeys tree waiting
   unfolding allKeys
-  same-keys = sym (ap₂ (λ (n m : ℕ). keysFrom tree n 0 ++ keysFrom waiting m 0) slots-there waiting-there)
+  same-keys = sym (ap₂ (λ (n m : ℕ). keysFrom tree n 0 ++ keysFrom waiting m 0) there places-there)
 
   same-marks : marks k tree sized (used s) ranged ≡ allMarks k tree waiting
   unfolding allMarks
-  same-marks = sym (ap₂ (λ (n m : ℕ). marksFrom true k tree n 0 ++ marksFrom false k waiting m 0) slots-there waiting-there)
+  same-marks = sym (ap₂ (λ (n m : ℕ). marksFrom true k tree n 0 ++ marksFrom false k waiting m 0) there places-there)
 
   same-taken : taken k tree sized (used s) ranged ≡ takenItems (slotsIn tree) (allKeys tree waiting) (allMarks k tree waiting)
   unfolding goodOrder firstSorted
@@ -59,7 +58,7 @@ module _ (s : State) (tree : List ℕ) (sized : length tree ≡ treeLength (s .s
       let m = marksFrom true k tree (slotCount k) 0 in
       let w = marksFrom false k waiting (length (used s)) 0 in
       let n : length m ≡ slotCount k = row-length (markAt true k tree) (slotCount k) 0 in
-      rw (← same-keys, ← same-marks, slots-there, drop-at m w (slotCount k) n, take-at m w (slotCount k) n)
+      rw (← same-keys, ← same-marks, there, drop-at m w (slotCount k) n, take-at m w (slotCount k) n)
 
   pub store-file : fileOf s tree ≡ slotsFile k tree waiting
   unfolding slotsFile itemsFile

@@ -195,7 +195,8 @@ module _ {A B : Type 0} (key : A → ℕ) (f : B → A) where
   heads-map [] = refl
   heads-map (x ∷ xs) = ap (λ (ys : List A). f x ∷ ys) (after-map (key (f x)) xs)
 
-good-append : (xs ys : List Seen) → goodIn (xs ++ ys) ≡ goodIn xs ++ goodIn ys
+-- The good nodes of two lists.
+pub good-append : (xs ys : List Seen) → goodIn (xs ++ ys) ≡ goodIn xs ++ goodIn ys
 unfolding goodIn
 good-append [] ys = refl
 good-append (x ∷ xs) ys =
@@ -224,10 +225,10 @@ row-at f (suc n) i zero m low e = let h : i ≡ m = omega (arith, e) in ap f h
 row-at f (suc n) i (suc j) m low e = row-at f n (suc i) j m (omega arith) (omega (arith, e))
 
 module _ (k : ℕ) (tree : List ℕ) (sized : length tree ≡ treeLength k) (ps : List Place) (ranged : All (λ (p : Place). Ranged (p .node)) ps) where
-  abbrev S : ℕ
+  abbrev pub S : ℕ
   S = slotCount k
 
-  abbrev waiting : List ℕ
+  abbrev pub waiting : List ℕ
   waiting = placesBytes ps
 
   -- The keys and the marks of all items.
@@ -253,10 +254,10 @@ module _ (k : ℕ) (tree : List ℕ) (sized : length tree ≡ treeLength k) (ps 
   abbrev entry : ℕ → Entry
   entry = entryFor keys tree waiting
 
-  slots-there : slotsIn tree ≡ S
+  pub slots-there : slotsIn tree ≡ S
   slots-there = omega (arith, sized)
 
-  waiting-there : slotsIn waiting ≡ length ps
+  pub waiting-there : slotsIn waiting ≡ length ps
   waiting-there = omega (arith, places-length ps)
 
   module _ (i : ℕ) (within : i < S) where

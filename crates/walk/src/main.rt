@@ -1,35 +1,28 @@
 // The walk program: reads a structure byte, a size byte, then for each call a ticket and its tape numbers from standard
 // input, makes the calls on a store, and prints a line for each as soon as it has been made.
-use call_draws::draws_of;
-use call_draws::rounds_of;
 use call_spec::Reply;
+use input_calls::call_in;
+use input_calls::read_record;
 use libc::STDIN_FILENO;
 use libc::STDOUT_FILENO;
 use opening::open;
 use state_spec::State;
 use text_writer::LONGEST_LINE;
 use text_writer::MOST_LEAVES;
-use tickets::TICKET_LENGTH;
 use walk_input::HEAD_LENGTH;
 use walk_input::LARGEST_TREE;
 use walk_input::LONGEST_RECORD;
-use walk_input::MOST_DRAWS;
-use walk_input::arrived;
-use walk_input::read_tape;
-use walk_input::record_length;
 use walk_input::tree_lent;
 use walk_lines::line;
 use walk_lines::short_line;
 use walk_spec::Arrived;
 ghost use mathlib.Core.Path.{_≡_};
-ghost use Prim.Native.Nat.{_+_, _*_, _≤_};
+ghost use Prim.Native.Nat.{_≤_};
 ghost use lib.ListN.{length};
 ghost use Rattle.io.specs.Counts.{Counts};
 ghost use Rattle.state_spec.specs.Fit.{largestSize};
-ghost use Rattle.state_spec.specs.Ticket.{ticketLength};
-ghost use Rattle.call_spec.specs.Store.{called};
-ghost use Rattle.walk_spec.specs.Lines.{mostLeaves, longestLine};
-ghost use Rattle.walk_spec.specs.Input.{tapeNumber, recordLength, ticketIn, tapeIn};
+ghost use Rattle.walk_spec.specs.Lines.{longestLine};
+ghost use Rattle.walk_spec.specs.Input.{recordLength};
 ghost use Rattle.walk_spec.specs.Walk.{callIn, Printed};
 
 // What a call of the input leaves: the state, and the length of its line.
@@ -38,48 +31,21 @@ struct Walked {
     length: usize,
 }
 
-// Makes the call that stands in `input`, with a tape and a trace buffer of the right lengths, and puts its line into `out`.
-fn make_call(
-    state: State,
-    tree: &mut [u8],
-    input: &[u8],
-    tape: &mut [u16],
-    trace: &mut [u16],
-    out: &mut [u8],
-) -> Walked
-    requires { ⌜ (ticketLength + tapeNumber * length (now tape) ≤ length (now input)) × (length (now trace) ≤ mostLeaves) × (longestLine ≤ length (now out)) ⌝ }
-    ensures { λ r. ⌜ Counts (r .length) (now (out .exit)) ⌝ }
-    ensures { λ r. ⌜ Printed (called state (now (tree .entry)) (ticketIn (now (input .entry))) (tapeIn (length (now (tape .entry))) (now (input .entry))) (now (trace .entry))) (now (out .entry)) (r .state) (now (tree .exit)) (now (out .exit)) (r .length) ⌝ }
+// Makes the call that stands in `input`, on a store of a size that stores have, and puts its line into `out`.
+fn walk_call(state: State, tree: &mut [u8], input: &[u8], out: &mut [u8]) -> Walked
+    requires { ⌜ ((1 ≤ state .size) × (state .size ≤ largestSize)) × (recordLength (state .structure) (state .size) ≤ length (now input)) × (longestLine ≤ length (now out)) ⌝ }
+    ensures { λ r. ⌜ (r .state .size ≡ state .size) × Counts (r .length) (now (out .exit)) ⌝ }
+    ensures { λ r. ⌜ Printed (callIn state (now (tree .entry)) (now (input .entry))) (now (out .entry)) (r .state) (now (tree .exit)) (now (out .exit)) (r .length) ⌝ }
 {
-    read_tape(input, tape);
-    let made = call::call(state, tree, &input[..TICKET_LENGTH], tape, trace);
+    let mut trace = [0u16; MOST_LEAVES];
+    let made = call_in(state, tree, input, &mut trace);
     let reply = made.reply;
-    let length = line(reply, made.leaves, trace, out);
+    let length = line(reply, made.leaves, &trace, out);
     let left = made.state;
     Walked {
         state: left,
         length,
     }
-}
-
-// Makes the call that stands in `input`, on a store of a size that stores have.
-fn walk_call(state: State, tree: &mut [u8], input: &[u8], out: &mut [u8]) -> Walked
-    requires { ⌜ ((1 ≤ state .size) × (state .size ≤ largestSize)) × (recordLength (state .structure) (state .size) ≤ length (now input)) × (longestLine ≤ length (now out)) ⌝ }
-    ensures { λ r. ⌜ Counts (r .length) (now (out .exit)) ⌝ }
-    ensures { λ r. ⌜ Printed (callIn state (now (tree .entry)) (now (input .entry))) (now (out .entry)) (r .state) (now (tree .exit)) (now (out .exit)) (r .length) ⌝ }
-{
-    let leaves = 2 * rounds_of(state.structure, state.size);
-    let draws = draws_of(state.structure, state.size);
-    let mut tape = [0u16; MOST_DRAWS];
-    let mut trace = [0u16; MOST_LEAVES];
-    make_call(
-        state,
-        tree,
-        input,
-        &mut tape[..draws],
-        &mut trace[..leaves],
-        out,
-    )
 }
 
 fn print_short() {
@@ -106,10 +72,8 @@ fn read_call(state: State, tree: &mut [u8]) -> Read
     requires { ⌜ (1 ≤ state .size) × (state .size ≤ largestSize) ⌝ }
     ensures { λ r. ⌜ r .state .size ≡ state .size ⌝ }
 {
-    let wanted = record_length(state.structure, state.size);
     let mut input = [0u8; LONGEST_RECORD];
-    let got = io::read_full(STDIN_FILENO, &mut input[..wanted]);
-    match arrived(got, wanted) {
+    match read_record(state.structure, state.size, &mut input) {
         Arrived::End => Read { state, more: false },
         Arrived::Short => {
             print_short();
@@ -117,7 +81,7 @@ fn read_call(state: State, tree: &mut [u8]) -> Read
         }
         Arrived::Whole => {
             let mut out = [0u8; LONGEST_LINE];
-            let walked = walk_call(state, tree, &input[..wanted], &mut out);
+            let walked = walk_call(state, tree, &input, &mut out);
             let length = walked.length;
             let more = io::write_all(STDOUT_FILENO, &out[..length]);
             let left = walked.state;

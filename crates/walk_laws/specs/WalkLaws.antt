@@ -1,23 +1,25 @@
--- Laws for the walk program: a call keeps the store's structure and size, so every call of an input has as many bytes; and
--- what a call and the line after it leave is what the call's outcome has.
-use mathlib.Core.Path.{_≡_, refl, _∙_, ap}
+-- Laws for the walk program: a call keeps the store's structure and size, so every call of an input has as many bytes, and
+-- its leaves lie within its trace buffer; and what a call and the line after it leave is what the call's outcome has.
+use mathlib.Core.Path.{_≡_, refl, sym, _∙_, ap}
 use mathlib.Core.Bool.{Bool, true, false, not}
 use mathlib.Core.List.{List, _∷_, _++_}
 use mathlib.Core.Option.{Option, none, some}
 use Prim.Native.Nat.{ℕ, zero, suc, _+_, _*_, _≤_}
 use native.Mathlib.Omega.{arith}
 use lib.Dec.{eqb, ltb}
-use lib.ListN.{length, take, drop, replicate, length-replicate}
-use lib.Seq.{take-at}
+use lib.ListN.{length, take, drop, replicate, length-append, length-replicate, take-append-drop}
+use lib.Seq.{take-at, take-append-le}
 use Rattle.list_spec.specs.Choice.{pick}
 use Rattle.slot_spec.specs.Tree.{treeLength}
 use Rattle.method_spec.specs.Answer.{Structure, Op}
 use Rattle.method_spec.specs.Rounds.{rounds, draws}
+use Rattle.bucket_call_spec.specs.Fetch.{Left}
+use Rattle.bucket_call_spec.specs.Call.{drawOf, bucketCall}
 use Rattle.state_spec.specs.declared.State.{State}
 use Rattle.state_spec.specs.Fit.{fits}
 use Rattle.state_spec.specs.Ticket.{ticketLength, opIn, structureOf}
 use Rattle.call_spec.specs.declared.Reply.{Reply}
-use Rattle.call_spec.specs.Store.{Ended, called, callWith}
+use Rattle.call_spec.specs.Store.{Ended, storeOf, refusing, ending, called, callWith}
 use Rattle.walk_spec.specs.Lines.{lineOf, mostLeaves}
 use Rattle.state_spec.specs.Fetching.{roundsOf, drawsOf, mostDraws}
 use Rattle.walk_spec.specs.Input.{ticketIn, tapeIn}
@@ -26,40 +28,54 @@ use Rattle.walk_spec.specs.Walk.{callIn, callLine, Printed}
 pub record Kept (s : State) (e : Ended) : Type 0 where
   pub structure : e .state .structure ≡ s .structure
   pub size : e .state .size ≡ s .size
+  pub leaves : e .leaves ≤ length (e .trace)
 
 kept-either : {s : State} (b : Bool) {x y : Ended} → Kept s x → Kept s y → Kept s (pick b x y)
 kept-either true p q = p
 kept-either false p q = q
 
-same : {s : State} {e : Ended} → e .state .structure ≡ s .structure → e .state .size ≡ s .size → Kept s e
-same p q = record { structure = p; size = q }
+refused : {n : ℕ} {s : State} {tree trace : List ℕ} → Kept s (refusing n s tree trace)
+refused = record { structure = refl; size = refl; leaves = omega arith }
+
+ended : (s : State) (trace : List ℕ) (l : Left) → Kept s (ending s trace l)
+ended s trace l = record { structure = refl; size = refl; leaves = rw length-append (omega arith) }
 
 kept-with : (st : Structure) (s : State) (tree tape trace : List ℕ) (op : Option (Op st)) → Kept s (callWith st s tree tape trace op)
 unfolding callWith
-kept-with st s tree tape trace none = same refl refl
+kept-with st s tree tape trace none = refused
 kept-with st s tree tape trace (some op) =
-    kept-either (ltb (length tape) (draws st (s .size))) (same refl refl)
-    (kept-either (ltb (length trace) (2 * rounds st (s .size))) (same refl refl) (same refl refl))
+    kept-either (ltb (length tape) (draws st (s .size))) refused
+    (kept-either (ltb (length trace) (2 * rounds st (s .size))) refused
+    (ended s trace (bucketCall (s .size) (rounds st (s .size)) op (drawOf (s .size) tape) (storeOf s tree))))
 
 pub call-keeps : (s : State) (tree ticket tape trace : List ℕ) → Kept s (called s tree ticket tape trace)
 unfolding called
 call-keeps s tree ticket tape trace =
-    kept-either (not (eqb (s .mark) 0)) (same refl refl)
-    (kept-either (not (fits s)) (same refl refl)
-    (kept-either (not (eqb (length tree) (treeLength (s .size)))) (same refl refl)
-    (kept-either (not (eqb (length ticket) ticketLength)) (same refl refl)
+    kept-either (not (eqb (s .mark) 0)) refused
+    (kept-either (not (fits s)) refused
+    (kept-either (not (eqb (length tree) (treeLength (s .size)))) refused
+    (kept-either (not (eqb (length ticket) ticketLength)) refused
     (kept-with (structureOf (s .structure)) s tree tape trace (opIn (structureOf (s .structure)) ticket)))))
 
 -- ---- what a call prints
-module _ (e : Ended) {s : State} {reply : Reply} {leaves end : ℕ} {tree trace before after : List ℕ} where
-  pub printed : record { state = s; reply = reply; leaves = leaves; tree = tree; trace = trace } ≡ e → end ≡ length (lineOf reply (take leaves trace))
-      → after ≡ lineOf reply (take leaves trace) ++ drop end before → Printed e before s tree after end
-  printed is ends line =
+-- A call that was lent the first n numbers of a trace buffer: its leaves are among them, and so its line is that of the buffer's first numbers.
+module _ (e : Ended) (n : ℕ) (trace : List ℕ) {s : State} {reply : Reply} {leaves : ℕ} {tree : List ℕ} where
+  pub leaves-lent : record { state = s; reply = reply; leaves = leaves; tree = tree; trace = take n trace } ≡ e → e .leaves ≤ length (e .trace)
+      → leaves ≤ length (take n trace)
+  leaves-lent is within = rw (← is) at within
+
+  pub printed : {end : ℕ} {before after : List ℕ} → record { state = s; reply = reply; leaves = leaves; tree = tree; trace = take n trace } ≡ e
+      → e .leaves ≤ length (e .trace) → end ≡ length (lineOf reply (take leaves trace)) → after ≡ lineOf reply (take leaves trace) ++ drop end before
+      → Printed e before s tree after end
+  printed {end} {before} is within ends line =
+      let first : take leaves trace ≡ take leaves (take n trace) =
+      ap (take leaves) (sym (take-append-drop n trace)) ∙ take-append-le leaves (take n trace) (drop n trace) (leaves-lent is within) in
+      let text : lineOf reply (take leaves trace) ≡ callLine e = ap (lineOf reply) first ∙ ap (λ (x : Ended). callLine x) is in
       record {
         state = ap (λ (x : Ended). x .state) is;
         tree-left = ap (λ (x : Ended). x .tree) is;
-        ends = ends ∙ ap (λ (x : Ended). length (callLine x)) is;
-        line = line ∙ ap (λ (x : Ended). callLine x ++ drop end before) is;
+        ends = ends ∙ ap length text;
+        line = line ∙ ap (λ (l : List ℕ). l ++ drop end before) text;
       }
 
 -- ---- fresh buffers
@@ -76,10 +92,12 @@ fresh-length n most h = rw (fresh-first n most h, length-replicate)
 pub filled-length : (filled rest : List ℕ) (n most : ℕ) → n ≤ most → length filled ≡ length (take {A = ℕ} n (replicate most 0)) → length (take n (filled ++ rest)) ≡ n
 filled-length filled rest n most h e = let f : length filled ≡ n = e ∙ fresh-length n most h in rw (take-at filled rest n f) f
 
--- A call with as many numbers of a tape as it has draws and the first 2F places of a fresh trace buffer.
-pub call-in : (s : State) (tree input : List ℕ) (fetches count : ℕ) → fetches ≡ roundsOf (s .structure) (s .size) → 2 * fetches ≤ mostLeaves
+-- A call with as many numbers of a tape as it has draws, filled from the input, and the first 2F places of a fresh trace buffer.
+pub call-in : (s : State) (tree input tape rest trace : List ℕ) (fetches count : ℕ) → fetches ≡ roundsOf (s .structure) (s .size) → 2 * fetches ≤ mostLeaves
     → count ≡ drawsOf (s .structure) (s .size) → count ≤ mostDraws
-    → called s tree (ticketIn input) (tapeIn (length (take {A = ℕ} count (replicate mostDraws 0))) input) (take (2 * fetches) (replicate mostLeaves 0))
-    ≡ callIn s tree input
-call-in s tree input fetches count e h d most =
-    rw (fresh-length count mostDraws most, fresh-first (2 * fetches) mostLeaves h, e, d)
+    → length tape ≡ length (take {A = ℕ} count (replicate mostDraws 0)) → tape ≡ tapeIn (length (take {A = ℕ} count (replicate mostDraws 0))) input
+    → trace ≡ replicate mostLeaves 0
+    → called s tree (ticketIn input) (take count (tape ++ rest)) (take (2 * fetches) trace) ≡ callIn s tree input
+call-in s tree input tape rest trace fetches count e h d most sized filled fresh =
+    let f : length (take {A = ℕ} count (replicate mostDraws 0)) ≡ count = fresh-length count mostDraws most in
+    rw (take-at tape rest count (sized ∙ f), filled, f, fresh, fresh-first (2 * fetches) mostLeaves h, e, d)

@@ -1,58 +1,25 @@
--- `walk::walk_call` meets its contract: a tape of as many numbers as the call has draws, and a trace buffer of 2F.
-use mathlib.Core.Path.{_≡_, sym}
-use Prim.Native.Nat.{ℕ, _*_}
-use lib.ListN.{length, take, replicate}
-use Rattle.state_spec.specs.Fetching.{mostDraws}
-use Rattle.walk_spec.specs.Lines.{mostLeaves}
-use Rattle.walk_laws.specs.WalkLaws.{fresh-length, call-in}
-use native.Mathlib.Omega.{arith}
+-- `walk::walk_call` meets its contract: the call is made, and its line is put.
+use mathlib.Core.Path.{_∙_, ap}
+use Prim.Native.Nat.{_*_}
+use Rattle.state_spec.specs.Fetching.{roundsOf}
+use Rattle.call_spec.specs.Store.{Ended}
+use Rattle.walk_spec.specs.Walk.{callIn}
+use Rattle.walk_laws.specs.WalkLaws.{call-keeps, printed}
 use borrow.Author.Needs.{needs}
 use Rattle.walk.proofs.walk_call.Statement.{statement}
 use Rattle.walk.proofs.walk_call.Tie as tie
 
--- ---- once both are known
-module _ (c : tie.After-draws-of) where
-  abbrev start : tie.Start
-  start = c .before .before .before .before .before
+slice-aggregate-call-in : tie.Need-slice-aggregate-call-in
+slice-aggregate-call-in c = search needs
 
-  abbrev fetches : ℕ
-  fetches = c .before .rounds-of .result
+call-in-requires : tie.Need-call-in-requires
+call-in-requires c κs = search needs
 
-  abbrev draws : ℕ
-  draws = c .draws-of .result
+slice-aggregate-line : tie.Need-slice-aggregate-line
+slice-aggregate-line c = search needs
 
-  tape-length : length (take {A = ℕ} draws (replicate mostDraws 0)) ≡ draws
-  tape-length = fresh-length draws mostDraws (c .draws-of .ensures .1)
-
-  trace-length : length (take {A = ℕ} (2 * fetches) (replicate mostLeaves 0)) ≡ 2 * fetches
-  trace-length = fresh-length (2 * fetches) mostLeaves (omega (arith, c .before .rounds-of .ensures .1))
-
-rounds-of-requires : tie.Need-rounds-of-requires
-rounds-of-requires c κs = search needs
-
-mul-leaves : tie.Need-mul-leaves
-mul-leaves c = search needs
-
-draws-of-requires : tie.Need-draws-of-requires
-draws-of-requires c κs = search needs
-
-array-borrow-prefix-tape : tie.Need-array-borrow-prefix-tape
-array-borrow-prefix-tape c = search needs
-
-slice-aggregate-make-call : tie.Need-slice-aggregate-make-call
-slice-aggregate-make-call c = sym (tape-length (c .before .before))
-
-array-borrow-prefix-trace : tie.Need-array-borrow-prefix-trace
-array-borrow-prefix-trace c = search needs
-
-slice-aggregate-make-call-2 : tie.Need-slice-aggregate-make-call-2
-slice-aggregate-make-call-2 c = sym (trace-length (c .before .before .before))
-
-make-call-requires : tie.Need-make-call-requires
-make-call-requires c κs =
-    let d = c .before .before .before .before in
-    let p = start d .pre in
-    (omega (arith, p .1, d .draws-of .ensures .0, tape-length d), omega (arith, d .before .rounds-of .ensures .1, trace-length d), p .2)
+line-requires : tie.Need-line-requires
+line-requires c κs = search needs
 
 same-length : tie.Need-same-length
 same-length c = search needs
@@ -62,25 +29,24 @@ same-length-2 c = search needs
 
 returns : tie.Need-returns
 returns c =
-    let m = c .before .before .before .before .before .before in
-    let d = m .before .before .before .before .before in
-    let a = start d .args in
-    let f = d .before .rounds-of .ensures in
-    let e = d .draws-of .ensures in
-    (m .make-call .ensures .0, rw (← call-in (a .state) (a .tree .now) (a .input .now) (fetches d) (draws d) (f .0) (omega (arith, f .1)) (e .0) (e .1)) (m .make-call .ensures .1))
+    let l = c .before .before .before in
+    let k = l .before .before .before .before .before .before in
+    let a = k .before .before .before .before .before .before .args in
+    let s = a .state in
+    let kept = call-keeps s _ _ _ _ in (
+      (ap (λ (e : Ended). e .state .size) (k .call-in .ensures) ∙ kept .size, l .line .ensures .0),
+      printed (callIn s (a .tree .now) (a .input .now)) (2 * roundsOf (s .structure) (s .size)) (k .call-in .last .1 .1 .1 .0) (k .call-in .ensures) (kept .leaves)
+          (l .line .ensures .1 .0) (l .line .ensures .1 .1),
+    )
 
 pub walk-call-spec : {M : Type 1} → statement M
 walk-call-spec =
     tie.close
     (tie.spec
-    rounds-of-requires
-    mul-leaves
-    draws-of-requires
-    array-borrow-prefix-tape
-    slice-aggregate-make-call
-    array-borrow-prefix-trace
-    slice-aggregate-make-call-2
-    make-call-requires
+    slice-aggregate-call-in
+    call-in-requires
+    slice-aggregate-line
+    line-requires
     same-length
     same-length-2
     returns)

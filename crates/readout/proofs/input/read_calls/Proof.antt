@@ -16,8 +16,14 @@ abbrev μ-loop : tie.MeasureT-loop
 loop-holds : tie.Need-loop-holds Inv-loop μ-loop
 loop-holds c = search needs
 
-read-call-requires : tie.Need-read-call-requires Inv-loop μ-loop
-read-call-requires c κs = search needs
+slice-aggregate-next-call : tie.Need-slice-aggregate-next-call Inv-loop μ-loop
+slice-aggregate-next-call c = search needs
+
+next-call-requires : tie.Need-next-call-requires Inv-loop μ-loop
+next-call-requires c κs = search needs
+
+goes-on-requires : tie.Need-goes-on-requires Inv-loop μ-loop
+goes-on-requires c κs = search needs
 
 same-length : tie.Need-same-length Inv-loop μ-loop
 same-length c = search needs
@@ -47,7 +53,9 @@ read-calls-spec =
     Inv-loop
     μ-loop
     loop-holds
-    read-call-requires
+    slice-aggregate-next-call
+    next-call-requires
+    goes-on-requires
     same-length
     returns
     sub-turns

@@ -98,6 +98,8 @@ pub record Worked : Type 0 where
   pub too-many-wait : readOut (store 9 1 1 102) [] (out 5) ≡ refusing 2 (out 5)
   pub other-length : readOut (store 9 1 1 4) (drop 1 tree) (out 5) ≡ refusing 3 (out 5)
   pub too-short : readOut (store 9 1 1 4) tree (out 95) ≡ refusing 15 (out 95)
+  -- The sort keeps those with one number in their order.
+  pub stable : sortBy (λ (p : Pair). p .key) (pair 2 1 ∷ pair 1 5 ∷ pair 2 0 ∷ []) ≡ pair 1 5 ∷ pair 2 1 ∷ pair 2 0 ∷ []
   -- What is returned, as two numbers.
   pub two-numbers : (numberOf (Written 96) ≡ 0) × (lengthOf (Written 96) ≡ 96) × (numberOf (Refused 15) ≡ 15) × (lengthOf (Refused 15) ≡ 0)
   -- Read back: the file alone, or with bytes after it.
@@ -120,6 +122,7 @@ worked =
       too-many-wait = refl;
       other-length = refl;
       too-short = refl;
+      stable = refl;
       two-numbers = (refl, refl, refl, refl);
       read-back = refl;
     }

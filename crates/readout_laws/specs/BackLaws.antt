@@ -268,3 +268,11 @@ ranged-read-back s tree out n bs w e =
 pub read-back : (s : State) (tree out : List ℕ) (n : ℕ) → Bytes tree → Widths s → readOut s tree out .result ≡ Written n
     → readBack n (readOut s tree out .out) ≡ record { entries = map pairOfEntry (entries s tree); report = report s tree }
 read-back s tree out n bs w = ranged-read-back s tree out n bs (w .nodes)
+
+-- Each offset of a file that was written leads to its value.
+pub offsets-lead : (s : State) (tree out : List ℕ) (n i : ℕ) → Bytes tree → Widths s → readOut s tree out .result ≡ Written n → i < length (entries s tree)
+    → numberAt valueWidth (numberAt offsetWidth (countWidth + indexWidth * i + keyWidth) (fileOf s tree)) (fileOf s tree)
+    ≡ getD (map (λ (e : Entry). e .value) (entries s tree)) i 0
+offsets-lead s tree out n i bs w e before =
+    let r = was-written s tree out n e in
+    offset-leads (entries s tree) (report s tree) i before (store-in-widths s tree bs (w .nodes) (r .is-known) (r .tree-length))

@@ -1,6 +1,6 @@
-// The path of a leaf, level by level.
+// The path of a leaf, level by level: where its buckets start, and from where on it is that of another leaf.
 use tree_paths::bucket_start;
-use tree_paths::leaf_bucket;
+use tree_paths::path_bucket;
 ghost use mathlib.Core.Path.{_≡_};
 ghost use Prim.Native.Nat.{_+_, _^_, _<_, _≤_};
 ghost use Rattle.slot_spec.specs.Tree.{pathBucket, bucketStart, bucketLength, treeLength};
@@ -12,20 +12,12 @@ pub const BUCKET_SLOTS: usize = 4;
 // The levels of the largest tree, from the leaves up to the root.
 pub const LEVELS: usize = 16;
 
-// The bucket of a leaf's path at a level, counted from the leaf up: one shift for that many halvings.
-pub fn bucket_at(size: usize, leaf: usize, level: usize) -> usize
-    requires { ⌜ (size ≤ 15) × (leaf < 2 ^ 16) × (level ≤ size) ⌝ }
-    ensures { λ r. ⌜ r ≡ pathBucket size leaf level ⌝ }
-{
-    leaf_bucket(size, leaf) >> level
-}
-
-// The byte where that bucket starts; the bucket is within the tree.
+// The byte where the bucket of a leaf's path at a level starts; the bucket is within the tree.
 pub fn start_at(size: usize, leaf: usize, level: usize) -> usize
     requires { ⌜ (size ≤ 15) × (leaf < 2 ^ size) × (level ≤ size) ⌝ }
     ensures { λ r. ⌜ (r ≡ bucketStart (pathBucket size leaf level)) × (r + bucketLength ≤ treeLength size) × (r < 2 ^ 24) ⌝ }
 {
-    bucket_start(bucket_at(size, leaf, level))
+    bucket_start(path_bucket(size, leaf, level))
 }
 
 // The level from which on two leaves' paths are one: by the highest digit in which the leaves differ.

@@ -3,8 +3,7 @@
 use mathlib.Core.Path.{_≡_, ap}
 use mathlib.Core.Bool.{Bool, true, false}
 use mathlib.Core.List.{List, [], _∷_}
-use Prim.Native.Nat.{ℕ, _^_, _≤_, _<_}
-use native.Mathlib.Decide.{decLe}
+use Prim.Native.Nat.{ℕ}
 use native.Mathlib.Omega.{arith}
 use lib.Dec.{eqb}
 use lib.ListN.{length, take, drop, length-take, length-drop}
@@ -15,7 +14,7 @@ use Rattle.slot_spec.specs.Layout.{fields, total, Fit}
 use Rattle.slot_laws.specs.LayoutLaws.{length-pack, pack-bytes}
 use Rattle.slot_spec.specs.Tree.{slotLength}
 use Rattle.slot_spec.specs.Slot.{widths, numbers, fieldsIn, fieldsOf, nodeOf, encode, bad, wellFormed, readSlot, Ranged}
-use Rattle.slot_laws.specs.ReadLaws.{ReadAs, written-reads-back, read-is-written, read-zero, own-tag-too-large}
+use Rattle.slot_laws.specs.ReadLaws.{ReadAs, written-reads-back, read-is-written, read-zero, well-formed-tag}
 use Rattle.slot_spec.specs.declared.Node.{Node}
 use Rattle.slot_spec.specs.declared.Reading.{Reading}
 use Rattle.slot_spec.specs.declared.Reading.the-variants.{Full, Empty, Bad}
@@ -61,13 +60,6 @@ reading-full (Full m) n e = cc
 reading-full Empty n e = cc
 reading-full Bad n e = cc
 
-formed-tag : (k : ℕ) (n : Node) → wellFormed k n ≡ true → n .tag < 2 ^ k
-formed-tag k n w = go (decLe (2 ^ k) (n .tag))
-  where
-    go : Dec (2 ^ k ≤ n .tag) → n .tag < 2 ^ k
-    go (yes h) = let f = own-tag-too-large k n h in let z : _≡_ {A = ℕ} 0 1 = cc in absurd (omega arith)
-    go (no h) = omega arith
-
 read-as : (k b : ℕ) (bs : List ℕ) (n : Node) → Bytes bs → length bs ≡ slotLength → nodeFormat .read k b bs ≡ full n → ReadAs k b bs n
 read-as k b bs n h l e = read-is-written k b bs h l n (reading-full (readSlot k b bs) n e)
 
@@ -82,6 +74,6 @@ nodes-lawful =
           λ k b bs n h l e. (read-ranged k b bs n h l (reading-full (readSlot k b bs) n e), read-as k b bs n h l e .formed);
       read-passes = λ k b bs n h l e. read-as k b bs n h l e .on-path;
       read-bytes = λ k b bs n h l e. read-as k b bs n h l e .written;
-      tag-is-leaf = λ k n p. formed-tag k n (p .1);
+      tag-is-leaf = λ k n p. well-formed-tag k n (p .1);
       zero-empty = λ k b. ap readingOf (read-zero k b);
     }

@@ -2,8 +2,11 @@ pub mod Ranges
 pub mod LittleEndianLaws
 pub mod LayoutLaws
 pub mod TreeLaws
+pub mod PathNumbers
+pub mod PathNumberLaws
 pub mod RowLaws
 pub mod SlotLaws
 pub mod ReadLaws
 pub mod BucketLaws
 pub mod WordLaws
+pub mod Examples

@@ -4,6 +4,7 @@ use mathlib.Core.Path.{_≡_, refl, sym, _∙_, ap}
 use mathlib.Core.Bool.{Bool, true, false, not, _&&_, _||_}
 use Prim.Native.Nat.{ℕ, _/_, _%_, _^_, _<_, _≤_}
 use native.Mathlib.Omega.{arith}
+use native.Mathlib.Decide.{decLe}
 use mathlib.Core.List.{List}
 use mathlib.Core.Logic.{_↔_, _⊎_, inl, inr, ⊎-elim}
 use lib.Dec.{eqb, leb, ltb}
@@ -66,6 +67,13 @@ module _ (k : ℕ) (l : Link) where
 module _ (k : ℕ) (n : Node) where
   pub own-tag-too-large : 2 ^ k ≤ n .tag → wellFormed k n ≡ false
   own-tag-too-large h = well-formed-order k n ∙ rw (le-leb (2 ^ k) (n .tag) h)
+
+  pub well-formed-tag : wellFormed k n ≡ true → n .tag < 2 ^ k
+  well-formed-tag good = go (decLe (2 ^ k) (n .tag))
+    where
+      go : Dec (2 ^ k ≤ n .tag) → n .tag < 2 ^ k
+      go (yes h) = let f = own-tag-too-large h in let z : _≡_ {A = ℕ} 0 1 = cc in absurd (omega arith)
+      go (no h) = omega arith
 
   pub left-link-bad : n .tag < 2 ^ k → linkGood k (n .left) ≡ false → wellFormed k n ≡ false
   left-link-bad h e = well-formed-order k n ∙ rw (lt-leb (2 ^ k) (n .tag) h, e)

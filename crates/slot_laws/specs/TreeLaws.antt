@@ -1,16 +1,13 @@
 -- Paths: a bucket's number is on a path exactly where halving reaches it, and the numbers on a path fall.
-use mathlib.Core.Path.{_≡_, refl, sym, _∙_, ap, subst}
-use mathlib.Core.Logic.{⊎-elim}
+use mathlib.Core.Path.{_≡_, refl, sym, _∙_, ap}
 use mathlib.Core.Bool.{Bool, true, false, _||_, or-false, or-true}
-use Prim.Native.Nat.{ℕ, zero, suc, _+_, _-_, _*_, _/_, _%_, _^_, _≤_, _<_}
-use native.Mathlib.Nat.{le-refl, le-trans, div-le-self, div-one, div-div-eq-div-mul, pow-suc, mul-comm, eq-zero-or-pos}
-use native.Mathlib.Numerals.{add-one}
+use Prim.Native.Nat.{ℕ, zero, suc, _+_, _*_, _/_, _%_, _^_, _≤_, _<_}
+use native.Mathlib.Nat.{le-refl, le-trans, div-le-self, div-one, div-div-eq-div-mul, pow-suc, mul-comm}
 use native.Mathlib.Omega.{arith}
 use mathlib.Core.List.{List, [], _∷_, List·Memᴰ, List·Memᴰ·head, List·Memᴰ·tail}
 use borrow.Author.Tests.{eq-eqb, ne-eqb, eqb-true}
 use lib.Dec.{eqb}
 use lib.ListN.{length, getD}
-use lib.Count.{leadingZeros, leading-of-zero, leading-top, leading-length}
 use lib.Pow.{pow-pos, pow-mono, shl-exact}
 use Rattle.slot_spec.specs.Tree.{halvings, halved, among}
 
@@ -45,9 +42,11 @@ unfolding halvings
 halvings-length zero b = refl
 halvings-length (suc n) b = ap suc (halvings-length n (b / 2))
 
--- One turn of a loop that halves.
-pub halved-turn : (n i b : ℕ) → i < n → halved (n - (i + 1)) (b / 2) ≡ halved (n - i) b
-halved-turn n i b h = let e : n - i ≡ suc (n - (i + 1)) = omega arith in rw (e, halved-more)
+-- Halving i times is one shift.
+pub halved-shift : (i b : ℕ) → halved i b ≡ b / 2 ^ i
+unfolding halved
+halved-shift zero b = sym (div-one b)
+halved-shift (suc i) b = halved-shift i (b / 2) ∙ div-div-eq-div-mul b 2 (2 ^ i) ∙ rw (pow-suc 2 i, mul-comm (2 ^ i) 2)
 
 -- The path's list and its bucket at each level say the same.
 pub halvings-at : (n b i : ℕ) → i ≤ n → getD (halvings n b) i 0 ≡ halved i b
@@ -58,7 +57,7 @@ halvings-at (suc n) b zero h = refl
 halvings-at (suc n) b (suc i) h = halvings-at n (b / 2) i (omega arith)
 
 -- ---- the test
-among-less : (n b c : ℕ) → b < c → among c (halvings n b) ≡ false
+pub among-less : (n b c : ℕ) → b < c → among c (halvings n b) ≡ false
 unfolding halvings among
 among-less zero b c h = rw (ne-eqb c b (λ e. omega arith))
 among-less (suc n) b c h = rw (ne-eqb c b (λ e. omega arith), among-less n (b / 2) c (omega arith))
@@ -87,12 +86,6 @@ member-among b bs (List·Memᴰ·head {x = c} {xs = cs} e) = rw (eq-eqb b c e)
 member-among b bs (List·Memᴰ·tail {x = c} {xs = cs} m) = rw (member-among b cs m) (or-true (eqb b c))
 
 -- ---- the test by lengths: halving takes one digit, so only one number of the path has as many as a given one
--- Halving i times is one shift.
-pub halved-shift : (i b : ℕ) → halved i b ≡ b / 2 ^ i
-unfolding halved
-halved-shift zero b = sym (div-one b)
-halved-shift (suc i) b = halved-shift i (b / 2) ∙ div-div-eq-div-mul b 2 (2 ^ i) ∙ rw (pow-suc 2 i, mul-comm (2 ^ i) 2)
-
 -- A number not below the second of the path is on it only as its first.
 among-first : (n x b : ℕ) → x / 2 < b → among b (halvings (suc n) x) ≡ eqb b x
 unfolding halvings among
@@ -112,60 +105,11 @@ among-level (suc i) j (suc n) x b l p q r s =
     let m : 2 ^ j ≤ 2 ^ (i + j) = pow-mono {i = j} {j = i + j} (omega arith) in
     among-above n x b (omega arith) ∙ among-level i j n (x / 2) b (omega arith) (omega arith) (omega arith) r s
 
--- Where the digits would come to as few only later, the number is not on the path.
-among-shorter : (i j n x b : ℕ) → n < i → 2 ^ (i + j) ≤ x → b < 2 * 2 ^ j → among b (halvings n x) ≡ false
-among-shorter zero j n x b l p s = let z : ⊥ = omega arith in absurd z
-among-shorter (suc i) j zero x b l p s =
-    let m : 2 ^ suc j ≤ 2 ^ (suc i + j) = pow-mono {i = suc j} {j = suc i + j} (omega arith) in
-    among-last x b ∙ ne-eqb b x (λ e. omega arith)
-among-shorter (suc i) j (suc n) x b l p s =
-    let m : 2 ^ suc j ≤ 2 ^ (suc i + j) = pow-mono {i = suc j} {j = suc i + j} (omega arith) in
-    let e : 2 ^ (suc i + j) ≡ 2 ^ suc (i + j) = ap (λ (m : ℕ). 2 ^ m) (omega arith) in
-    among-above n x b (omega arith) ∙ among-shorter i j n (x / 2) b (omega arith) (omega arith) s
-
-among-zero : (n x : ℕ) → 2 ^ n ≤ x → among 0 (halvings n x) ≡ false
+-- Halving so often never comes to 0.
+pub among-zero : (n x : ℕ) → 2 ^ n ≤ x → among 0 (halvings n x) ≡ false
 unfolding halvings among
 among-zero zero x h = rw (ne-eqb 0 x (λ e. omega arith))
 among-zero (suc n) x h =
     let p : 2 ^ suc n ≤ x = h in
     let o = pow-pos n in
     rw (ne-eqb 0 x (λ e. omega arith), among-zero n (x / 2) (omega arith))
-
-module _ (n x b : ℕ) (p : 2 ^ n ≤ x) (q : x < 2 ^ 64) (r : b < 2 ^ 64) where
-  top : (j : ℕ) × (leadingZeros 64 x + suc j ≡ 64) × (2 ^ j ≤ x) × (x < 2 ^ suc j)
-  top = leading-top 64 x (let o = pow-pos n in omega arith) q
-
-  -- A longer number is above all of the path.
-  pub passes-longer : leadingZeros 64 b < leadingZeros 64 x → among b (halvings n x) ≡ false
-  passes-longer h =
-      let t = leading-length 64 x q in
-      let s = leading-length 64 b r in
-      let e : 2 ^ (t .0 + 1) ≤ 2 ^ (s .0) = pow-mono {i = t .0 + 1} {j = s .0} (let u = t .1 in let v = s .1 in omega arith) in
-      let d : 2 ^ (t .0 + 1) ≡ 2 * 2 ^ (t .0) = rw (add-one (t .0)) (omega arith) in
-      among-less n x b (let u = t .2 in let v = s .3 in omega arith)
-
-  -- The digits of two numbers, where the second is not 0 and not the longer one.
-  apart : (o : 0 < b) → leadingZeros 64 x ≤ leadingZeros 64 b → leadingZeros 64 b - leadingZeros 64 x + leading-top 64 b o r .0 ≡ top .0
-  apart o h = let u = top .1 in let v = leading-top 64 b o r .1 in omega arith
-
-  -- One that is shorter than the last is not on it.
-  pub passes-shorter : leadingZeros 64 x ≤ leadingZeros 64 b → n < leadingZeros 64 b - leadingZeros 64 x → among b (halvings n x) ≡ false
-  passes-shorter h g =
-      ⊎-elim (λ z. rw z (among-zero n x p))
-      (λ o. let s = leading-top 64 b o r in
-      among-shorter (leadingZeros 64 b - leadingZeros 64 x) (s .0) n x b g (subst (λ (m : ℕ). 2 ^ m ≤ x) (sym (apart o h)) (top .2)) (let v = s .3 in omega arith))
-      (eq-zero-or-pos b)
-
-  pub passes-there : leadingZeros 64 x ≤ leadingZeros 64 b → leadingZeros 64 b - leadingZeros 64 x ≤ n
-      → among b (halvings n x) ≡ eqb b (x / 2 ^ (leadingZeros 64 b - leadingZeros 64 x))
-  passes-there h g =
-      ⊎-elim
-      (λ z. let e : leadingZeros 64 b ≡ 64 = ap (leadingZeros 64) z ∙ leading-of-zero 64 in
-      let m : 2 ^ suc (top .0) ≤ 2 ^ n = pow-mono {i = suc (top .0)} {j = n} (let u = top .1 in omega arith) in
-      let u : ⊥ = (let v = top .3 in omega arith) in absurd u)
-      (λ o. let s = leading-top 64 b o r in
-      let i = leadingZeros 64 b - leadingZeros 64 x in
-      let e = ap (λ (m : ℕ). 2 ^ m) (apart o h) in
-      among-level i (s .0) n x b g (let u = top .2 in omega arith) (let u = top .3 in omega arith) (s .2) (let v = s .3 in omega arith)
-      ∙ ap (eqb b) (halved-shift i x))
-      (eq-zero-or-pos b)

@@ -1,50 +1,29 @@
 -- A waiting place written as a slot is read as the place is: its bucket is not asked about, since the root is on every path.
-use mathlib.Core.Path.{_≡_, refl, sym, _∙_, ap}
+use mathlib.Core.Path.{_≡_, refl, _∙_, ap}
 use mathlib.Core.Bool.{Bool, true, false, _&&_}
 use mathlib.Core.List.{List, [], _∷_, _++_}
-use Prim.Native.Nat.{ℕ, _+_, _*_, _/_, _^_, _<_}
-use native.Mathlib.Nat.{div-eq-of-lt-le}
+use Prim.Native.Nat.{ℕ, _+_, _*_}
 use native.Mathlib.Omega.{arith}
-use lib.Pow.{pow-pos}
-use lib.Dec.{eqb, leb}
+use lib.Dec.{eqb}
 use lib.ListN.{length, replicate, length-append}
 use lib.Seq.{take-at, drop-at}
-use borrow.Author.Tests.{leb-true, leb-false}
 use Rattle.list_spec.specs.Choice.{pick}
-use Rattle.slot_spec.specs.Tree.{passes, halved, slotLength}
+use Rattle.slot_spec.specs.Tree.{passes, slotLength}
 use Rattle.slot_spec.specs.Layout.{total}
 use Rattle.slot_spec.specs.Slot.{Fields, fieldsIn, fieldsOf, nodeOf, encode, wellFormed, readSlot, Ranged, widths, bad as bad-slot}
 use Rattle.slot_spec.specs.declared.Node.{Node}
 use Rattle.slot_spec.specs.declared.Reading.{Reading}
 use Rattle.slot_spec.specs.declared.Reading.the-variants.{Full, Empty, Bad}
-use Rattle.slot_laws.specs.TreeLaws.{among-level, halved-shift}
+use Rattle.slot_laws.specs.PathNumberLaws.{root-passes}
 use Rattle.slot_laws.specs.LayoutLaws.{length-pack}
 use Rattle.slot_laws.specs.SlotLaws.{node-fields, fields-encoded}
-use Rattle.slot_laws.specs.ReadLaws.{own-tag-too-large, read-full, read-zero}
+use Rattle.slot_laws.specs.ReadLaws.{well-formed-tag, read-full, read-zero}
 use Rattle.state_spec.specs.declared.Place.{Place}
 use Rattle.readout_spec.specs.Seen.{placeReading, slotBytesAt}
 use Rattle.readout_spec.specs.Taken.{isBad, isRepeated}
 use Rattle.survey_laws.specs.Items.{placeBytes, placesBytes, markOf}
 
--- ---- the root
-pub root-passes : (k t : ℕ) → t < 2 ^ k → passes k t 1 ≡ true
-root-passes k t leaf =
-    let z : k + 0 ≡ k = omega arith in
-    let p = pow-pos k in
-    let one : halved k (2 ^ k + t) ≡ 1 = halved-shift k (2 ^ k + t) ∙ quotient (2 ^ k) t p leaf in
-    among-level k 0 k (2 ^ k + t) 1 (omega arith) (rw z (omega arith)) (rw z (omega arith)) (omega arith) (omega arith) ∙ rw one
-  where
-    quotient : (m r : ℕ) → 0 < m → r < m → (m + r) / m ≡ 1
-    quotient m r some less = div-eq-of-lt-le m (omega arith) (omega arith)
-
 -- ---- a place as a slot
-well-formed-tag : (k : ℕ) (n : Node) → wellFormed k n ≡ true → n .tag < 2 ^ k
-well-formed-tag k n good = go (leb (2 ^ k) (n .tag)) refl
-  where
-    go : (b : Bool) → leb (2 ^ k) (n .tag) ≡ b → n .tag < 2 ^ k
-    go true e = let z = own-tag-too-large k n (leb-true (2 ^ k) (n .tag) e) in let y : _≡_ {A = Bool} true false = sym good ∙ z in let x : _≡_ {A = ℕ} 0 1 = cc in absurd (omega arith)
-    go false e = leb-false (2 ^ k) (n .tag) e
-
 -- An encoded node is read as itself for the root, or bad.
 encoded-read : (k : ℕ) (n : Node) → Ranged n → readSlot k 1 (encode n) ≡ pick (wellFormed k n) (Full n) Bad
 unfolding fieldsOf

@@ -1,7 +1,7 @@
 // Bucket numbers, paths and places in the lent tree.
 use slot_spec::BUCKET_LENGTH;
 ghost use mathlib.Core.Path.{_≡_};
-ghost use Prim.Native.Nat.{_+_, _<_, _≤_, _/_, _^_};
+ghost use Prim.Native.Nat.{_+_, _<_, _≤_, _^_};
 ghost use Rattle.slot_spec.specs.Tree.{leafBucket, pathBucket, passes, bucketStart, treeLength};
 
 // The number of leaves of a tree of that size.
@@ -14,50 +14,34 @@ pub fn leaves(size: usize) -> usize
 
 // Document 01's "leaf t is bucket 2^k + t".
 pub fn leaf_bucket(size: usize, leaf: usize) -> usize
-    requires { ⌜ (size ≤ 16) × (leaf < 2 ^ 16) ⌝ }
+    requires { ⌜ (size ≤ 16) × (leaf < 2 ^ size) ⌝ }
     ensures { λ r. ⌜ r ≡ leafBucket size leaf ⌝ }
 {
     leaves(size) + leaf
 }
 
-// The bucket above: document 01's "halving of its number".
-pub fn parent(bucket: usize) -> usize
-    ensures { λ r. ⌜ r ≡ bucket / 2 ⌝ }
-{
-    bucket / 2
-}
-
-// The bucket of a leaf's path at a level, counted from the leaf up: one halving for each level.
+// The bucket of a leaf's path at a level, counted from the leaf up: one shift for that many halvings.
 pub fn path_bucket(size: usize, leaf: usize, level: usize) -> usize
-    requires { ⌜ (size ≤ 16) × (leaf < 2 ^ 16) ⌝ }
+    requires { ⌜ (size ≤ 16) × (leaf < 2 ^ size) × (level ≤ size) ⌝ }
     ensures { λ r. ⌜ r ≡ pathBucket size leaf level ⌝ }
 {
-    let mut b = leaf_bucket(size, leaf);
-    let mut i = 0;
-    while i < level {
-        b = parent(b);
-        i += 1;
-    }
-    b
+    leaf_bucket(size, leaf) >> level
 }
 
-// Whether a tag's path passes a bucket. The lengths of the two numbers say how often the leaf's would be halved, and one shift
-// does that.
+// Whether a tag's path passes a bucket. The length of the bucket's number says how far from the root it is, and the path has one
+// bucket there.
 pub fn passes_bucket(size: usize, tag: usize, bucket: usize) -> bool
-    requires { ⌜ (size ≤ 16) × (tag < 2 ^ 16) ⌝ }
+    requires { ⌜ (size ≤ 16) × (tag < 2 ^ size) ⌝ }
     ensures { λ r. ⌜ r ≡ passes size tag bucket ⌝ }
 {
-    let b = leaf_bucket(size, tag);
-    let low = u64::leading_zeros(b as u64);
-    let high = u64::leading_zeros(bucket as u64);
-    if high < low {
+    if bucket == 0 {
         return false;
     }
-    let level = high - low;
-    if size < level as usize {
+    let depth = (63 - u64::leading_zeros(bucket as u64)) as usize;
+    if size < depth {
         return false;
     }
-    bucket == b >> level
+    bucket == path_bucket(size, tag, size - depth)
 }
 
 // The byte where a bucket starts.

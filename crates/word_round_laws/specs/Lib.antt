@@ -6,7 +6,6 @@ pub mod StashLaws
 pub mod PartLaws
 pub mod JoinLaws
 pub mod ReadingLaws
-pub mod Level
 pub mod PathLaws
 pub mod Gather
 pub mod GatherLaws

@@ -1,5 +1,4 @@
--- The buckets of a path, level by level: their numbers are in the tree, and a tag's path passes one exactly if it has the same
--- bucket at that level.
+-- The buckets of a path, level by level: their numbers are in the tree, each of its level.
 use mathlib.Core.Path.{_≡_, _∙_, ap}
 use Prim.Native.Nat.{ℕ, zero, suc, _+_, _-_, _*_, _/_, _^_, _≤_, _<_}
 use native.Mathlib.Numerals.{add-one}
@@ -8,10 +7,9 @@ use mathlib.Core.List.{[], _∷_}
 use lib.ListN.{drop, drop-of-length-le}
 use lib.Pow.{pow-mono}
 use lib.Seq.{drop-cons}
-use lib.Dec.{eqb}
-use Rattle.slot_spec.specs.Tree.{passes, leafBucket, halved, pathBucket, path, bucketStart, bucketLength, treeLength}
-use Rattle.slot_laws.specs.TreeLaws.{halved-le, halvings-length, halvings-at, among-level}
-use Rattle.word_round_laws.specs.Level.{AtLevel}
+use Rattle.slot_spec.specs.Tree.{leafBucket, halved, pathBucket, path, bucketStart, bucketLength, treeLength}
+use Rattle.slot_laws.specs.TreeLaws.{halved-le, halvings-length, halvings-at}
+use Rattle.slot_laws.specs.PathNumbers.{AtLevel}
 
 -- What is left of a path from a level on.
 pub path-level : (k t i : ℕ) → i ≤ k → drop i (path k t) ≡ pathBucket k t i ∷ drop (i + 1) (path k t)
@@ -41,13 +39,7 @@ module _ (k t i : ℕ) (leaf : t < 2 ^ k) (level : i ≤ k) where
   pub bucket-inside : bucketStart (pathBucket k t i) + bucketLength ≤ treeLength k
   bucket-inside = let h = bucket-below in let p = bucket-positive in omega arith
 
--- ---- the test at a known level
--- A tag's path passes a bucket of a level exactly if its own bucket there is that one.
-pub passes-at-level : (k tag i b : ℕ) → tag < 2 ^ k → i ≤ k → AtLevel k i b → passes k tag b ≡ eqb b (pathBucket k tag i)
-passes-at-level k tag i b h l a =
-    let e : 2 ^ (i + (k - i)) ≡ 2 ^ k = ap (λ (n : ℕ). 2 ^ n) (omega arith) in
-    among-level i (k - i) k (leafBucket k tag) b l (omega arith) (omega arith) (a .0) (a .1)
-
+-- ---- their level
 halved-level : (i j b : ℕ) → 2 ^ (i + j) ≤ b → b < 2 * 2 ^ (i + j) → (2 ^ j ≤ halved i b) × (halved i b < 2 * 2 ^ j)
 unfolding halved
 halved-level zero j b p q = let e : 0 + j ≡ j = omega arith in (rw e at p, rw e at q)

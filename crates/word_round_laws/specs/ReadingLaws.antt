@@ -3,13 +3,13 @@ use mathlib.Core.Path.{_≡_, refl, sym, _∙_, ap}
 use mathlib.Core.Bool.{Bool, true, false}
 use Prim.Native.Nat.{ℕ, _+_, _*_, _/_, _%_, _^_, _<_}
 use native.Mathlib.Omega.{arith}
-use lib.Dec.{eqb, leb}
-use borrow.Author.Tests.{eqb-true, eqb-false, leb-true, leb-false}
+use lib.Dec.{eqb}
+use borrow.Author.Tests.{eqb-true, eqb-false}
 use Rattle.list_spec.specs.Choice.{pick}
 use Rattle.slot_spec.specs.Tree.{passes}
 use Rattle.slot_spec.specs.Slot.{fieldsIn, nodeOf, allZero, wellFormed, readSlot, slotBytes, slotOf}
 use Rattle.slot_laws.specs.SlotLaws.{Words, fieldsOfWords, fields-in-words, slot-length}
-use Rattle.slot_laws.specs.ReadLaws.{all-zero-read, read-wrong-flag, read-wrong-zero1, read-wrong-zero2, read-node, own-tag-too-large}
+use Rattle.slot_laws.specs.ReadLaws.{all-zero-read, read-wrong-flag, read-wrong-zero1, read-wrong-zero2, read-node, well-formed-tag}
 use Rattle.slot_spec.specs.declared.Node.{Node}
 use Rattle.slot_spec.specs.declared.Slot.{Slot}
 use Rattle.slot_spec.specs.declared.Reading.the-variants.{Full, Empty, Bad}
@@ -83,11 +83,7 @@ module _ (k b : ℕ) (x : Slot) (h : Words x) (n : Node) (r : readSlot k b (slot
   -- A reading's tag is a leaf.
   pub full-tag : wordsFormat .tag x < 2 ^ k
   unfolding wordsFormat nodeOf
-  full-tag = go (leb (2 ^ k) (n .tag)) refl
-    where
-      go : (t : Bool) → leb (2 ^ k) (n .tag) ≡ t → fieldsIn (slotBytes x) .tag < 2 ^ k
-      go true q = let y = own-tag-too-large k n (leb-true (2 ^ k) (n .tag) q) in let w = full-node .1 in let z : _≡_ {A = ℕ} 0 1 = cc in absurd (omega arith)
-      go false q = let e = ap (λ (m : Node). m .tag) (full-node .0) in let l = leb-false (2 ^ k) (n .tag) q in omega arith
+  full-tag = let e = ap (λ (m : Node). m .tag) (full-node .0) in let l = well-formed-tag k n (full-node .1) in omega arith
 
 pub empty-reading : (k b : ℕ) (x : Slot) → readSlot k b (slotBytes x) ≡ Empty → wordsFormat .read k b (slotBytes x) ≡ empty
 unfolding wordsFormat wordsOf readingOf

@@ -2,7 +2,7 @@
 use mathlib.Core.Path.{sym, _∙_}
 use borrow.Author.Tests.{not-true, not-false}
 use Rattle.slot_laws.specs.SlotLaws.{slot-length}
-use Rattle.slot_laws.specs.ReadLaws.{all-zero-read, read-wrong-flag, read-wrong-zero1, read-wrong-zero2, read-ill-formed, read-off-path, read-good}
+use Rattle.slot_laws.specs.ReadLaws.{well-formed-tag, all-zero-read, read-wrong-flag, read-wrong-zero1, read-wrong-zero2, read-ill-formed, read-off-path, read-good}
 use Rattle.slot_laws.specs.Ranges.{slot-ranges}
 use Rattle.slot_spec.specs.Slot.{slotBytes}
 use borrow.Author.Needs.{needs}
@@ -37,7 +37,10 @@ cast-passes-bucket : tie.Need-cast-passes-bucket
 cast-passes-bucket c = search needs
 
 passes-bucket-requires : tie.Need-passes-bucket-requires
-passes-bucket-requires c κs = search needs
+passes-bucket-requires c κs =
+    let b = c .before .before .before .before .before .before .before .before .before .before .before .before in
+    let w = c .before .before .well-formed in
+    (b .pre, well-formed-tag (b .args .size) (c .before .before .before .node-of .result) (sym (w .ensures) ∙ not-false (w .result) (c .before .if5 .left)))
 
 returns-6 : tie.Need-returns-6
 returns-6 c = let a = c .before .before .before .before .before .before .before .before .before .before .before .before .before .before .args in sym (read-off-path (a .size) (a .bucket) (a .x) (slot-ranges (a .x) (c .before .before .before .before .before .before .before .struct-known3 .given)) (c .before .before .before .before .before .node-of .result) (c .before .before .before .before .before .node-of .ensures) (c .before .before .before .before .before .before .before .before .before .before .if2 .left) (c .before .before .before .before .before .before .before .before .if3 .left) (c .before .before .before .before .before .before .if4 .left) (sym (c .before .before .before .before .well-formed .ensures) ∙ not-false (c .before .before .before .before .well-formed .result) (c .before .before .before .if5 .left)) (sym (c .before .passes-bucket .ensures) ∙ not-true (c .before .passes-bucket .result) (c .if6 .taken)))

@@ -1,51 +1,43 @@
--- `tree_paths::passes_bucket` meets its contract: by its length the bucket is above the path, below it, or at one level of it.
-use mathlib.Core.Path.{sym}
-use Prim.Native.Nat.{ℕ, _^_, _≤_, _<_}
-use lib.Count.{leading-le}
-use lib.Pow.{pow-mono}
-use Rattle.slot_spec.specs.Tree.{leafBucket}
-use Rattle.slot_laws.specs.TreeLaws.{passes-longer, passes-shorter, passes-there}
+-- `tree_paths::passes_bucket` meets its contract: the bucket is 0, beyond the leaves, or as far from the root as one of the path.
+use mathlib.Core.Path.{sym, _∙_, ap}
+use Prim.Native.Nat.{_-_}
+use lib.Count.{leading-top}
+use lib.Dec.{eqb}
+use Rattle.slot_laws.specs.PathNumbers.{depthOf}
+use Rattle.slot_laws.specs.PathNumberLaws.{shift-reaches, passes-none, passes-beyond, passes-by-shift}
 use borrow.Author.Needs.{needs}
 use native.Mathlib.Omega.{arith}
 use Rattle.tree_paths.proofs.passes_bucket.Statement.{statement}
 use Rattle.tree_paths.proofs.passes_bucket.Tie as tie
 
-small : (k tag : ℕ) → k ≤ 16 → tag < 2 ^ 16 → leafBucket k tag < 2 ^ 64
-small k tag h l = let p : 2 ^ k ≤ 2 ^ 16 = pow-mono {i = k} {j = 16} h in omega arith
-
-leaf-bucket-requires : tie.Need-leaf-bucket-requires
-leaf-bucket-requires c κs = search needs
-
 returns : tie.Need-returns
-returns c =
-    let b = c .before .before in
-    let a = b .args in
-    sym (passes-longer (a .size) (leafBucket (a .size) (a .tag)) (a .bucket) (omega arith) (small (a .size) (a .tag) (b .pre .0) (b .pre .1)) (b .fits .bucket .fits) (let e = c .before .leaf-bucket .ensures in rw e at (c .if1 .taken)))
+returns c = let a = c .before .args in let e = c .if1 .taken in rw e (sym (passes-none (a .size) (a .tag)))
 
-cast-if2 : tie.Need-cast-if2
-cast-if2 c = let l = leading-le 64 (c .before .before .args .bucket) in omega arith
+sub-depth : tie.Need-sub-depth
+sub-depth c =
+    let b = c .before in
+    let t = leading-top 64 (b .args .bucket) (omega (arith, c .if1 .left)) (b .fits .bucket .fits) in
+    omega (arith, t .1)
+
+cast-depth : tie.Need-cast-depth
+cast-depth c = search needs
 
 returns-2 : tie.Need-returns-2
 returns-2 c =
-    let b = c .before .before .before in
+    let b = c .before .before in
     let a = b .args in
-    let e = c .before .before .leaf-bucket .ensures in
-    sym (passes-shorter (a .size) (leafBucket (a .size) (a .tag)) (a .bucket) (omega arith) (small (a .size) (a .tag) (b .pre .0) (b .pre .1)) (b .fits .bucket .fits) (rw e at (c .before .if1 .left)) (rw e at (c .if2 .taken)))
+    sym (passes-beyond (a .size) (a .tag) (a .bucket) (b .pre .1) (omega (arith, c .before .if1 .left)) (b .fits .bucket .fits) (c .if2 .taken))
 
-cast-result : tie.Need-cast-result
-cast-result c = search needs
-
-shr-result : tie.Need-shr-result
-shr-result c = search needs
+path-bucket-requires : tie.Need-path-bucket-requires
+path-bucket-requires c κs = let p = c .before .before .pre in (p .0, p .1, omega arith)
 
 returns-3 : tie.Need-returns-3
 returns-3 c =
     let b = c .before .before .before in
     let a = b .args in
-    let e = c .before .before .leaf-bucket .ensures in
-    rw e (sym (passes-there (a .size) (leafBucket (a .size) (a .tag)) (a .bucket) (omega arith) (small (a .size) (a .tag) (b .pre .0) (b .pre .1)) (b .fits .bucket .fits) (rw e at (c .before .if1 .left)) (rw e at (c .if2 .left))))
+    ap (eqb (a .bucket)) (c .path-bucket .ensures ∙ sym (shift-reaches (a .size) (a .tag) (a .size - depthOf (a .bucket))))
+    ∙ sym (passes-by-shift (a .size) (a .tag) (a .bucket) (b .pre .1) (omega (arith, c .before .before .if1 .left)) (b .fits .bucket .fits) (c .before .if2 .left))
 
 pub passes-bucket-spec : {M : Type 1} → statement M
 passes-bucket-spec =
-    tie.close
-    (tie.spec leaf-bucket-requires returns cast-if2 returns-2 cast-result shr-result returns-3)
+    tie.close (tie.spec returns sub-depth cast-depth returns-2 path-bucket-requires returns-3)

@@ -1,5 +1,5 @@
-//! The checksum of a run of calls that the benchmark compares: bench/README.md
-//! at the repository's root defines it.
+//! The checksum of a run of calls that the benchmark compares, and of the numbers
+//! of paths: bench/README.md at the repository's root defines it.
 
 use crate::paper::{Answer, Outcome};
 

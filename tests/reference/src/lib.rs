@@ -7,7 +7,7 @@
 //! - `walk`, `readout`, `listing`: what the programs print.
 //! - `inputs`, `random`: random inputs of the walk program, from seeds.
 //! - `record`, `stores`: closed stores as bytes, and random ones from seeds.
-//! - `checksum`: what the benchmark compares.
+//! - `checksum`: what the benchmark compares, and `paths` prints.
 
 pub mod checksum;
 pub mod fast;

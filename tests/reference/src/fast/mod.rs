@@ -3,12 +3,14 @@
 mod heap;
 mod map;
 mod node;
+mod path;
 mod read_out;
 mod rounds;
 mod stack;
 mod state;
 
 pub use node::Node;
+pub use path::{passes, path_bucket};
 pub use read_out::read_out;
 pub use state::{open, State};
 

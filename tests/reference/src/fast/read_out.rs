@@ -1,6 +1,7 @@
 //! Reading out a closed store: one pass over the places, one sort of keys.
 
 use super::node::Node;
+use super::path::passes;
 use super::state::State;
 use crate::paper::*;
 
@@ -62,15 +63,12 @@ impl<'a> Found<'a> {
         for (number, node) in state.places[..state.count].iter().enumerate() {
             self.join(node, number, node.is_good(state.size));
         }
-        for level in 0..=state.size {
-            for bucket in 1 << level..2 << level {
-                self.gather_bucket(bucket, state.size - level);
-            }
+        for bucket in 1..2 << state.size {
+            self.gather_bucket(bucket);
         }
     }
 
-    /// A bucket so many levels above the leaves.
-    fn gather_bucket(&mut self, bucket: usize, above: u8) {
+    fn gather_bucket(&mut self, bucket: usize) {
         let size = self.state.size;
         let tree = self.tree;
         let start = BUCKET_BYTES * (bucket - 1);
@@ -79,9 +77,9 @@ impl<'a> Found<'a> {
             if node.is_zero() {
                 continue;
             }
-            let on_path = ((1 << size) + usize::from(node.tag())) >> above == bucket;
             let rank = PLACES + BUCKET_SLOTS * (bucket - 1) + at;
-            self.join(&node, rank, on_path && node.is_good(size));
+            let is_good = passes(node.tag(), size, bucket) && node.is_good(size);
+            self.join(&node, rank, is_good);
         }
     }
 

@@ -79,10 +79,10 @@ pub fn path(leaf: u16, size: u8) -> Vec<usize> {
     buckets
 }
 
-/// Whether the path of a leaf passes a bucket: halving gets to it.
+/// Whether the path of a leaf passes a bucket: halving, down to 1, gets to it.
 pub fn passes(leaf: u16, size: u8, bucket: usize) -> bool {
     let mut reached = leaf_count(size) + usize::from(leaf);
-    while reached > bucket {
+    while reached > bucket.max(1) {
         reached /= 2;
     }
     reached == bucket

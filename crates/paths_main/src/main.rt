@@ -1,5 +1,5 @@
 // The buckets of every path of sizes 1 to 15, and which buckets the paths pass. Prints for each size a checksum of the numbers, leaf
-// by leaf and from the leaf up, and one of the tests. tests/README.md says more; tests/compare compares it.
+// by leaf and from the leaf up, and one of the tests, which tests/compare compares.
 use libc::STDOUT_FILENO;
 use tree_paths::leaves;
 use tree_paths::passes_bucket;

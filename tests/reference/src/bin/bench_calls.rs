@@ -39,7 +39,7 @@ fn main() -> io::Result<()> {
         })?,
         Some("floor") => each_call(input, leaves, |ticket, tape| {
             for &leaf in &tape[..leaves] {
-                copy_path(&mut tree, &mut path, usize::from(size), usize::from(leaf));
+                copy_path(&mut tree, &mut path, size, leaf);
             }
             join_read(&mut sum, ticket, &tape[..leaves]);
         })?,
@@ -92,9 +92,9 @@ fn join_read(sum: &mut Checksum, ticket: &[u8], leaves: &[u16]) {
 }
 
 /// Copies a path's buckets out of the tree, and in again.
-fn copy_path(tree: &mut [u8], path: &mut [u8], size: usize, leaf: usize) {
-    let path = &mut path[..BUCKET_BYTES * (size + 1)];
-    let start = |level: usize| BUCKET_BYTES * ((((1 << size) + leaf) >> level) - 1);
+fn copy_path(tree: &mut [u8], path: &mut [u8], size: u8, leaf: u16) {
+    let path = &mut path[..BUCKET_BYTES * (usize::from(size) + 1)];
+    let start = |level: usize| BUCKET_BYTES * (fast::path_bucket(leaf, size, level as u8) - 1);
     for (level, bucket) in path.chunks_exact_mut(BUCKET_BYTES).enumerate() {
         bucket.copy_from_slice(&tree[start(level)..][..BUCKET_BYTES]);
     }

@@ -21,6 +21,6 @@ levels k = levelsFrom (suc k) 0
 abbrev pub AtLevel : (size level bucket : ℕ) → Type 0
 AtLevel k i b = (2 ^ (k - i) ≤ b) × (b < 2 * 2 ^ (k - i))
 
--- How far from the root a bucket is: the length of its number, less one.
+-- How far from the root a bucket is: the length of its number, less one. Of 0 it says nothing.
 abbrev pub depthOf : (bucket : ℕ) → ℕ
 depthOf b = 63 - leadingZeros 64 b

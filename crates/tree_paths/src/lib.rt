@@ -13,7 +13,7 @@ pub fn leaves(size: usize) -> usize
 }
 
 // Document 01's "leaf t is bucket 2^k + t".
-pub fn leaf_bucket(size: usize, leaf: usize) -> usize
+fn leaf_bucket(size: usize, leaf: usize) -> usize
     requires { ⌜ (size ≤ 16) × (leaf < 2 ^ size) ⌝ }
     ensures { λ r. ⌜ r ≡ leafBucket size leaf ⌝ }
 {

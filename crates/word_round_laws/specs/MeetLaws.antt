@@ -15,8 +15,8 @@ use lib.Pow.{pow-mono, pow-pos}
 use borrow.Author.Tests.{ltb-true, ltb-false, le-leb, lt-leb, leb-true, leb-false, eq-eqb, ne-eqb}
 use Rattle.list_spec.specs.Choice.{pick}
 use Rattle.slot_spec.specs.Tree.{passes, leafBucket, pathBucket, path}
-use Rattle.slot_laws.specs.TreeLaws.{halvings-at, halvings-length, halved-shift}
-use Rattle.slot_laws.specs.PathNumberLaws.{passes-at-level}
+use Rattle.slot_laws.specs.TreeLaws.{halvings-at, halvings-length}
+use Rattle.slot_laws.specs.PathNumberLaws.{shift-reaches, passes-at-level}
 use Rattle.round_spec.specs.Format.{Format}
 use Rattle.word_round_laws.specs.PathLaws.{path-at-level}
 use Rattle.word_round_laws.specs.Fill.{meeting, crowded, roomFrom, home}
@@ -81,7 +81,7 @@ meeting-within k t tag s p q = go (ltb k (meeting t tag)) refl
 pub passes-met : (k t tag i : ℕ) → k ≤ 15 → t < 2 ^ k → tag < 2 ^ k → i ≤ k → passes k tag (pathBucket k t i) ≡ leb (meeting t tag) i
 passes-met k t tag i s p q l =
     passes-at-level k tag i (pathBucket k t i) q l (path-at-level k t i p l)
-    ∙ rw (halved-shift i (leafBucket k t)) (same (leb (meeting t tag) i) refl)
+    ∙ rw (← shift-reaches k t i) (same (leb (meeting t tag) i) refl)
   where
     same : (r : Bool) → leb (meeting t tag) i ≡ r → eqb ((2 ^ k + t) / 2 ^ i) ((2 ^ k + tag) / 2 ^ i) ≡ r
     same true e =

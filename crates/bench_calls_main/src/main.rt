@@ -5,6 +5,7 @@ use call_draws::draws_of;
 use call_draws::rounds_of;
 use call_spec::Called;
 use call_spec::Reply;
+use checksums::join;
 use libc::STDERR_FILENO;
 use libc::STDIN_FILENO;
 use libc::STDOUT_FILENO;
@@ -30,14 +31,6 @@ struct Made {
     state: State,
     sum: u64,
     bytes: usize,
-}
-
-// A number joins a checksum, by a step of xorshift.
-fn join(sum: u64, number: u64) -> u64 {
-    let a = sum ^ number;
-    let b = a ^ (a << 13);
-    let c = b ^ (b >> 7);
-    c ^ (c << 17)
 }
 
 fn join_answer(sum: u64, answer: Answer) -> u64 {

@@ -1,6 +1,8 @@
 // Rounds over a tree of size 8 with 255 nodes, as many as the first argument says: each takes a node out by a round of its leaf,
 // and then it waits again under a new pseudo-random tag. Prints checksums of the leaves, the waiting nodes and the tree.
 // bench/rounds.c does the same in C.
+use checksums::join;
+use checksums::xorshift;
 use libc::STDOUT_FILENO;
 use path_reader::Wish;
 use slot_fields::no_link;
@@ -34,13 +36,6 @@ struct Turns {
     waiting: usize,
     seed: u64,
     leaves: u64,
-}
-
-// The next pseudo-random number (xorshift).
-fn next(x: u64) -> u64 {
-    let a = x ^ (x << 13);
-    let b = a ^ (a >> 7);
-    b ^ (b << 17)
 }
 
 fn wide(x: u8) -> u64
@@ -114,7 +109,7 @@ fn fill(
     let mut x = SEED;
     let mut i = 0;
     while i < NODES {
-        x = next(x);
+        x = xorshift(x);
         let tag = (x % 256) as u8;
         tags[i] = tag;
         let leaf = (x / 256 % 256) as u8;
@@ -151,12 +146,12 @@ fn run(
     let mut leaves = 1;
     let mut i = 0;
     while i < rounds {
-        x = next(x);
+        x = xorshift(x);
         let key = (x / 4294967296 % 255) as usize;
         let tag = tags[key];
         let new_tag = (x % 256) as u8;
         tags[key] = new_tag;
-        leaves = next(leaves ^ wide(tag));
+        leaves = join(leaves, wide(tag));
         let r = take_round(
             w,
             n,
@@ -185,7 +180,7 @@ fn checksum_bytes(bytes: &[u8]) -> u64 {
     let mut sum = 1;
     let mut i = 0;
     while i < bytes.len() {
-        sum = next(sum ^ wide(bytes[i]));
+        sum = join(sum, wide(bytes[i]));
         i += 1;
     }
     sum
@@ -199,7 +194,7 @@ fn checksum_waiting(w: &[u64; WORDS], n: usize) -> u64
     let mut sum = 1;
     let mut i = 0;
     while i < words {
-        sum = next(sum ^ w[i]);
+        sum = join(sum, w[i]);
         i += 1;
     }
     sum

@@ -5,6 +5,7 @@ use super::rows::short;
 use super::states::link;
 use super::states::node;
 use bucket_writer::write_slot;
+use checksums::join;
 ghost use mathlib.Core.Path.{_≡_};
 ghost use lib.ListN.{length};
 
@@ -25,12 +26,8 @@ pub fn put_slot(row: &[usize; 128], tree: &mut [u8]) {
     write_slot(tree, at, n);
 }
 
-// A byte joins a checksum, by a step of xorshift.
-fn join(sum: u64, byte: u8) -> u64 {
-    let a = sum ^ byte as u64;
-    let b = a ^ (a << 13);
-    let c = b ^ (b >> 7);
-    c ^ (c << 17)
+fn join_byte(sum: u64, byte: u8) -> u64 {
+    join(sum, byte as u64)
 }
 
 // A checksum, by which a tree is seen to be as it was; that of zero bytes is 0.
@@ -38,7 +35,7 @@ pub fn checksum(tree: &[u8]) -> u64 {
     let mut sum = 0;
     let mut i = 0;
     while i < tree.len() {
-        sum = join(sum, tree[i]);
+        sum = join_byte(sum, tree[i]);
         i += 1;
     }
     sum

@@ -1,5 +1,6 @@
 // The buckets of every path of sizes 1 to 15, and which buckets the paths pass. Prints for each size a checksum of the numbers, leaf
 // by leaf and from the leaf up, and one of the tests, which tests/compare compares.
+use checksums::join;
 use libc::STDOUT_FILENO;
 use tree_paths::leaves;
 use tree_paths::passes_bucket;
@@ -11,14 +12,6 @@ const LARGEST_SIZE: usize = 15;
 struct Sums {
     numbers: u64,
     tests: u64,
-}
-
-// A number joins a checksum, by a step of xorshift.
-fn join(sum: u64, n: u64) -> u64 {
-    let x = sum ^ n;
-    let a = x ^ (x << 13);
-    let b = a ^ (a >> 7);
-    b ^ (b << 17)
 }
 
 // A test joins: twice the bucket's number, and one more if the leaf's path passes it.

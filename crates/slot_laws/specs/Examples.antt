@@ -19,7 +19,7 @@ last-leaf = refl
 pub below-the-root : shiftedBucket 15 32767 14 ≡ 3
 below-the-root = refl
 
--- Size 2: buckets 2 and 3 are of level 1, two levels from the leaves is bucket 1.
+-- Size 2: buckets 2 and 3 are of level 1.
 pub level-one : AtLevel 2 1 2 × AtLevel 2 1 3
 level-one = ((omega arith, omega arith), (omega arith, omega arith))
 

@@ -20,8 +20,8 @@ shared-slice-read-wide c = search needs
 wide-requires : tie.Need-wide-requires Inv-loop μ-loop
 wide-requires c κs = search needs
 
-next-requires : tie.Need-next-requires Inv-loop μ-loop
-next-requires c κs = search needs
+join-requires : tie.Need-join-requires Inv-loop μ-loop
+join-requires c κs = search needs
 
 add-i : tie.Need-add-i Inv-loop μ-loop
 add-i c = search needs
@@ -44,7 +44,7 @@ checksum-bytes-spec =
     loop-holds
     shared-slice-read-wide
     wide-requires
-    next-requires
+    join-requires
     add-i
     loop-less
     loop-again

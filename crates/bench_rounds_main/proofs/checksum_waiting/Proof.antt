@@ -17,14 +17,14 @@ mul-words c = search needs
 loop-holds : tie.Need-loop-holds Inv-loop μ-loop
 loop-holds c = search needs
 
-mul-next : tie.Need-mul-next Inv-loop μ-loop
-mul-next c = search needs
+mul-join : tie.Need-mul-join Inv-loop μ-loop
+mul-join c = search needs
 
-element-copy-out-next : tie.Need-element-copy-out-next Inv-loop μ-loop
-element-copy-out-next c = search needs
+element-copy-out-join : tie.Need-element-copy-out-join Inv-loop μ-loop
+element-copy-out-join c = search needs
 
-next-requires : tie.Need-next-requires Inv-loop μ-loop
-next-requires c κs = search needs
+join-requires : tie.Need-join-requires Inv-loop μ-loop
+join-requires c κs = search needs
 
 add-i : tie.Need-add-i Inv-loop μ-loop
 add-i c = search needs
@@ -46,9 +46,9 @@ checksum-waiting-spec =
     μ-loop
     mul-words
     loop-holds
-    mul-next
-    element-copy-out-next
-    next-requires
+    mul-join
+    element-copy-out-join
+    join-requires
     add-i
     loop-less
     loop-again

@@ -19,8 +19,8 @@ abbrev μ-loop : tie.MeasureT-loop
 loop-holds : tie.Need-loop-holds Inv-loop μ-loop
 loop-holds c = search needs
 
-next-requires : tie.Need-next-requires Inv-loop μ-loop
-next-requires c κs = search needs
+xorshift-requires : tie.Need-xorshift-requires Inv-loop μ-loop
+xorshift-requires c κs = search needs
 
 cast-tag : tie.Need-cast-tag Inv-loop μ-loop
 cast-tag c = search needs
@@ -78,7 +78,7 @@ fill-spec =
     Inv-loop
     μ-loop
     loop-holds
-    next-requires
+    xorshift-requires
     cast-tag
     element-write-tags
     cast-leaf

@@ -19,8 +19,8 @@ abbrev μ-loop : tie.MeasureT-loop
 loop-holds : tie.Need-loop-holds Inv-loop μ-loop
 loop-holds c = search needs
 
-next-requires : tie.Need-next-requires Inv-loop μ-loop
-next-requires c κs = search needs
+xorshift-requires : tie.Need-xorshift-requires Inv-loop μ-loop
+xorshift-requires c κs = search needs
 
 element-copy-out-tag : tie.Need-element-copy-out-tag Inv-loop μ-loop
 element-copy-out-tag c = search needs
@@ -34,8 +34,8 @@ element-write-tags c = search needs
 wide-requires : tie.Need-wide-requires Inv-loop μ-loop
 wide-requires c κs = search needs
 
-next-requires-2 : tie.Need-next-requires-2 Inv-loop μ-loop
-next-requires-2 c κs = search needs
+join-requires : tie.Need-join-requires Inv-loop μ-loop
+join-requires c κs = search needs
 
 cast-take-round : tie.Need-cast-take-round Inv-loop μ-loop
 cast-take-round c = search needs
@@ -87,12 +87,12 @@ run-spec =
     Inv-loop
     μ-loop
     loop-holds
-    next-requires
+    xorshift-requires
     element-copy-out-tag
     cast-new-tag
     element-write-tags
     wide-requires
-    next-requires-2
+    join-requires
     cast-take-round
     as-tag-requires
     as-tag-requires-2

@@ -14,11 +14,11 @@ abbrev μ-loop : tie.MeasureT-loop
 loop-holds : tie.Need-loop-holds Inv-loop μ-loop
 loop-holds c = search needs
 
-shared-slice-read-join : tie.Need-shared-slice-read-join Inv-loop μ-loop
-shared-slice-read-join c = search needs
+shared-slice-read-join-byte : tie.Need-shared-slice-read-join-byte Inv-loop μ-loop
+shared-slice-read-join-byte c = search needs
 
-join-requires : tie.Need-join-requires Inv-loop μ-loop
-join-requires c κs = search needs
+join-byte-requires : tie.Need-join-byte-requires Inv-loop μ-loop
+join-byte-requires c κs = search needs
 
 add-i : tie.Need-add-i Inv-loop μ-loop
 add-i c = search needs
@@ -39,8 +39,8 @@ checksum-spec =
     Inv-loop
     μ-loop
     loop-holds
-    shared-slice-read-join
-    join-requires
+    shared-slice-read-join-byte
+    join-byte-requires
     add-i
     loop-less
     loop-again

@@ -1,0 +1,2 @@
+pub mod Xorshift
+pub mod Examples

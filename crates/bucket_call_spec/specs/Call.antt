@@ -3,12 +3,12 @@ use Prim.Native.Nat.{ℕ, zero, suc, _%_, _^_}
 use mathlib.Core.List.{List, []}
 use mathlib.Core.Option.{some}
 use lib.ListN.{getD}
-use Rattle.method_spec.specs.Node.{Link, Node}
+use Rattle.method_spec.specs.Node.{Link, Ahead, Node}
 use Rattle.method_spec.specs.Prog.{done, want}
 use Rattle.method_spec.specs.Answer.{Structure, Op}
-use Rattle.method_spec.specs.Rounds.{spareDraw, putDraw}
+use Rattle.method_spec.specs.Rounds.{putDraw}
 use Rattle.method_spec.specs.Map.{Outcome}
-use Rattle.method_spec.specs.Call.{capacity, program}
+use Rattle.method_spec.specs.Call.{capacity, program, aheadAfter, spareTags}
 use Rattle.round_spec.specs.Round.{join}
 use Rattle.leaf_spec.specs.Leaf.{leafFormat}
 use Rattle.bucket_call_spec.specs.Fetch.{Going, Left, Round, on, shut, closing, idleRound, fetchRounds}
@@ -21,6 +21,7 @@ drawOf k tape d = getD tape d 0 % 2 ^ k
 pub record Store : Type 0 where
   pub entries : ℕ
   pub root : Link ℕ
+  pub ahead : Ahead ℕ
   pub waiting : List (Node ℕ)
   pub tree : List ℕ
 
@@ -33,13 +34,15 @@ putRounds k draw (suc n) d o g = next (idleRound k (draw d) (done o) g) (λ g. p
     next (shut m g) f = shut m g
     next (on g p) f = f g
 
-unfoldable pub afterPuts : Outcome ℕ → Round (Outcome ℕ) → Left
-afterPuts o (shut m g) = closing m (o .entries) (o .root) g
-afterPuts o (on g p) =
+-- What is known ahead is, with the step, as after it.
+unfoldable pub afterPuts : Ahead ℕ → Outcome ℕ → Round (Outcome ℕ) → Left
+afterPuts a o (shut m g) = closing m (o .entries) (o .root) a g
+afterPuts a o (on g p) =
     record {
       mark = 0;
       entries = o .entries;
       root = o .root;
+      ahead = a;
       waiting = g .waiting;
       tree = g .tree;
       leaves = g .leaves;
@@ -52,19 +55,24 @@ stepped o g =
     record { tree = g .tree; waiting = join leafFormat (o .nodes) (g .waiting); held = []; leaves = g .leaves }
 
 -- After the fetch rounds. A program that still wants a node was longer than they are: the fetch tests rule that out for a
--- store that fits; the definition calls it damage.
-unfoldable pub afterFetches : Structure → (size rounds : ℕ) → (draw : ℕ → ℕ) → Store → Round (Outcome ℕ) → Left
-afterFetches s k F draw st (shut m g) = closing m (st .entries) (st .root) g
-afterFetches s k F draw st (on g (want w c)) = closing 8 (st .entries) (st .root) g
-afterFetches s k F draw st (on g (done o)) = afterPuts o (putRounds k draw F (putDraw s F 0) o (stepped o g))
+-- store that fits; the definition calls it damage. What is known ahead is `a` after the step, and before it as it was.
+unfoldable pub afterFetches : Structure → (size rounds : ℕ) → (draw : ℕ → ℕ) → Store → Ahead ℕ → Round (Outcome ℕ) → Left
+afterFetches s k F draw st a (shut m g) = closing m (st .entries) (st .root) (st .ahead) g
+afterFetches s k F draw st a (on g (want w c)) = closing 8 (st .entries) (st .root) (st .ahead) g
+afterFetches s k F draw st a (on g (done o)) = afterPuts a o (putRounds k draw F (putDraw s F 0) o (stepped o g))
 
 -- Where F fetch rounds come to: a round that closed the store, or the step. The spare draws come after those of the fetch rounds.
 abbrev pub fetchedBy : {s : Structure} → (size rounds : ℕ) → Op s → (draw : ℕ → ℕ) → Store → Round (Outcome ℕ)
 fetchedBy {s} k F op draw st =
     fetchRounds s (st .entries) k draw F 0
-    (program 0 op (λ i. draw (spareDraw F i)) (capacity k) (st .entries) (st .root))
+    (program 0 op (spareTags F draw) (capacity k) (st .entries) (st .ahead) (st .root))
     (record { tree = st .tree; waiting = st .waiting; held = []; leaves = [] })
+
+-- What is known ahead after the step.
+abbrev pub aheadThen : {s : Structure} → (size rounds : ℕ) → Op s → (draw : ℕ → ℕ) → Store → Ahead ℕ
+aheadThen k F op draw st = aheadAfter 0 op (spareTags F draw) (capacity k) (st .entries) (st .ahead)
 
 -- One call with F fetch and F put rounds. Fetch round i uses draw i; the draws of the put rounds come after the spare ones.
 unfoldable pub bucketCall : {s : Structure} → (size rounds : ℕ) → Op s → (draw : ℕ → ℕ) → Store → Left
-bucketCall {s} k F op draw st = afterFetches s k F draw st (fetchedBy k F op draw st)
+bucketCall {s} k F op draw st =
+    afterFetches s k F draw st (aheadThen k F op draw st) (fetchedBy k F op draw st)

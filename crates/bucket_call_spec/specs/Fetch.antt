@@ -6,7 +6,7 @@ use mathlib.Core.Option.{Option, none, some}
 use lib.Dec.{eqb}
 use lib.ListN.{length}
 use Rattle.list_spec.specs.Choice.{pick}
-use Rattle.method_spec.specs.Node.{Link, Node, retag}
+use Rattle.method_spec.specs.Node.{Link, Ahead, Node, retag}
 use Rattle.method_spec.specs.Prog.{From, root, side, Want, Prog, done, want}
 use Rattle.method_spec.specs.Answer.{Structure, Answer}
 use Rattle.method_spec.specs.Call.{test}
@@ -30,6 +30,7 @@ pub record Left : Type 0 where
   pub mark : ℕ
   pub entries : ℕ
   pub root : Link ℕ
+  pub ahead : Ahead ℕ
   pub waiting : List (Node ℕ)
   pub tree : List ℕ
   pub leaves : List ℕ
@@ -60,12 +61,13 @@ abbrev pub movedNodes : List Held → List (Node ℕ)
 movedNodes hs = map (λ (h : Held). movedNode hs (h .node)) hs
 
 -- ---- closing during the fetch rounds: the held nodes join those waiting, with only tags moved
-unfoldable pub closing : ℕ → ℕ → Link ℕ → Going → Left
-closing mark entries l g =
+unfoldable pub closing : ℕ → ℕ → Link ℕ → Ahead ℕ → Going → Left
+closing mark entries l a g =
     record {
       mark = mark;
       entries = entries;
       root = movedLink (g .held) root l;
+      ahead = a;
       waiting = join leafFormat (movedNodes (g .held)) (g .waiting);
       tree = g .tree;
       leaves = g .leaves;

@@ -14,11 +14,12 @@ use Rattle.leaf_spec.specs.Leaf.{leafFormat, ProperLeaf}
 use Rattle.bucket_call_spec.specs.Fetch.{Going, Round, on, shut}
 use Rattle.bucket_call_spec.specs.Call.{Store}
 
--- The same entries and root link; the memory's nodes are, in another order, those of the tree and those that wait; the store is kept;
+-- The same entries, root link and what is known ahead; the memory's nodes are, in another order, those of the tree and those that wait; the store is kept;
 -- and at most 64 wait, in ascending order of keys.
 pub record Simulates (k : ℕ) (st : Store) (m : Memory ℕ) : Type 0 where
   pub entries : st .entries ≡ m .entries
   pub root : st .root ≡ m .root
+  pub ahead : st .ahead ≡ m .ahead
   pub there : Perm (m .nodes) (contents leafFormat k (st .tree) ++ st .waiting)
   pub kept : Kept leafFormat ProperLeaf k (st .tree) (st .waiting) []
   pub few : length (st .waiting) ≤ limit

@@ -8,19 +8,19 @@ use lib.ListN.{length, drop, replicate}
 use Rattle.list_spec.specs.Choice.{pick}
 use Rattle.slot_spec.specs.Tree.{treeLength}
 use Rattle.method_spec.specs.Node.{Node}
-use Rattle.method_spec.specs.Answer.{Structure, Op, Answer, found, absent, replaced, new, removed, pushed, popped, added, taken, empty, full}
+use Rattle.method_spec.specs.Answer.{Structure, Op, Answer, found, absent, replaced, new, removed, pushed, popped, added, taken, queued, dequeued, empty, full}
 use Rattle.method_spec.specs.Rounds.{rounds, draws}
-use Rattle.leaf_spec.specs.Convert.{toLink, fromLink, toNode, fromNode}
+use Rattle.leaf_spec.specs.Convert.{toLink, fromLink, toAhead, fromAhead, toNode, fromNode}
 use Rattle.bucket_call_spec.specs.Fetch.{Left}
 use Rattle.bucket_call_spec.specs.Call as bucket
 use Rattle.bucket_call_spec.specs.Call.{drawOf, bucketCall}
-use Rattle.operation_spec.specs.declared.Answer.the-variants.{Found, Absent, Replaced, New, Removed, Pushed, Popped, Added, Taken, Empty}
+use Rattle.operation_spec.specs.declared.Answer.the-variants.{Found, Absent, Replaced, New, Removed, Pushed, Popped, Added, Taken, Queued, Dequeued, Empty}
 use Rattle.state_spec.specs.declared.Place.{Place}
 use Rattle.state_spec.specs.declared.State.{State}
 use Rattle.call_spec.specs.declared.Reply.{Reply}
 use Rattle.call_spec.specs.declared.Reply.the-variants.{Answered, Refused}
 use Rattle.state_spec.specs.Fit.{fits, used, places, noPlace}
-use Rattle.state_spec.specs.Ticket.{ticketLength, opIn, structureOf}
+use Rattle.state_spec.specs.Ticket.{ticketLength, opIn, structureOf, outOfKeys}
 
 -- ---- states
 abbrev pub placed : List (Node ℕ) → List Place
@@ -45,6 +45,8 @@ replyOf pushed = Answered Pushed
 replyOf (popped v) = Answered (Popped v)
 replyOf added = Answered Added
 replyOf (taken v) = Answered (Taken v)
+replyOf queued = Answered Queued
+replyOf (dequeued v) = Answered (Dequeued v)
 replyOf empty = Answered Empty
 replyOf full = Refused 10
 
@@ -58,6 +60,7 @@ storeOf s tree =
     record {
       entries = s .entries;
       root = toLink (s .root);
+      ahead = toAhead (s .ahead);
       waiting = map (λ (p : Place). toNode (p .node)) (used s);
       tree = tree;
     }
@@ -70,11 +73,12 @@ stateLeft s l =
       size = s .size;
       entries = l .entries;
       root = fromLink (l .root);
+      ahead = fromAhead (l .ahead);
       count = length (l .waiting);
       places = placed (l .waiting);
     }
 
--- A refusal 1 to 7 changes nothing and reveals no leaf.
+-- A refusal 1 to 7 or 17 changes nothing and reveals no leaf.
 abbrev pub refusing : ℕ → State → List ℕ → List ℕ → Ended
 refusing n s tree trace = record { state = s; reply = Refused n; leaves = 0; tree = tree; trace = trace }
 
@@ -88,13 +92,14 @@ ending s trace l =
       trace = l .leaves ++ drop (length (l .leaves)) trace;
     }
 
--- The calls of a structure, after the ticket's length: 5 kind, 6 tape, 7 trace, then the rounds.
+-- The calls of a structure, after the ticket's length: 5 kind, 17 keys, 6 tape, 7 trace, then the rounds.
 unfoldable pub callWith : (st : Structure) → State → (tree tape trace : List ℕ) → Option (Op st) → Ended
 callWith st s tree tape trace none = refusing 5 s tree trace
 callWith st s tree tape trace (some op) =
-    pick (ltb (length tape) (draws st (s .size))) (refusing 6 s tree trace)
+    pick (outOfKeys op (s .ahead .key)) (refusing 17 s tree trace)
+    (pick (ltb (length tape) (draws st (s .size))) (refusing 6 s tree trace)
     (pick (ltb (length trace) (2 * rounds st (s .size))) (refusing 7 s tree trace)
-    (ending s trace (bucketCall (s .size) (rounds st (s .size)) op (drawOf (s .size) tape) (storeOf s tree))))
+    (ending s trace (bucketCall (s .size) (rounds st (s .size)) op (drawOf (s .size) tape) (storeOf s tree)))))
 
 -- One call: 1 closed mark, 2 unfit state, 3 tree length, 4 ticket length, then the structure's.
 unfoldable pub called : State → (tree ticket tape trace : List ℕ) → Ended

@@ -37,17 +37,17 @@ use Rattle.call_spec.specs.declared.Reply.the-variants.{Refused}
 use Rattle.call_spec.specs.Store.{Ended, called, refusing, storeOf, replyOf}
 use Rattle.state_spec.specs.Widths.{Widths}
 use Rattle.leaf_spec.specs.Entries.{pairOf}
-use Rattle.demand_spec.specs.History.{Brought, Kept, callOn, history, finally, untilClosed, counted, replies, traceOf, opsIn, tapesOf, pairsIn, numberOf}
+use Rattle.demand_spec.specs.History.{Brought, Kept, callOn, history, finally, untilClosed, changesNothing, counted, replies, traceOf, opsIn, tapesOf, pairsIn, numberOf}
 
 -- ---- demand 1: any state, tree, ticket, tape and trace buffer
 module _ (s : State) (tree ticket tape trace : List ℕ) where
-  -- One answer, or one refusal 1 to 10.
+  -- One answer, or one refusal 1 to 10 or 17.
   abbrev pub OneReply : Type 0
-  OneReply = (n : ℕ) → called s tree ticket tape trace .reply ≡ Refused n → (1 ≤ n) × (n ≤ 10)
+  OneReply = (n : ℕ) → called s tree ticket tape trace .reply ≡ Refused n → ((1 ≤ n) × (n ≤ 10)) ⊎ (n ≡ 17)
 
-  -- Refusals 1 to 7 change nothing and reveal no leaf.
+  -- Refusals 1 to 7 and 17 change nothing and reveal no leaf.
   abbrev pub Unchanged : Type 0
-  Unchanged = (n : ℕ) → called s tree ticket tape trace .reply ≡ Refused n → n ≤ 7 → called s tree ticket tape trace ≡ refusing n s tree trace
+  Unchanged = (n : ℕ) → called s tree ticket tape trace .reply ≡ Refused n → changesNothing n ≡ true → called s tree ticket tape trace ≡ refusing n s tree trace
 
   -- After 8 or 9 the mark is set, and every later call, whatever it brings, gives 1 and changes nothing.
   abbrev pub StaysClosed : Type 0

@@ -1,4 +1,4 @@
--- `untilClosed` on worked calls.
+-- `untilClosed` and `counted` on worked calls.
 use mathlib.Core.Path.{_≡_, refl}
 use Prim.Native.Nat.{ℕ}
 use mathlib.Core.List.{[], _∷_, _++_}
@@ -14,17 +14,18 @@ use Rattle.round_spec.specs.Round.{withBucket, noneTwice, allGood, readBucket, 
 use Rattle.method_spec.specs.Prog.{bind}
 use Rattle.method_spec.specs.Answer.{stack}
 use Rattle.method_spec.specs.Stack.{pushProg, popProg, stackTest}
-use Rattle.method_spec.specs.Call.{program, test}
+use Rattle.method_spec.specs.Queue.{enqueueProg, enqueueAhead, dequeueProg, dequeueAhead, queueTest}
+use Rattle.method_spec.specs.Call.{program, aheadAfter, test}
 use Rattle.method_spec.specs.Rounds.{rounds, spare}
 use Rattle.leaf_spec.specs.Leaf.{readLeaf}
 use Rattle.bucket_call_spec.specs.Fetch.{movedLink, movedNode, closing, atClose, idleRound, tookRound, wantRound, fetchRound, fetchRounds}
 use Rattle.bucket_call_spec.specs.Call.{putRounds, afterPuts, afterFetches, bucketCall}
 use Rattle.list_spec.specs.Ascending.{ascendingFrom, ascending}
-use Rattle.state_spec.specs.Fit.{allOf, rootGood, fits, placesFrom}
+use Rattle.state_spec.specs.Fit.{allOf, rootGood, aheadGood, fits, placesFrom}
 use Rattle.state_spec.specs.Ticket.{opIn}
 use Rattle.state_spec.specs.Opening.{opened}
-use Rattle.call_spec.specs.Store.{called, callWith, replied, replyOf}
-use Rattle.demand_spec.specs.History.{Brought, Kept, callOn, leftBy, untilClosed}
+use Rattle.call_spec.specs.Store.{called, callWith, refusing, replied, replyOf}
+use Rattle.demand_spec.specs.History.{Brought, Kept, callOn, leftBy, untilClosed, early, counted}
 use Rattle.demand_spec.specs.Demands.{openedStore}
 
 -- A ticket of that kind and value, with a tape of three numbers and room for two leaves.
@@ -59,6 +60,32 @@ damaged = record { state = fresh .state; tree = set (fresh .tree) 768 7 }
 abbrev closed : Kept
 closed = leftBy (callOn damaged pushAtThree)
 
+-- A queue of size 2 that has no entries, and no key left: an in with three numbers, an out with three, an out with four.
+abbrev keysGone : Kept
+keysGone =
+    record {
+      state = record {
+        mark = 0;
+        structure = 4;
+        size = 2;
+        entries = 0;
+        root = fresh .state .root;
+        ahead = record { key = 4294967295; tag = 0 };
+        count = 0;
+        places = fresh .state .places;
+      };
+      tree = fresh .tree;
+    }
+
+abbrev inShort : Brought
+inShort = bringing 8 7 1 1 1
+
+abbrev outShort : Brought
+outShort = bringing 9 0 1 1 1
+
+abbrev outNext : Brought
+outNext = record { ticket = outShort .ticket; tape = 1 ∷ 0 ∷ 0 ∷ 3 ∷ []; trace = 0 ∷ 0 ∷ [] }
+
 pub record Worked : Type 0 where
   -- No call closes the store.
   pub all-of-them : untilClosed fresh (pushFifty ∷ popNext ∷ []) ≡ pushFifty ∷ popNext ∷ []
@@ -67,7 +94,11 @@ pub record Worked : Type 0 where
   pub meets-damage : closed .state .mark ≡ 8
   -- The store was closed before the first call.
   pub closed-before : untilClosed closed (pushAtZero ∷ []) ≡ []
+  -- 17 comes before 6, for an in alone; a call refused with 17 or with 6 does not count.
+  pub no-key : callOn keysGone inShort ≡ refusing 17 (keysGone .state) (keysGone .tree) (0 ∷ 0 ∷ [])
+  pub short-tape : callOn keysGone outShort ≡ refusing 6 (keysGone .state) (keysGone .tree) (0 ∷ 0 ∷ [])
+  pub one-counts : counted keysGone (inShort ∷ outShort ∷ outNext ∷ inShort ∷ []) ≡ outNext ∷ []
 
 pub worked : Worked
-unfolding untilClosed opened called callWith replied replyOf fits allOf ascendingFrom ascending rootGood placesFrom opIn rounds spare greatest tallest shaped least bucketCall afterFetches afterPuts putRounds fetchRounds fetchRound wantRound tookRound idleRound atClose closing movedLink movedNode withBucket noneTwice allGood readBucket readBuckets insert join takeFirst tagged granted joined grantedFrom readHalf choose evict halvings among filled encode fieldsOf pack bytes readSlot bad fieldsIn nodeOf fields value allZero wellFormed readLeaf program test pushProg popProg stackTest bind
-worked = record { all-of-them = refl; first-alone = refl; meets-damage = refl; closed-before = refl }
+unfolding untilClosed opened called callWith replied replyOf fits allOf ascendingFrom ascending rootGood aheadGood placesFrom opIn rounds spare greatest tallest shaped least bucketCall afterFetches afterPuts putRounds fetchRounds fetchRound wantRound tookRound idleRound atClose closing movedLink movedNode withBucket noneTwice allGood readBucket readBuckets insert join takeFirst tagged granted joined grantedFrom readHalf choose evict halvings among filled encode fieldsOf pack bytes readSlot bad fieldsIn nodeOf fields value allZero wellFormed readLeaf program aheadAfter test pushProg popProg stackTest enqueueProg enqueueAhead dequeueProg dequeueAhead queueTest early counted bind
+worked = record { all-of-them = refl; first-alone = refl; meets-damage = refl; closed-before = refl; no-key = refl; short-tape = refl; one-counts = refl }

@@ -1,13 +1,13 @@
 -- Lists of calls on a store: document 01's "Origin rule" section, first paragraph.
 use Prim.Native.Nat.{ℕ}
-use mathlib.Core.Bool.{Bool, false}
+use mathlib.Core.Bool.{Bool, false, _||_}
 use mathlib.Core.List.{List, [], _∷_, _++_, map}
 use mathlib.Core.Option.{none, some}
 use lib.Dec.{eqb, leb}
 use lib.ListN.{take}
 use Rattle.leaf_spec.specs.Entries.{pairOf}
 use Rattle.list_spec.specs.Choice.{pick}
-use Rattle.method_spec.specs.Answer.{Structure, map as the-map, stack as the-stack, heap as the-heap, Op}
+use Rattle.method_spec.specs.Answer.{Structure, map as the-map, stack as the-stack, heap as the-heap, queue as the-queue, Op}
 use Rattle.method_spec.specs.Plain.{Pair}
 use Rattle.round_spec.specs.Whole.{contents}
 use Rattle.leaf_spec.specs.Convert.{toNode}
@@ -51,12 +51,16 @@ unfoldable pub untilClosed : Kept → List Brought → List Brought
 untilClosed s [] = []
 untilClosed s (b ∷ bs) = pick (eqb (callOn s b .state .mark) 0) (b ∷ untilClosed (leftBy (callOn s b)) bs) []
 
--- A reply with one of the numbers 1 to 7.
+-- The refusals that change nothing and reveal no leaf: 1 to 7, and 17.
+abbrev pub changesNothing : ℕ → Bool
+changesNothing n = leb n 7 || eqb n 17
+
+-- A reply with one of these numbers.
 unfoldable pub early : Reply → Bool
 early (Answered a) = false
-early (Refused n) = leb n 7
+early (Refused n) = changesNothing n
 
--- "The calls that count are those not refused with 1 to 7": what they brought.
+-- "The calls that count are those not refused with 1 to 7" or 17: what they brought.
 unfoldable pub counted : Kept → List Brought → List Brought
 counted s [] = []
 counted s (b ∷ bs) =
@@ -85,8 +89,9 @@ abbrev pub pairsIn : State → List ℕ → List Pair
 pairsIn s tree =
     map pairOf (contents leafFormat (s .size) tree ++ map (λ (p : Place). toNode (p .node)) (used s))
 
--- The structure's number: 1 map, 2 stack, 3 heap.
+-- The structure's number: 1 map, 2 stack, 3 heap, 4 queue.
 abbrev pub numberOf : Structure → ℕ
 numberOf the-map = 1
 numberOf the-stack = 2
 numberOf the-heap = 3
+numberOf the-queue = 4

@@ -1,15 +1,22 @@
--- The store's links and nodes as the method's, at leaf numbers for tags, and back.
+-- The store's links, nodes and what a queue knows ahead as the method's, at leaf numbers for tags, and back.
 use Prim.Native.Nat.{ℕ}
 use mathlib.Core.Path.{_≡_, refl}
 use Rattle.slot_spec.specs.declared.Link as link
+use Rattle.slot_spec.specs.declared.Ahead as ahead
 use Rattle.slot_spec.specs.declared.Node as node
-use Rattle.method_spec.specs.Node.{Link, Node}
+use Rattle.method_spec.specs.Node.{Link, Ahead, Node}
 
 abbrev pub toLink : link.Link → Link ℕ
 toLink l = record { height = l .height; key = l .key; tag = l .tag }
 
 abbrev pub fromLink : Link ℕ → link.Link
 fromLink l = record { height = l .height; key = l .key; tag = l .tag }
+
+abbrev pub toAhead : ahead.Ahead → Ahead ℕ
+toAhead a = record { key = a .key; tag = a .tag }
+
+abbrev pub fromAhead : Ahead ℕ → ahead.Ahead
+fromAhead a = record { key = a .key; tag = a .tag }
 
 abbrev pub toNode : node.Node → Node ℕ
 toNode n =

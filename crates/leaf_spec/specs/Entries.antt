@@ -1,7 +1,7 @@
 -- The entry of a node, and what a ticket asks within the widths of its fields.
 use Prim.Native.Nat.{_^_, _<_}
 use Rattle.method_spec.specs.Node.{Node}
-use Rattle.method_spec.specs.Answer.{Structure, Op, get, put, remove, push, pop, add, take}
+use Rattle.method_spec.specs.Answer.{Structure, Op, get, put, remove, push, pop, add, take, enqueue, dequeue}
 use Rattle.method_spec.specs.Plain.{Pair}
 
 abbrev pub pairOf : {T : Type 0} → Node T → Pair
@@ -15,3 +15,5 @@ OpFits (push value) = value < 2 ^ 64
 OpFits pop = Unit {0}
 OpFits (add value) = value < 2 ^ 64
 OpFits take = Unit {0}
+OpFits (enqueue value) = value < 2 ^ 64
+OpFits dequeue = Unit {0}

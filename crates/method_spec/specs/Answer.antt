@@ -6,6 +6,7 @@ pub data Structure : Type 0 where
   map : Structure
   stack : Structure
   heap : Structure
+  queue : Structure
 
 -- What a ticket of a structure's own kinds asks; fields that its kind does not use are not here.
 pub data Op : Structure → Type 0 where
@@ -16,6 +17,9 @@ pub data Op : Structure → Type 0 where
   pop : Op stack
   add : (value : ℕ) → Op heap
   take : Op heap
+  -- Document 02's in and out.
+  enqueue : (value : ℕ) → Op queue
+  dequeue : Op queue
 
 pub data Answer : Type 0 where
   found : ℕ → Answer
@@ -27,6 +31,8 @@ pub data Answer : Type 0 where
   popped : ℕ → Answer
   added : Answer
   taken : ℕ → Answer
+  queued : Answer
+  dequeued : ℕ → Answer
   empty : Answer
   full : Answer
 
@@ -41,6 +47,8 @@ numberOf pushed = 0
 numberOf (popped v) = 0
 numberOf added = 0
 numberOf (taken v) = 0
+numberOf queued = 0
+numberOf (dequeued v) = 0
 numberOf empty = 0
 numberOf full = 10
 
@@ -55,5 +63,7 @@ valueOf pushed = none
 valueOf (popped v) = some v
 valueOf added = none
 valueOf (taken v) = some v
+valueOf queued = none
+valueOf (dequeued v) = some v
 valueOf empty = none
 valueOf full = none

@@ -12,20 +12,21 @@ use Rattle.balance_spec.specs.Greatest.{tallest, greatest}
 use Rattle.method_spec.specs.Node.{Link, Node}
 use Rattle.method_spec.specs.Node as node-spec
 use Rattle.method_spec.specs.Prog.{bind}
-use Rattle.method_spec.specs.Answer.{Structure, map, stack, heap, Op, get, put, remove, push, pop, add, take, found, absent, new, removed, full, pushed, popped, added, taken, empty}
+use Rattle.method_spec.specs.Answer.{Structure, map, stack, heap, queue, Op, get, put, remove, push, pop, add, take, enqueue, dequeue, found, absent, new, removed, full, pushed, popped, added, taken, queued, dequeued, empty}
 use Rattle.method_spec.specs.Answer as answers
 use Rattle.method_spec.specs.Map.{start, walk, single, double, turn, raise, climb, unwind, unwound, getStep, getProg, putStep, putProg, lowest, takeOut, removeStep, removeProg}
 use Rattle.method_spec.specs.Stack.{pushProg, popProg}
 use Rattle.method_spec.specs.Heap.{turnsTo, wayTo, descend, settled, rise, topmost, addProg, downward, childOf, sink, replaceRoot, takeProg, heapTest}
+use Rattle.method_spec.specs.Queue.{enqueueProg, enqueueAhead, dequeueProg, dequeueAhead, queueTest}
 use Rattle.list_spec.specs.Perm as perm
-use Rattle.method_spec.specs.Plain.{lookup, store, erase, put-into, getAnswer, removeAnswer, plain, plainAnswers, enter, taken-from, numbered, Entries}
+use Rattle.method_spec.specs.Plain.{lookup, store, erase, put-into, getAnswer, removeAnswer, plain, plainAnswers, enter, taken-from, dequeued-from, numbered, inRow, Entries}
 use Rattle.method_spec.specs.Rounds.{rounds, spare, putDraw, draws}
-use Rattle.method_spec.specs.Call.{capacity, program, emptyMemory, takeKey, fetches, drawsFrom, stepped, answered, call, run, Ran}
+use Rattle.method_spec.specs.Call.{capacity, program, aheadAfter, emptyMemory, takeKey, fetches, drawsFrom, stepped, answered, call, run, Ran}
 use Rattle.method_spec.specs.Origin.{drawn, origins, names, leafOf, leafRun}
 
 -- A store of a size after some calls that each bring that tape. Where this unfolds, so does all that a call computes with.
 unfoldable pub after : {s : Structure} → (size : ℕ) → (tape : ℕ → ℕ) → List (Op s) → Ran ℕ
-unfolding walk single double turn raise climb unwind unwound getStep getProg putStep putProg lowest takeOut removeStep removeProg pushProg popProg turnsTo descend settled rise topmost addProg downward childOf sink replaceRoot takeProg program emptyMemory takeKey fetches drawsFrom stepped answered call run bind least shaped tallest greatest rounds spare origins leafOf leafRun
+unfolding walk single double turn raise climb unwind unwound getStep getProg putStep putProg lowest takeOut removeStep removeProg pushProg popProg turnsTo descend settled rise topmost addProg downward childOf sink replaceRoot takeProg enqueueProg enqueueAhead dequeueProg dequeueAhead program aheadAfter emptyMemory takeKey fetches drawsFrom stepped answered call run bind least shaped tallest greatest rounds spare origins leafOf leafRun
 after {s} size tape ops = run 0 (rounds s size) (capacity size) (λ c. tape) 1 ops (emptyMemory 0)
 
 abbrev zeros : ℕ → ℕ
@@ -53,10 +54,11 @@ map-rounds : list.map (rounds map) (1 ∷ 2 ∷ 3 ∷ 4 ∷ 5 ∷ 6 ∷ 7 ∷ 8 
 unfolding after
 map-rounds = refl
 
--- The draws of a call, and that of the first put round: for a map of size 2 (F = 6), a stack, and a heap of size 2 (F = 6).
+-- The draws of a call, and that of the first put round: for a map of size 2 (F = 6), a stack, a heap of size 2 (F = 6), and a queue.
 worked-draws : (draws map 2 ≡ 13) × (putDraw map 6 0 ≡ 7) × (draws stack 2 ≡ 3) × (putDraw stack 1 0 ≡ 2) × (draws heap 2 ≡ 13)
+    × (draws queue 2 ≡ 4) × (putDraw queue 1 0 ≡ 3)
 unfolding after
-worked-draws = (refl, refl, refl, refl, refl)
+worked-draws = (refl, refl, refl, refl, refl, refl, refl)
 
 -- A fresh map of size 2, get 7, tape 0 to 12.
 get-absent : after 2 (λ d. d % 4) (get 7 ∷ []) .answers ≡ some absent ∷ []
@@ -103,6 +105,7 @@ replaced-memory : after 2 zeros (put 2 20 ∷ put 1 10 ∷ put 3 30 ∷ remove 2
     ≡ record {
       entries = 2;
       root = record { height = 2; key = 3; tag = 0 };
+      ahead = record { key = 0; tag = 0 };
       nodes =
           record {
             key = 3;
@@ -277,6 +280,7 @@ equal-numbers : after 2 (λ d. d) (add 4 ∷ add 4 ∷ []) .memory
     ≡ record {
       entries = 2;
       root = record { height = 1; key = 1; tag = 0 };
+      ahead = record { key = 0; tag = 0 };
       nodes =
           record {
             key = 2;
@@ -297,7 +301,90 @@ equal-numbers : after 2 (λ d. d) (add 4 ∷ add 4 ∷ []) .memory
 unfolding after
 equal-numbers = refl
 
+-- ---- the queue
+
+-- First in, first out; the third out finds none.
+in-and-out : after 2 zeros (enqueue 5 ∷ enqueue 6 ∷ dequeue ∷ dequeue ∷ dequeue ∷ []) .answers
+    ≡ some queued ∷ some queued ∷ some (dequeued 5) ∷ some (dequeued 6) ∷ some empty ∷ []
+unfolding after
+in-and-out = refl
+
+-- The whole memory after two ins whose tapes are 0 1 2 3: the first node has draw 1 as its tag, the second the tag drawn ahead by the
+-- first; the newest's left link, to no node yet, carries the tag drawn ahead.
+two-in : after 2 (λ d. d) (enqueue 5 ∷ enqueue 6 ∷ []) .memory
+    ≡ record {
+      entries = 2;
+      root = record { height = 1; key = 0; tag = 1 };
+      ahead = record { key = 2; tag = 2 };
+      nodes =
+          record {
+            key = 1;
+            value = 6;
+            tag = 2;
+            left = record { height = 1; key = 2; tag = 2 };
+            right = record { height = 0; key = 0; tag = 0 };
+          }
+          ∷ record {
+            key = 0;
+            value = 5;
+            tag = 1;
+            left = record { height = 1; key = 1; tag = 2 };
+            right = record { height = 0; key = 0; tag = 0 };
+          }
+          ∷ [];
+    }
+unfolding after
+two-in = refl
+
+-- With the last one gone root link and tag drawn ahead are zero, and the next unused key stays.
+emptied : after 2 (λ d. d) (enqueue 5 ∷ dequeue ∷ []) .memory
+    ≡ record { entries = 0; root = record { height = 0; key = 0; tag = 0 }; ahead = record { key = 1; tag = 0 }; nodes = [] }
+unfolding after
+emptied = refl
+
+-- A full queue's in answers 10, and keeps all but what its rounds move: nothing, since it fetches none.
+full-queue : after 1 (λ d. d) (enqueue 5 ∷ enqueue 6 ∷ dequeue ∷ []) .answers ≡ some queued ∷ some full ∷ some (dequeued 5) ∷ []
+unfolding after
+full-queue = refl
+
+full-queue-kept : after 1 (λ d. d) (enqueue 5 ∷ enqueue 6 ∷ []) .memory ≡ after 1 (λ d. d) (enqueue 5 ∷ []) .memory
+unfolding after
+full-queue-kept = refl
+
+-- The plain queue of such calls.
+plain-queue : plainAnswers 2 (enqueue 3 ∷ enqueue 5 ∷ enqueue 9 ∷ dequeue ∷ dequeue ∷ dequeue ∷ []) []
+    ≡ queued ∷ queued ∷ full ∷ dequeued 3 ∷ dequeued 5 ∷ empty ∷ []
+unfolding plainAnswers plain dequeued-from
+plain-queue = refl
+
+-- What a plain queue of 7 and 8 holds, as pairs, where the oldest has key 4.
+queue-pairs : Entries queue (7 ∷ 8 ∷ []) (record { key = 4; value = 7 } ∷ record { key = 5; value = 8 } ∷ [])
+unfolding inRow
+queue-pairs = (4, perm.cons _ (perm.cons _ perm.nil))
+
+-- The fetch test of key 1 passes a left link to key 2 and no right one. It refuses a right link, no link, a link to its own key or to
+-- the one after the next, a link of another height.
+queue-tests : list.map (queueTest (start (linkAt 1 1)))
+    (first (linkAt 1 2) (node-spec.absent 0) ∷ first (linkAt 1 2) (linkAt 1 3) ∷ first (node-spec.absent 0) (node-spec.absent 0)
+    ∷ first (linkAt 1 1) (node-spec.absent 0) ∷ first (linkAt 1 3) (node-spec.absent 0) ∷ first (linkAt 2 2) (node-spec.absent 0) ∷ [])
+    ≡ true ∷ false ∷ false ∷ false ∷ false ∷ false ∷ []
+unfolding queueTest
+queue-tests = refl
+
 -- ---- the origin rule
+
+-- In, in, out, out, out: the first out names the first node's draw 1, the second the draw 2 with which the first in drew ahead, the third
+-- its own draw 0. Put rounds name draw 3.
+queue-names : names (rounds queue 2) 2 (enqueue 5 ∷ enqueue 6 ∷ dequeue ∷ dequeue ∷ dequeue ∷ [])
+    ≡ drawn 1 0 ∷ drawn 1 3 ∷ drawn 2 0 ∷ drawn 2 3 ∷ drawn 1 1 ∷ drawn 3 3 ∷ drawn 1 2 ∷ drawn 4 3 ∷ drawn 5 0 ∷ drawn 5 3 ∷ []
+unfolding after
+queue-names = refl
+
+-- The third place of in, out: call 1, draw 1. After the queue has emptied, an in tags its node with its own draw 1 again.
+refilled-names : names (rounds queue 2) 2 (enqueue 5 ∷ dequeue ∷ enqueue 6 ∷ dequeue ∷ [])
+    ≡ drawn 1 0 ∷ drawn 1 3 ∷ drawn 1 1 ∷ drawn 2 3 ∷ drawn 3 0 ∷ drawn 3 3 ∷ drawn 3 1 ∷ drawn 4 3 ∷ []
+unfolding after
+refilled-names = refl
 
 -- A take of three entries names the root, the last position, and then the left child: draws 6 of the calls that made them, but for
 -- the root, which the second and the third add fetched: draw 0 of the third.

@@ -5,6 +5,7 @@ pub mod Plain
 pub mod Map
 pub mod Stack
 pub mod Heap
+pub mod Queue
 pub mod Rounds
 pub mod Call
 pub mod Origin

@@ -14,9 +14,18 @@ pub record Node (T : Type 0) : Type 0 where
   pub left : Link T
   pub right : Link T
 
+-- What a queue knows of the node that comes next: its key, the next unused one, and its tag, drawn ahead. The other structures keep
+-- key 0 and no tag.
+pub record Ahead (T : Type 0) : Type 0 where
+  pub key : ℕ
+  pub tag : T
+
 -- Height 0: no link. Its tag says nothing; nobody follows it.
 abbrev pub absent : {T : Type 0} → T → Link T
 absent nil = record { height = 0; key = 0; tag = nil }
+
+abbrev pub noneAhead : {T : Type 0} → T → Ahead T
+noneAhead nil = record { key = 0; tag = nil }
 
 module _ {T : Type 0} where
   -- A side is a Bool: true is left, false is right.
@@ -45,6 +54,10 @@ module _ {T : Type 0} where
   abbrev pub linkTo : Node T → Link T
   linkTo n = record { height = heightOf n; key = n .key; tag = n .tag }
 
-  -- The link of height 1 to a node, as stack and heap have them.
+  -- The link of height 1 to a node, as stack, heap and queue have them.
   abbrev pub linkOne : Node T → Link T
   linkOne n = record { height = 1; key = n .key; tag = n .tag }
+
+  -- The link to the node that comes next.
+  abbrev pub linkAhead : Ahead T → Link T
+  linkAhead a = record { height = 1; key = a .key; tag = a .tag }

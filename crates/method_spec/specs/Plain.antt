@@ -1,13 +1,13 @@
--- The plain machines: a table with one value for each key, kept in ascending order of keys; a stack that is a list; and a heap that
--- is a collection of numbers with repeats, kept ascending, so that equal collections are equal lists.
+-- The plain machines: a table with one value for each key, kept in ascending order of keys; a stack that is a list; a heap that is a
+-- collection of numbers with repeats, kept ascending, so that equal collections are equal lists; and a queue that is a list, oldest first.
 use Prim.Native.Nat.{suc, ℕ}
-use mathlib.Core.List.{List, [], _∷_}
+use mathlib.Core.List.{List, [], _∷_, _++_}
 use mathlib.Core.Option.{Option, none, some}
 use lib.Dec.{eqb, ltb, leb}
 use lib.ListN.{length}
 use Rattle.list_spec.specs.Choice.{pick}
 use Rattle.list_spec.specs.Perm.{Perm}
-use Rattle.method_spec.specs.Answer.{Structure, map, stack, heap, Op, get, put, remove, push, pop, add, take, Answer, found, absent, replaced, new, removed, pushed, popped, added, taken, empty, full}
+use Rattle.method_spec.specs.Answer.{Structure, map, stack, heap, queue, Op, get, put, remove, push, pop, add, take, enqueue, dequeue, Answer, found, absent, replaced, new, removed, pushed, popped, added, taken, queued, dequeued, empty, full}
 
 pub record Pair : Type 0 where
   pub key : ℕ
@@ -39,11 +39,13 @@ abbrev pub Contents : Structure → Type 0
 Contents map = List Pair
 Contents stack = List ℕ
 Contents heap = List ℕ
+Contents queue = List ℕ
 
 unfoldable pub nothing : (s : Structure) → Contents s
 nothing map = []
 nothing stack = []
 nothing heap = []
+nothing queue = []
 
 pub record Said (s : Structure) : Type 0 where
   pub contents : Contents s
@@ -73,6 +75,11 @@ unfoldable pub taken-from : List ℕ → Said heap
 taken-from [] = record { contents = []; answer = empty }
 taken-from (v ∷ vs) = record { contents = vs; answer = taken v }
 
+-- The oldest is the first.
+unfoldable pub dequeued-from : List ℕ → Said queue
+dequeued-from [] = record { contents = []; answer = empty }
+dequeued-from (v ∷ vs) = record { contents = vs; answer = dequeued v }
+
 -- One call of the plain machine that holds at most `limit` entries.
 unfoldable pub plain : {s : Structure} → ℕ → Op s → Contents s → Said s
 plain limit (get k) t = record { contents = t; answer = getAnswer (lookup k t) }
@@ -86,6 +93,10 @@ plain limit (add v) vs =
     pick (ltb (length vs) limit) (record { contents = enter v vs; answer = added })
     (record { contents = vs; answer = full })
 plain limit take vs = taken-from vs
+plain limit (enqueue v) vs =
+    pick (ltb (length vs) limit) (record { contents = vs ++ (v ∷ []); answer = queued })
+    (record { contents = vs; answer = full })
+plain limit dequeue vs = dequeued-from vs
 
 module _ {s : Structure} (limit : ℕ) where
   -- A list of calls of the plain machine: what it holds afterwards, and its answers.
@@ -103,9 +114,15 @@ unfoldable pub numbered : List ℕ → List Pair
 numbered [] = []
 numbered (v ∷ vs) = record { key = suc (length vs); value = v } ∷ numbered vs
 
+-- The queue's entries, from the oldest, with keys in a row from a first one.
+unfoldable pub inRow : (first : ℕ) → List ℕ → List Pair
+inRow first [] = []
+inRow first (v ∷ vs) = record { key = first; value = v } ∷ inRow (suc first) vs
+
 -- The pairs are what the plain machine holds. A heap's positions are numbered from 1 on too; which number stands where is not the
--- plain machine's to say.
+-- plain machine's to say. Nor is a queue's first key.
 abbrev pub Entries : (s : Structure) → Contents s → List Pair → Type 0
 Entries map t ps = Perm t ps
 Entries stack vs ps = Perm (numbered vs) ps
 Entries heap vs ps = (ws : List ℕ) × (Perm vs ws × Perm (numbered ws) ps)
+Entries queue vs ps = (first : ℕ) × Perm (inRow first vs) ps

@@ -2,11 +2,13 @@
 use Prim.Native.Nat.{ℕ}
 use mathlib.Core.List.{List, []}
 use mathlib.Core.Option.{Option, none, some}
-use Rattle.leaf_spec.specs.Convert.{toLink}
+use lib.Dec.{eqb}
+use Rattle.list_spec.specs.Choice.{pick}
+use Rattle.leaf_spec.specs.Convert.{toLink, toAhead}
 use Rattle.operation_spec.specs.declared.Op as op
-use Rattle.operation_spec.specs.declared.Op.the-variants.{Get, Put, Remove, Push, Pop, Add, Take}
+use Rattle.operation_spec.specs.declared.Op.the-variants.{Get, Put, Remove, Push, Pop, Add, Take, Enqueue, Dequeue}
 use Rattle.operation_spec.specs.declared.Answer as answer
-use Rattle.operation_spec.specs.declared.Answer.the-variants.{Found, Absent, Replaced, New, Removed, Pushed, Popped, Added, Taken, Empty, Full}
+use Rattle.operation_spec.specs.declared.Answer.the-variants.{Found, Absent, Replaced, New, Removed, Pushed, Popped, Added, Taken, Queued, Dequeued, Empty, Full}
 use Rattle.operation_spec.specs.declared.From as from
 use Rattle.operation_spec.specs.declared.From.the-variants.{Root, Side}
 use Rattle.operation_spec.specs.declared.Bound.{Bound}
@@ -14,12 +16,14 @@ use Rattle.operation_spec.specs.declared.Bound.the-variants.{Open, Key}
 use Rattle.operation_spec.specs.declared.Want as wanted
 use Rattle.operation_spec.specs.declared.Wanted.{Wanted}
 use Rattle.operation_spec.specs.declared.Wanted.the-variants.{Done, Fetch}
+use Rattle.operation_spec.specs.declared.Spares.{Spares}
 use Rattle.operation_spec.specs.declared.Outcome as outcome
-use Rattle.method_spec.specs.Node.{Link, Node}
+use Rattle.method_spec.specs.Node.{Link, Ahead, Node}
 use Rattle.method_spec.specs.Prog.{From, root, side, Want, Prog, done, want}
 use Rattle.method_spec.specs.Answer.{Structure, Op, Answer}
 use Rattle.method_spec.specs.Answer as method
 use Rattle.method_spec.specs.Map.{Outcome}
+use Rattle.method_spec.specs.Call.{program, aheadAfter}
 
 abbrev pub toFrom : from.From → From
 toFrom Root = root
@@ -42,6 +46,8 @@ structureOf (Push v) = method.stack
 structureOf Pop = method.stack
 structureOf (Add v) = method.heap
 structureOf Take = method.heap
+structureOf (Enqueue v) = method.queue
+structureOf Dequeue = method.queue
 
 abbrev pub toOp : (o : op.Op) → Op (structureOf o)
 toOp (Get k) = method.get k
@@ -51,6 +57,8 @@ toOp (Push v) = method.push v
 toOp Pop = method.pop
 toOp (Add v) = method.add v
 toOp Take = method.take
+toOp (Enqueue v) = method.enqueue v
+toOp Dequeue = method.dequeue
 
 abbrev pub toAnswer : answer.Answer → Answer
 toAnswer (Found v) = method.found v
@@ -62,10 +70,23 @@ toAnswer Pushed = method.pushed
 toAnswer (Popped v) = method.popped v
 toAnswer Added = method.added
 toAnswer (Taken v) = method.taken v
+toAnswer Queued = method.queued
+toAnswer (Dequeued v) = method.dequeued v
 toAnswer Empty = method.empty
 toAnswer Full = method.full
 
--- ---- what a program wants next, and its outcome
+-- ---- a program, what it wants next, and its outcome
+
+-- The spare draws: the programs ask the first two.
+abbrev pub sparesIn : Spares → ℕ → ℕ
+sparesIn s i = pick (eqb i 0) (s .first) (s .second)
+
+-- The program of an operation, and what is known ahead after its step.
+abbrev pub programFor : (o : op.Op) → Spares → (limit entries : ℕ) → Link ℕ → Prog ℕ (Outcome ℕ)
+programFor o s limit entries l = program 0 (toOp o) (sparesIn s) limit entries (toAhead (s .ahead)) l
+
+abbrev pub aheadFor : (o : op.Op) → Spares → (limit entries : ℕ) → Ahead ℕ
+aheadFor o s limit entries = aheadAfter 0 (toOp o) (sparesIn s) limit entries (toAhead (s .ahead))
 
 abbrev pub toWanted : Wanted → Option (Want ℕ)
 toWanted Done = none

@@ -1,4 +1,5 @@
 // What a ticket asks, what is answered, and what an operation wants on its way: the words that the structures share.
+use slot_spec::Ahead;
 use slot_spec::Link;
 
 // What a ticket asks.
@@ -10,6 +11,8 @@ pub enum Op {
     Pop,
     Add(u64),
     Take,
+    Enqueue(u64),
+    Dequeue,
 }
 
 pub enum Answer {
@@ -22,6 +25,8 @@ pub enum Answer {
     Popped(u64),
     Added,
     Taken(u64),
+    Queued,
+    Dequeued(u64),
     Empty,
     Full,
 }
@@ -50,6 +55,13 @@ pub struct Want {
 pub enum Wanted {
     Done,
     Fetch(Want),
+}
+
+// What a new node's tags come from: the first two spare draws, and what a queue's state knows ahead.
+pub struct Spares {
+    pub first: u16,
+    pub second: u16,
+    pub ahead: Ahead,
 }
 
 // A step: the root link, the entries, the answer, and how many nodes it made, which are in the first places of a lent row.

@@ -53,6 +53,7 @@ store mark structure size count =
       size = size;
       entries = 60000;
       root = record { height = 200; key = 1; tag = 9 };
+      ahead = record { key = 7; tag = 9 };
       count = count;
       places = waits 7 70 0 ∷ noPlace ∷ waits 5 50 1 ∷ waits 7 71 1 ∷ waits 1 1 9 ∷ replicate 96 noPlace;
     }
@@ -93,7 +94,7 @@ pub record Worked : Type 0 where
   -- The numbers, in the order of the checks; none writes a byte.
   pub open-store : readOut (store 0 9 9 102) [] (out 5) ≡ refusing 14 (out 5)
   pub refused-opening : readOut (store 3 1 1 4) tree (out 100) ≡ refusing 14 (out 100)
-  pub no-structure : readOut (store 9 4 1 4) [] (out 5) ≡ refusing 2 (out 5)
+  pub no-structure : readOut (store 9 5 1 4) [] (out 5) ≡ refusing 2 (out 5)
   pub no-size : readOut (store 9 1 9 4) [] (out 5) ≡ refusing 2 (out 5)
   pub too-many-wait : readOut (store 9 1 1 102) [] (out 5) ≡ refusing 2 (out 5)
   pub other-length : readOut (store 9 1 1 4) (drop 1 tree) (out 5) ≡ refusing 3 (out 5)

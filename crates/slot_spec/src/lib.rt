@@ -13,6 +13,13 @@ pub struct Link {
     pub height: u8,
 }
 
+// What a queue's state knows of the node that comes next: its key, the next unused one, and its tag, drawn ahead. For the other
+// structures both are zero.
+pub struct Ahead {
+    pub key: u32,
+    pub tag: u16,
+}
+
 pub struct Node {
     pub value: u64,
     pub key: u32,

@@ -18,8 +18,9 @@ drawsOf structure size = draws (structureOf structure) size
 abbrev pub mostRounds : ℕ
 mostRounds = 33
 
+-- The queue has two spare draws.
 abbrev pub mostSpare : ℕ
-mostSpare = 1
+mostSpare = 2
 
 abbrev pub mostDraws : ℕ
 mostDraws = 2 * mostRounds + mostSpare

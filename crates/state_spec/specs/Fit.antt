@@ -1,5 +1,5 @@
 -- When a state fits: document 01's causes of an unfit state, one by one, in its words.
-use Prim.Native.Nat.{ℕ, zero, suc, _-_, _^_}
+use Prim.Native.Nat.{ℕ, zero, suc, _+_, _-_, _^_}
 use mathlib.Core.Bool.{Bool, true, false, not, _&&_}
 use mathlib.Core.List.{List, [], _∷_, map}
 use lib.Dec.{eqb, leb, ltb}
@@ -9,6 +9,7 @@ use Rattle.list_spec.specs.Ascending.{ascending}
 use Rattle.balance_spec.specs.Shape.{shaped}
 use Rattle.slot_spec.specs.Slot.{noNode, wellFormed}
 use Rattle.slot_spec.specs.declared.Link.{Link}
+use Rattle.slot_spec.specs.declared.Ahead.{Ahead}
 use Rattle.slot_spec.specs.declared.Node.{Node}
 use Rattle.round_spec.specs.Round.{limit}
 use Rattle.state_spec.specs.declared.Place.{Place}
@@ -16,7 +17,7 @@ use Rattle.state_spec.specs.declared.State.{State}
 
 -- "structure or size out of range"
 abbrev pub largestStructure : ℕ
-largestStructure = 3
+largestStructure = 4
 
 abbrev pub largestSize : ℕ
 largestSize = 8
@@ -43,12 +44,24 @@ abbrev pub placeGood : ℕ → Place → Bool
 placeGood k p = p .full && wellFormed k (p .node)
 
 -- "for the map a root height that no balanced tree with that many entries has; for the stack a root other than height 1 with
--- key = entries; with no entries a root link that is not all zero"; for the heap "height 1 and key 1"
-unfoldable pub rootGood : (structure entries : ℕ) → Link → Bool
-rootGood structure entries l =
+-- key = entries; with no entries a root link that is not all zero"; for the heap "height 1 and key 1"; for the queue "height 1 and the
+-- next unused key minus the entries, not below 0, as its key"
+unfoldable pub rootGood : (structure entries next : ℕ) → Link → Bool
+rootGood structure entries next l =
     pick (eqb entries 0) (zeroLink l)
     (pick (eqb structure 1) (shaped entries (l .height))
-    (eqb (l .height) 1 && eqb (l .key) (pick (eqb structure 2) entries 1)))
+    (eqb (l .height) 1
+    && pick (eqb structure 4) (eqb (l .key + entries) next) (eqb (l .key) (pick (eqb structure 2) entries 1))))
+
+abbrev pub noAhead : Ahead
+noAhead = record { key = 0; tag = 0 }
+
+-- "Without entries the root link and the tag drawn ahead must be zero. A tag drawn ahead is below 2^k, and for other structures it and
+-- the next unused key are zero."
+unfoldable pub aheadGood : (structure size entries : ℕ) → Ahead → Bool
+aheadGood structure size entries a =
+    pick (eqb structure 4) (pick (eqb entries 0) (eqb (a .tag) 0) (ltb (a .tag) (2 ^ size)))
+    (eqb (a .key) 0 && eqb (a .tag) 0)
 
 abbrev pub keysIn : List Place → List ℕ
 keysIn ps = map (λ (p : Place). p .node .key) ps
@@ -82,4 +95,6 @@ fits s =
     && (leb (s .entries) (2 ^ s .size - 1)
     && (leb (s .count) limit
     && (placesFit s
-    && (ltb (s .root .tag) (2 ^ s .size) && rootGood (s .structure) (s .entries) (s .root))))))
+    && (ltb (s .root .tag) (2 ^ s .size)
+    && (rootGood (s .structure) (s .entries) (s .ahead .key) (s .root)
+    && aheadGood (s .structure) (s .size) (s .entries) (s .ahead)))))))

@@ -4,3 +4,4 @@ pub mod Head
 pub mod Opening
 pub mod Ticket
 pub mod Fetching
+pub mod Examples

@@ -8,7 +8,7 @@ use Rattle.list_spec.specs.Choice.{pick}
 use Rattle.slot_spec.specs.Tree.{treeLength}
 use Rattle.slot_spec.specs.Slot.{noLink}
 use Rattle.state_spec.specs.declared.State.{State}
-use Rattle.state_spec.specs.Fit.{places, noPlace, inRange, largestStructure, largestSize}
+use Rattle.state_spec.specs.Fit.{noAhead, places, noPlace, inRange, largestStructure, largestSize}
 
 -- ---- states
 -- A state with no entries and none waiting.
@@ -20,6 +20,7 @@ empty mark structure size =
       size = size;
       entries = 0;
       root = noLink;
+      ahead = noAhead;
       count = 0;
       places = replicate places noPlace;
     }

@@ -13,4 +13,5 @@ LinkWidths l = (l .height < 256) × ((l .key < 2 ^ 32) × (l .tag < 2 ^ 16))
 pub record Widths (s : State) : Type 0 where
   pub entries : s .entries < 2 ^ 16
   pub root : LinkWidths (s .root)
+  pub ahead : (s .ahead .key < 2 ^ 32) × (s .ahead .tag < 2 ^ 16)
   pub nodes : All (λ (p : Place). Ranged (p .node)) (used s)

@@ -1,4 +1,5 @@
 // The state of a store; when it fits, opening, and what a ticket asks: definitions.
+use slot_spec::Ahead;
 use slot_spec::Link;
 use slot_spec::Node;
 
@@ -14,11 +15,13 @@ pub struct Place {
 pub struct State {
     // 0: open; otherwise the number with which the store was closed.
     pub mark: u8,
-    // 1 map, 2 stack, 3 heap.
+    // 1 map, 2 stack, 3 heap, 4 queue.
     pub structure: u8,
     pub size: u8,
     pub entries: u16,
     pub root: Link,
+    // A queue's next unused key and its tag drawn ahead.
+    pub ahead: Ahead,
     // The waiting nodes (the stash), in ascending key order: the first `count` places.
     pub count: u16,
     pub places: [Place; 101],

@@ -15,14 +15,15 @@ use Rattle.method_spec.specs.Prog.{bind}
 use Rattle.method_spec.specs.Map.{walk, single, double, turn, raise, climb, unwind, unwound, getStep, getProg, putStep, putProg, lowest, takeOut, removeStep, removeProg, between, mapTest}
 use Rattle.method_spec.specs.Stack.{pushProg, popProg, stackTest}
 use Rattle.method_spec.specs.Heap.{turnsTo, descend, settled, rise, topmost, addProg, downward, childOf, sink, replaceRoot, takeProg, heapTest}
-use Rattle.method_spec.specs.Call.{program, test}
+use Rattle.method_spec.specs.Queue.{enqueueProg, enqueueAhead, dequeueProg, dequeueAhead, queueTest}
+use Rattle.method_spec.specs.Call.{program, aheadAfter, test}
 use Rattle.method_spec.specs.Rounds.{rounds, spare}
 use Rattle.leaf_spec.specs.Leaf.{readLeaf}
 use Rattle.bucket_call_spec.specs.Fetch.{movedLink, movedNode, closing, atClose, idleRound, tookRound, wantRound, fetchRound, fetchRounds}
 use Rattle.bucket_call_spec.specs.Call.{putRounds, afterPuts, afterFetches, bucketCall}
 use Rattle.call_spec.specs.declared.Reply.the-variants.{Answered, Refused}
 use Rattle.list_spec.specs.Ascending.{ascendingFrom, ascending}
-use Rattle.state_spec.specs.Fit.{allOf, rootGood, fits, placesFrom}
+use Rattle.state_spec.specs.Fit.{allOf, rootGood, aheadGood, fits, placesFrom}
 use Rattle.state_spec.specs.Ticket.{opIn}
 use Rattle.state_spec.specs.Opening.{opened}
 use Rattle.call_spec.specs.Store.{called, callWith, replied, replyOf}
@@ -61,11 +62,12 @@ pub record Records : Type 0 where
   pub smallest-map : recordLength 1 1 ≡ 27
   pub largest-map : recordLength 1 8 ≡ 147
   pub largest-heap : recordLength 3 8 ≡ 111
+  pub queue : recordLength 4 8 ≡ 21
   pub tape : tapeIn 2 (replicate 13 7 ++ (1 ∷ 2 ∷ 255 ∷ 255 ∷ [])) ≡ 513 ∷ 65535 ∷ []
 
 records-worked : Records
 unfolding least shaped tallest greatest rounds spare value numbersIn
-records-worked = record { stack = refl; smallest-map = refl; largest-map = refl; largest-heap = refl; tape = refl }
+records-worked = record { stack = refl; smallest-map = refl; largest-map = refl; largest-heap = refl; queue = refl; tape = refl }
 
 -- ---- whole outputs
 -- A call in the input.
@@ -81,13 +83,15 @@ pub record Outputs : Type 0 where
   pub within-a-call : walked (2 ∷ 1 ∷ (callBytes 5 0 0 (replicate 6 0) ++ callBytes 5 0 0 (replicate 5 0))) ≡ ascii "empty 0 0 0\nshort\n"
   pub no-calls : walked (1 ∷ 8 ∷ []) ≡ []
   pub heap : walked (3 ∷ 1 ∷ (callBytes 6 0 7 (replicate 14 0) ++ callBytes 7 0 0 (replicate 14 1))) ≡ ascii "added 0 0 0 0 0 0 0\ntaken 7 0 1 1 1 1 1\n"
-  pub no-structure : walked (4 ∷ 9 ∷ 7 ∷ []) ≡ ascii "refused 11\n"
+  -- Queue, size 1: in 7 with tape 0 1 1 0, out with 1 0 0 1. The node's tag is draw 1 of the in; each put round reveals draw 3.
+  pub queue : walked (4 ∷ 1 ∷ (callBytes 8 0 7 (0 ∷ 0 ∷ 1 ∷ 0 ∷ 1 ∷ 0 ∷ 0 ∷ 0 ∷ []) ++ callBytes 9 0 0 (1 ∷ 0 ∷ 0 ∷ 0 ∷ 0 ∷ 0 ∷ 1 ∷ 0 ∷ []))) ≡ ascii "queued 0 0 0\ndequeued 7 1 1\n"
+  pub no-structure : walked (5 ∷ 9 ∷ 7 ∷ []) ≡ ascii "refused 11\n"
   pub no-size : walked (1 ∷ 9 ∷ []) ≡ ascii "refused 12\n"
   pub one-byte : walked (7 ∷ []) ≡ ascii "short\n"
   pub no-byte : walked [] ≡ ascii "short\n"
 
 outputs-worked : Outputs
-unfolding leading decimal numbers lineOf numbersIn arrivedOf callLines walked opened called callWith replied replyOf fits allOf ascendingFrom ascending rootGood placesFrom opIn rounds spare greatest tallest shaped least bucketCall afterFetches afterPuts putRounds fetchRounds fetchRound wantRound tookRound idleRound atClose closing movedLink movedNode withBucket noneTwice allGood readBucket readBuckets insert join takeFirst tagged granted joined grantedFrom readHalf choose evict halvings among filled encode fieldsOf pack bytes readSlot bad fieldsIn nodeOf fields value allZero wellFormed readLeaf program test walk single double turn raise climb unwind unwound getStep getProg putStep putProg lowest takeOut removeStep removeProg between mapTest pushProg popProg stackTest turnsTo descend settled rise topmost addProg downward childOf sink replaceRoot takeProg heapTest bind
+unfolding leading decimal numbers lineOf numbersIn arrivedOf callLines walked opened called callWith replied replyOf fits allOf ascendingFrom ascending rootGood placesFrom opIn rounds spare greatest tallest shaped least bucketCall afterFetches afterPuts putRounds fetchRounds fetchRound wantRound tookRound idleRound atClose closing movedLink movedNode withBucket noneTwice allGood readBucket readBuckets insert join takeFirst tagged granted joined grantedFrom readHalf choose evict halvings among filled encode fieldsOf pack bytes readSlot bad fieldsIn nodeOf fields value allZero wellFormed readLeaf program test walk single double turn raise climb unwind unwound getStep getProg putStep putProg lowest takeOut removeStep removeProg between mapTest pushProg popProg stackTest turnsTo descend settled rise topmost addProg downward childOf sink replaceRoot takeProg heapTest enqueueProg enqueueAhead dequeueProg dequeueAhead queueTest aheadAfter aheadGood bind
 outputs-worked =
     record {
       document = refl;
@@ -96,6 +100,7 @@ outputs-worked =
       within-a-call = refl;
       no-calls = refl;
       heap = refl;
+      queue = refl;
       no-structure = refl;
       no-size = refl;
       one-byte = refl;

@@ -1,4 +1,5 @@
--- What the walk program reads: "a structure byte, a size byte, then for each call a ticket and its 2F + 1 tape numbers".
+-- What the walk program reads: "a structure byte, a size byte, then for each call a ticket and its 2F + 1 tape numbers", four for the
+-- queue.
 use Prim.Native.Nat.{ℕ, zero, suc, _+_, _*_}
 use mathlib.Core.List.{List, [], _∷_}
 use lib.Dec.{eqb, ltb}

@@ -7,7 +7,7 @@ use mathlib.Core.List.{List, [], _∷_, _++_}
 use lib.ListN.{length}
 use lib.Seq.{sets}
 use Rattle.operation_spec.specs.declared.Answer.{Answer}
-use Rattle.operation_spec.specs.declared.Answer.the-variants.{Found, Absent, Replaced, New, Removed, Pushed, Popped, Added, Taken, Empty, Full}
+use Rattle.operation_spec.specs.declared.Answer.the-variants.{Found, Absent, Replaced, New, Removed, Pushed, Popped, Added, Taken, Queued, Dequeued, Empty, Full}
 use Rattle.call_spec.specs.declared.Reply.{Reply}
 use Rattle.call_spec.specs.declared.Reply.the-variants.{Answered, Refused}
 use Rattle.state_spec.specs.Fetching.{mostRounds}
@@ -54,6 +54,8 @@ answerWord Pushed = ascii "pushed"
 answerWord (Popped v) = ascii "popped"
 answerWord Added = ascii "added"
 answerWord (Taken v) = ascii "taken"
+answerWord Queued = ascii "queued"
+answerWord (Dequeued v) = ascii "dequeued"
 answerWord Empty = ascii "empty"
 answerWord Full = ascii "refused"
 
@@ -68,6 +70,8 @@ answerValue Pushed = 0
 answerValue (Popped v) = v
 answerValue Added = 0
 answerValue (Taken v) = v
+answerValue Queued = 0
+answerValue (Dequeued v) = v
 answerValue Empty = 0
 answerValue Full = 10
 

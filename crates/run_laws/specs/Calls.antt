@@ -10,14 +10,18 @@ use Rattle.list_spec.specs.Perm.{Perm, trans}
 use Rattle.list_laws.specs.PermLaws.{perm-refl, perm-sym, perm-of-eq, perm-append, perm-append-left, perm-append-right}
 use Rattle.list_laws.specs.Shuffle.{part, _&_, shuffle}
 use Rattle.list_spec.specs.Distinct.{Distinct}
-use Rattle.method_spec.specs.Node.{Node, Link}
+use Rattle.method_spec.specs.Node.{Node, Link, Ahead}
 use Rattle.method_spec.specs.Answer as answer
 use Rattle.method_spec.specs.Answer.{Structure, Op}
-use Rattle.method_spec.specs.Rounds.{spare, spareDraw, putDraw}
+use Rattle.method_spec.specs.Rounds.{spare, putDraw}
 use Rattle.method_spec.specs.Map.{Outcome}
-use Rattle.method_spec.specs.Call.{program, test, Memory, fetches, drawsFrom, stepped, answered, Called, call, Ran, run}
+use Rattle.method_spec.specs.Call.{program, aheadAfter, spareTags, test, Memory, emptyMemory, fetches, drawsFrom, stepped, answered, Called, call, Ran, run}
 use Rattle.method_spec.specs.Safe.{Safe, Within}
 use Rattle.run_laws.specs.Fetches.{keys, tags, Unordered, test-untagged, fetches-length, safe-fetches}
+
+-- A structure whose steps keep what is known ahead: any but the queue.
+abbrev pub Unqueued : (T : Type 0) → Structure → Type 0
+Unqueued T s = (nil : T) (op : Op s) (spares : ℕ → T) (limit entries : ℕ) (a : Ahead T) → aheadAfter nil op spares limit entries a ≡ a
 
 module _ {T : Type 0} where
   -- ---- draws
@@ -60,7 +64,7 @@ module _ {T : Type 0} where
     pub call-length : (op : Op s) (draw : ℕ → T) (m : Memory T) → length (call nil rounds limit op draw m .revealed) ≡ 2 * rounds
     unfolding call
     call-length op draw m =
-        let p = program nil op (λ i. draw (spareDraw rounds i)) limit (m .entries) (m .root) in
+        let p = program nil op (spareTags rounds draw) limit (m .entries) (m .ahead) (m .root) in
         length-append (fetches draw rounds 0 p (m .nodes) .revealed) (drawsFrom draw rounds (putDraw s rounds 0))
         ∙ omega (arith, fetches-length draw rounds 0 p (m .nodes), draws-length draw rounds (putDraw s rounds 0))
 
@@ -75,25 +79,51 @@ module _ {T : Type 0} where
 
   -- ---- the spare draws of a program
 
-  -- A program of today's structures depends on the first spare draw alone.
-  pub program-same : {s : Structure} (nil : T) (op : Op s) (x y : ℕ → T) (limit entries : ℕ) (l : Link T)
-      → x 0 ≡ y 0 → program nil op x limit entries l ≡ program nil op y limit entries l
-  unfolding program
-  program-same nil (answer.get key) x y limit entries l e = refl
-  program-same nil (answer.put key value) x y limit entries l e = rw e
-  program-same nil (answer.remove key) x y limit entries l e = refl
-  program-same nil (answer.push value) x y limit entries l e = rw e
-  program-same nil answer.pop x y limit entries l e = refl
-  program-same nil (answer.add value) x y limit entries l e = rw e
-  program-same nil answer.take x y limit entries l e = refl
+  -- A program depends on the spare draws of its structure alone, and so does what is known ahead after it.
+  abbrev pub AgreeOn : Structure → (x y : ℕ → T) → Type 0
+  AgreeOn s x y = (i : ℕ) → i < spare s → x i ≡ y i
 
-  -- Any program depends on the spare draws of its structure alone.
-  pub program-agrees : {s : Structure} (nil : T) (op : Op s) (x y : ℕ → T) (limit entries : ℕ) (l : Link T)
-      → ((i : ℕ) → i < spare s → x i ≡ y i) → program nil op x limit entries l ≡ program nil op y limit entries l
-  unfolding spare
-  program-agrees {s = answer.map} nil op x y limit entries l e = program-same nil op x y limit entries l (e 0 (omega arith))
-  program-agrees {s = answer.stack} nil op x y limit entries l e = program-same nil op x y limit entries l (e 0 (omega arith))
-  program-agrees {s = answer.heap} nil op x y limit entries l e = program-same nil op x y limit entries l (e 0 (omega arith))
+  pub program-agrees : {s : Structure} (nil : T) (op : Op s) (x y : ℕ → T) (limit entries : ℕ) (a : Ahead T) (l : Link T)
+      → AgreeOn s x y → program nil op x limit entries a l ≡ program nil op y limit entries a l
+  unfolding program spare
+  program-agrees nil (answer.get key) x y limit entries a l e = refl
+  program-agrees nil (answer.put key value) x y limit entries a l e = rw (e 0 (omega arith))
+  program-agrees nil (answer.remove key) x y limit entries a l e = refl
+  program-agrees nil (answer.push value) x y limit entries a l e = rw (e 0 (omega arith))
+  program-agrees nil answer.pop x y limit entries a l e = refl
+  program-agrees nil (answer.add value) x y limit entries a l e = rw (e 0 (omega arith))
+  program-agrees nil answer.take x y limit entries a l e = refl
+  program-agrees nil (answer.enqueue value) x y limit entries a l e = rw (e 0 (omega arith), e 1 (omega arith))
+  program-agrees nil answer.dequeue x y limit entries a l e = refl
+
+  pub ahead-agrees : {s : Structure} (nil : T) (op : Op s) (x y : ℕ → T) (limit entries : ℕ) (a : Ahead T)
+      → AgreeOn s x y → aheadAfter nil op x limit entries a ≡ aheadAfter nil op y limit entries a
+  unfolding aheadAfter spare
+  ahead-agrees nil (answer.get key) x y limit entries a e = refl
+  ahead-agrees nil (answer.put key value) x y limit entries a e = refl
+  ahead-agrees nil (answer.remove key) x y limit entries a e = refl
+  ahead-agrees nil (answer.push value) x y limit entries a e = refl
+  ahead-agrees nil answer.pop x y limit entries a e = refl
+  ahead-agrees nil (answer.add value) x y limit entries a e = refl
+  ahead-agrees nil answer.take x y limit entries a e = refl
+  ahead-agrees nil (answer.enqueue value) x y limit entries a e = rw (e 1 (omega arith))
+  ahead-agrees nil answer.dequeue x y limit entries a e = refl
+
+  pub map-unqueued : Unqueued T answer.map
+  unfolding aheadAfter
+  map-unqueued nil (answer.get key) spares limit entries a = refl
+  map-unqueued nil (answer.put key value) spares limit entries a = refl
+  map-unqueued nil (answer.remove key) spares limit entries a = refl
+
+  pub stack-unqueued : Unqueued T answer.stack
+  unfolding aheadAfter
+  stack-unqueued nil (answer.push value) spares limit entries a = refl
+  stack-unqueued nil answer.pop spares limit entries a = refl
+
+  pub heap-unqueued : Unqueued T answer.heap
+  unfolding aheadAfter
+  heap-unqueued nil (answer.add value) spares limit entries a = refl
+  heap-unqueued nil answer.take spares limit entries a = refl
 
   -- ---- a list of calls after another
 
@@ -119,36 +149,66 @@ module _ {T : Type 0} where
 
   -- ---- what a structure supplies
 
-  -- The memory after a step with that outcome, where those nodes were not fetched.
-  abbrev pub memoryOf : Outcome T → List (Node T) → Memory T
-  memoryOf o ns = record { entries = o .entries; root = o .root; nodes = o .nodes ++ ns }
+  -- The memory after a step with that outcome and what is known ahead then, where those nodes were not fetched.
+  abbrev pub memoryOf : Ahead T → Outcome T → List (Node T) → Memory T
+  memoryOf a o ns = record { entries = o .entries; root = o .root; ahead = a; nodes = o .nodes ++ ns }
 
-  -- The tags of the nodes that wait again are those of the nodes fetched and the spare draws, each at most once.
-  pub record Retagged (spares : List T) (held : List (Node T)) (o : Outcome T) : Type 0 where
+  -- The tag drawn ahead, of a queue with entries: no node has it yet.
+  abbrev pub aheadTags : Structure → (entries : ℕ) → Ahead T → List T
+  aheadTags answer.map entries a = []
+  aheadTags answer.stack entries a = []
+  aheadTags answer.heap entries a = []
+  aheadTags answer.queue zero a = []
+  aheadTags answer.queue (suc n) a = a .tag ∷ []
+
+  -- The tags of a memory: that one, and those of its nodes.
+  abbrev pub tagsOf : Structure → Memory T → List T
+  tagsOf s m = aheadTags s (m .entries) (m .ahead) ++ tags (m .nodes)
+
+  pub tags-empty : (s : Structure) (nil : T) → tagsOf s (emptyMemory nil) ≡ []
+  unfolding emptyMemory
+  tags-empty answer.map nil = refl
+  tags-empty answer.stack nil = refl
+  tags-empty answer.heap nil = refl
+  tags-empty answer.queue nil = refl
+
+  -- What a step has at hand for tags besides those of the nodes fetched: the tag drawn ahead and the spare draws.
+  abbrev pub givenTags : Structure → Memory T → (spares : ℕ → T) → List T
+  givenTags s m spares = aheadTags s (m .entries) (m .ahead) ++ sparesOf s spares
+
+  -- The tags of the nodes that wait again, and the tag drawn ahead then, are those of the nodes fetched and the ones given, each at most
+  -- once.
+  pub record Retagged (given ahead : List T) (held : List (Node T)) (o : Outcome T) : Type 0 where
     pub dropped : List T
-    pub among : Perm (spares ++ tags held) (tags (o .nodes) ++ dropped)
+    pub among : Perm (given ++ tags held) (tags (o .nodes) ++ (ahead ++ dropped))
+
+  -- What a step must come to: the memory after it is in the invariant, and the tags are accounted for.
+  abbrev pub Steps : {s : Structure} (nil : T) (limit : ℕ) (Inv : Memory T → Type 0) (m : Memory T) (op : Op s) (spares : ℕ → T)
+      → Outcome T → List (Node T) → List (Node T) → Type 0
+  Steps {s} nil limit Inv m op spares o held ns =
+      let a = aheadAfter nil op spares limit (m .entries) (m .ahead) in
+      Inv (memoryOf a o ns) × Retagged (givenTags s m spares) (aheadTags s (o .entries) a) held o
 
   -- An invariant of memories under which every program is safe, takes no more than `rounds` nodes and keeps the invariant.
   pub record Keeps (s : Structure) (nil : T) (rounds limit : ℕ) (Inv : Memory T → Type 0) : Type 0 where
-    pub unordered : (entries : ℕ) (root : Link T) (xs ys : List (Node T)) → Perm xs ys
-        → Inv (record { entries = entries; root = root; nodes = xs }) → Inv (record { entries = entries; root = root; nodes = ys })
+    pub unordered : (entries : ℕ) (root : Link T) (a : Ahead T) (xs ys : List (Node T)) → Perm xs ys
+        → Inv (record { entries = entries; root = root; ahead = a; nodes = xs }) → Inv (record { entries = entries; root = root; ahead = a; nodes = ys })
     pub distinct-keys : (m : Memory T) → Inv m → Distinct (keys (m .nodes))
     pub within : (m : Memory T) → Inv m → (op : Op s) (spares : ℕ → T)
-        → Within (test s (m .entries)) rounds (program nil op spares limit (m .entries) (m .root))
+        → Within (test s (m .entries)) rounds (program nil op spares limit (m .entries) (m .ahead) (m .root))
     pub safe : (m : Memory T) → Inv m → (op : Op s) (spares : ℕ → T)
-        → Safe (test s (m .entries)) (λ o held ns. Inv (memoryOf o ns) × Retagged (sparesOf s spares) held o)
-        (program nil op spares limit (m .entries) (m .root)) [] (m .nodes)
+        → Safe (test s (m .entries)) (Steps nil limit Inv m op spares) (program nil op spares limit (m .entries) (m .ahead) (m .root)) [] (m .nodes)
 
   -- ---- one call
 
-  -- What a call does whose program is safe: `left` are the nodes not fetched.
-  pub record Stepped (s : Structure) (Post : Outcome T → List (Node T) → List (Node T) → Type 0) (rounds : ℕ) (draw : ℕ → T)
+  -- What a call does whose program is safe: `left` are the nodes not fetched, and `a` is known ahead after it.
+  pub record Stepped (s : Structure) (Post : Outcome T → List (Node T) → List (Node T) → Type 0) (a : Ahead T) (rounds : ℕ) (draw : ℕ → T)
       (m : Memory T) (r : Called T) : Type 0 where
     pub outcome : Outcome T
     pub fetched : List (Node T)
     pub left : List (Node T)
     pub holds : Post outcome fetched left
-    pub remembers : r .memory ≡ memoryOf outcome left
+    pub remembers : r .memory ≡ memoryOf a outcome left
     pub answers : r .answer ≡ some (outcome .answer)
     pub links : List T
     pub few : length links ≤ rounds
@@ -158,12 +218,13 @@ module _ {T : Type 0} where
 
   pub safe-call : {s : Structure} (nil : T) (rounds limit : ℕ) {Post : Outcome T → List (Node T) → List (Node T) → Type 0} → Unordered Post
       → (op : Op s) (draw : ℕ → T) (m : Memory T) → Distinct (keys (m .nodes))
-      → Within (test s (m .entries)) rounds (program nil op (λ i. draw (spareDraw rounds i)) limit (m .entries) (m .root))
-      → Safe (test s (m .entries)) Post (program nil op (λ i. draw (spareDraw rounds i)) limit (m .entries) (m .root)) [] (m .nodes)
-      → Stepped s Post rounds draw m (call nil rounds limit op draw m)
+      → Within (test s (m .entries)) rounds (program nil op (spareTags rounds draw) limit (m .entries) (m .ahead) (m .root))
+      → Safe (test s (m .entries)) Post (program nil op (spareTags rounds draw) limit (m .entries) (m .ahead) (m .root)) [] (m .nodes)
+      → Stepped s Post (aheadAfter nil op (spareTags rounds draw) limit (m .entries) (m .ahead)) rounds draw m (call nil rounds limit op draw m)
   unfolding call stepped answered
   safe-call {s} nil rounds limit unordered op draw m distinct within safe =
-      let p = program nil op (λ i. draw (spareDraw rounds i)) limit (m .entries) (m .root) in
+      let p = program nil op (spareTags rounds draw) limit (m .entries) (m .ahead) (m .root) in
+      let a = aheadAfter nil op (spareTags rounds draw) limit (m .entries) (m .ahead) in
       let f = fetches draw rounds 0 p (m .nodes) in
       let e = safe-fetches draw (test-untagged s (m .entries)) unordered rounds 0 p (le-refl rounds) distinct within safe in
       let o : 0 + length (e .links) ≡ length (e .links) = omega arith in
@@ -172,7 +233,7 @@ module _ {T : Type 0} where
         fetched = e .fetched;
         left = f .nodes;
         holds = e .holds;
-        remembers = ap (stepped m (f .nodes)) (e .ended);
+        remembers = ap (stepped m a (f .nodes)) (e .ended);
         answers = ap answered (e .ended);
         links = e .links;
         few = e .few;
@@ -184,15 +245,15 @@ module _ {T : Type 0} where
   -- ---- no tag is lost or shown twice
 
   -- What was shown, what waits and what was dropped are the tags from before and the draws, each once.
-  pub record Accounted (shown before draws : List T) (m : Memory T) : Type 0 where
+  pub record Accounted (s : Structure) (shown before draws : List T) (m : Memory T) : Type 0 where
     pub dropped : List T
-    pub balanced : Perm (shown ++ tags (m .nodes) ++ dropped) (before ++ draws)
+    pub balanced : Perm (shown ++ tagsOf s m ++ dropped) (before ++ draws)
 
   -- The draws of a call are those of the fetch rounds, the spare ones and those of the put rounds.
   draws-parts : (s : Structure) (draw : ℕ → T) (rounds j : ℕ) → j ≤ rounds
       → drawsFrom draw j 0
       ++ (drawsFrom draw (rounds - j) j
-      ++ (sparesOf s (λ i. draw (spareDraw rounds i)) ++ drawsFrom draw rounds (putDraw s rounds 0)))
+      ++ (sparesOf s (spareTags rounds draw) ++ drawsFrom draw rounds (putDraw s rounds 0)))
       ≡ ownDraws (2 * rounds + spare s) draw
   draws-parts s draw rounds j h =
       let total : 2 * rounds + spare s ≡ j + (rounds - j + (spare s + rounds)) = omega arith in
@@ -213,47 +274,49 @@ module _ {T : Type 0} where
         puts,
       ))
 
-  -- links, unused draws of the fetch rounds, draws of the put rounds, new tags, tags left, dropped
-  account : (links unused puts new left dropped before used spares : List T)
-      → Perm before (links ++ left) → Perm (spares ++ used) (new ++ dropped)
-      → Perm (links ++ unused ++ puts ++ (new ++ left) ++ dropped) (before ++ (used ++ (unused ++ (spares ++ puts))))
-  account links unused puts new left dropped before used spares old among =
+  -- links, unused draws of the fetch rounds, draws of the put rounds, new tags, tags left, dropped; the tag drawn ahead before and after
+  account : (links unused puts new left dropped old used spares was is : List T)
+      → Perm old (links ++ left) → Perm ((was ++ spares) ++ used) (new ++ (is ++ dropped))
+      → Perm (links ++ unused ++ puts ++ (is ++ (new ++ left)) ++ dropped) ((was ++ old) ++ (used ++ (unused ++ (spares ++ puts))))
+  account links unused puts new left dropped old used spares was is tagged among =
       trans
-      (shuffle (links ∷ unused ∷ puts ∷ new ∷ left ∷ dropped ∷ [])
-      ((((part 0 & part 1) & part 2) & (part 3 & part 4)) & part 5)
-      ((part 0 & part 4) & ((part 3 & part 5) & (part 1 & part 2))) refl)
+      (shuffle (links ∷ unused ∷ puts ∷ new ∷ left ∷ dropped ∷ is ∷ [])
+      ((((part 0 & part 1) & part 2) & (part 6 & (part 3 & part 4))) & part 5)
+      ((part 0 & part 4) & ((part 3 & (part 6 & part 5)) & (part 1 & part 2))) refl)
       (trans
-      (perm-append (perm-sym old) (perm-append-right (unused ++ puts) (perm-sym among)))
-      (shuffle (before ∷ spares ∷ used ∷ unused ∷ puts ∷ [])
-      (part 0 & ((part 1 & part 2) & (part 3 & part 4))) (part 0 & (part 2 & (part 3 & (part 1 & part 4)))) refl))
+      (perm-append (perm-sym tagged) (perm-append-right (unused ++ puts) (perm-sym among)))
+      (shuffle (old ∷ spares ∷ used ∷ unused ∷ puts ∷ was ∷ [])
+      (part 0 & (((part 5 & part 1) & part 2) & (part 3 & part 4))) ((part 5 & part 0) & (part 2 & (part 3 & (part 1 & part 4)))) refl))
 
   call-accounted : {s : Structure} {rounds : ℕ} {draw : ℕ → T} {m : Memory T} {r : Called T} {Post : Outcome T → List (Node T) → List (Node T) → Type 0}
-      (t : Stepped s Post rounds draw m r) → Retagged (sparesOf s (λ i. draw (spareDraw rounds i))) (t .fetched) (t .outcome)
-      → Accounted (r .revealed) (tags (m .nodes)) (ownDraws (2 * rounds + spare s) draw) (r .memory)
-  call-accounted {s} {rounds} {draw} {m} {r} t a =
+      {a : Ahead T} (t : Stepped s Post a rounds draw m r)
+      → Retagged (givenTags s m (spareTags rounds draw)) (aheadTags s (t .outcome .entries) a) (t .fetched) (t .outcome)
+      → Accounted s (r .revealed) (tagsOf s m) (ownDraws (2 * rounds + spare s) draw) (r .memory)
+  call-accounted {s} {rounds} {draw} {m} {r} {a = a} t g =
       let j = length (t .links) in
-      let own = sparesOf s (λ i. draw (spareDraw rounds i)) in
+      let own = sparesOf s (spareTags rounds draw) in
+      let was = aheadTags s (m .entries) (m .ahead) in
       record {
-        dropped = a .dropped;
+        dropped = g .dropped;
         balanced =
             rw (t .shown, t .remembers, map-append (λ (n : Node T). n .tag) (t .outcome .nodes) (t .left), ← (draws-parts s draw rounds j (t .few)))
             (account (t .links) (drawsFrom draw (rounds - j) j) (drawsFrom draw rounds (putDraw s rounds 0)) (tags (t .outcome .nodes))
-            (tags (t .left)) (a .dropped) (tags (m .nodes)) (drawsFrom draw j 0) own (t .old-tags)
-            (trans (perm-append-left own (perm-sym (t .new-tags))) (a .among)));
+            (tags (t .left)) (g .dropped) (tags (m .nodes)) (drawsFrom draw j 0) own was (aheadTags s (t .outcome .entries) a) (t .old-tags)
+            (trans (perm-append-left (was ++ own) (perm-sym (t .new-tags))) (g .among)));
       }
 
-  accounted-then : {shown later before draws more : List T} {m n : Memory T}
-      → Accounted shown before draws m → Accounted later (tags (m .nodes)) more n → Accounted (shown ++ later) before (draws ++ more) n
-  accounted-then {shown} {later} {before} {draws} {more} {m} {n} a b =
+  accounted-then : {s : Structure} {shown later before draws more : List T} {m n : Memory T}
+      → Accounted s shown before draws m → Accounted s later (tagsOf s m) more n → Accounted s (shown ++ later) before (draws ++ more) n
+  accounted-then {s} {shown} {later} {before} {draws} {more} {m} {n} a b =
       record {
         dropped = a .dropped ++ b .dropped;
         balanced =
             trans
-            (shuffle (shown ∷ later ∷ tags (n .nodes) ∷ a .dropped ∷ b .dropped ∷ [])
+            (shuffle (shown ∷ later ∷ tagsOf s n ∷ a .dropped ∷ b .dropped ∷ [])
             (((part 0 & part 1) & part 2) & (part 3 & part 4)) ((part 0 & part 3) & ((part 1 & part 2) & part 4)) refl)
             (trans (perm-append-left (shown ++ a .dropped) (b .balanced))
             (trans
-            (shuffle (shown ∷ a .dropped ∷ tags (m .nodes) ∷ more ∷ [])
+            (shuffle (shown ∷ a .dropped ∷ tagsOf s m ∷ more ∷ [])
             ((part 0 & part 1) & (part 2 & part 3)) (((part 0 & part 2) & part 1) & part 3) refl)
             (trans (perm-append-right more (a .balanced)) (perm-of-eq (append-assoc before draws more)))));
       }
@@ -261,24 +324,25 @@ module _ {T : Type 0} where
   -- ---- lists of calls
 
   module _ {s : Structure} {nil : T} {rounds limit : ℕ} {Inv : Memory T → Type 0} (keeps : Keeps s nil rounds limit Inv) where
-    keeps-unordered : (spares : List T) → Unordered (λ (o : Outcome T) held ns. Inv (memoryOf o ns) × Retagged spares held o)
-    keeps-unordered spares o held xs ys p h =
-        (keeps .unordered (o .entries) (o .root) (o .nodes ++ xs) (o .nodes ++ ys) (perm-append-left (o .nodes) p) (h .0), h .1)
+    keeps-unordered : (m : Memory T) (op : Op s) (spares : ℕ → T) → Unordered (Steps nil limit Inv m op spares)
+    keeps-unordered m op spares o held xs ys p h =
+        let a = aheadAfter nil op spares limit (m .entries) (m .ahead) in
+        (keeps .unordered (o .entries) (o .root) a (o .nodes ++ xs) (o .nodes ++ ys) (perm-append-left (o .nodes) p) (h .0), h .1)
 
     pub keeps-call : (op : Op s) (draw : ℕ → T) (m : Memory T) → Inv m
-        → Stepped s (λ o held ns. Inv (memoryOf o ns) × Retagged (sparesOf s (λ i. draw (spareDraw rounds i))) held o) rounds draw m
+        → Stepped s (Steps nil limit Inv m op (spareTags rounds draw)) (aheadAfter nil op (spareTags rounds draw) limit (m .entries) (m .ahead)) rounds draw m
         (call nil rounds limit op draw m)
     keeps-call op draw m inv =
-        let spares : ℕ → T = λ i. draw (spareDraw rounds i) in
-        safe-call nil rounds limit (keeps-unordered (sparesOf s spares)) op draw m (keeps .distinct-keys m inv)
+        let spares = spareTags rounds draw in
+        safe-call nil rounds limit (keeps-unordered m op spares) op draw m (keeps .distinct-keys m inv)
         (keeps .within m inv op spares) (keeps .safe m inv op spares)
 
     pub keeps-run : (draw : ℕ → ℕ → T) (c : ℕ) (ops : List (Op s)) (m : Memory T) → Inv m
         → Inv (run nil rounds limit draw c ops m .memory)
-        × Accounted (run nil rounds limit draw c ops m .revealed) (tags (m .nodes)) (allDraws (2 * rounds + spare s) draw c (length ops))
+        × Accounted s (run nil rounds limit draw c ops m .revealed) (tagsOf s m) (allDraws (2 * rounds + spare s) draw c (length ops))
         (run nil rounds limit draw c ops m .memory)
     unfolding run allDraws
-    keeps-run draw c [] m inv = (inv, record { dropped = []; balanced = perm-refl (tags (m .nodes) ++ []) })
+    keeps-run draw c [] m inv = (inv, record { dropped = []; balanced = perm-refl (tagsOf s m ++ []) })
     keeps-run draw c (op ∷ ops) m inv =
         let t = keeps-call op (draw c) m inv in
         let r = call nil rounds limit op (draw c) m in

@@ -1,5 +1,5 @@
 -- How many nodes a call wants, on any content whose nodes pass the fetch tests: for the map at most three for each level
--- of the height that the root link says, for the stack at most one, for the heap three for each level of its entries.
+-- of the height that the root link says, for the stack and the queue at most one, for the heap three for each level of its entries.
 use Prim.Native.Nat.{ℕ, zero, suc, _+_, _*_, _≤_, _<_}
 use mathlib.Core.Path.{_≡_, refl}
 use mathlib.Core.Bool.{Bool, true, false, not}
@@ -11,12 +11,13 @@ use lib.ListN.{length, length-append}
 use borrow.Author.Tests.{eqb-true, eqb-false}
 use Rattle.list_spec.specs.Choice.{pick}
 use Rattle.list_laws.specs.ChoiceLaws.{pick-both, pick-neither}
-use Rattle.method_spec.specs.Node.{Node, Link, child, heightOf}
+use Rattle.method_spec.specs.Node.{Node, Link, Ahead, child, heightOf}
 use Rattle.method_spec.specs.Prog.{Want, Prog, done, want, bind}
 use Rattle.method_spec.specs.Answer as answer
 use Rattle.method_spec.specs.Answer.{Structure, Op}
 use Rattle.method_spec.specs.Map.{Step, Sub, stub, Spot, gap, hit, start, stepAt, below, walk, tall, topOf, kid, beside, double, opened, turn, placed, nearOn, othersOf, raise, climb, putStep, getProg, putProg, lowest, swapped, takeOut, removeStep, removeProg, mapTest}
 use Rattle.method_spec.specs.Stack.{pushProg, popProg, stackTest}
+use Rattle.method_spec.specs.Queue.{enqueueProg, dequeueProg, queueTest}
 use Rattle.method_spec.specs.Call.{program, test}
 use Rattle.method_spec.specs.Safe.{Within, stops, asks}
 use Rattle.run_laws.specs.HeapWithin.{mostInHeap, heap-within}
@@ -27,6 +28,7 @@ abbrev pub mostWanted : Structure → (entries height : ℕ) → ℕ
 mostWanted answer.map entries height = 3 * height
 mostWanted answer.stack entries height = 1
 mostWanted answer.heap entries height = mostInHeap entries
+mostWanted answer.queue entries height = 1
 
 module _ {T : Type 0} where
   -- ---- what the map's fetch tests say of heights
@@ -180,30 +182,38 @@ module _ {T : Type 0} where
       within-pick (ltb entries limit) (within-map _ (within-more h (climb-within path _ []))) stops
   putStep-within nil key value tag entries limit (hit w n path) left h = stops
 
-  pub map-within : (nil : T) (op : Op answer.map) (spares : ℕ → T) (limit entries : ℕ) (l : Link T)
-      → Within mapTest (3 * l .height) (program nil op spares limit entries l)
+  pub map-within : (nil : T) (op : Op answer.map) (spares : ℕ → T) (limit entries : ℕ) (a : Ahead T) (l : Link T)
+      → Within mapTest (3 * l .height) (program nil op spares limit entries a l)
   unfolding program getProg putProg removeProg
-  map-within nil (answer.get key) spares limit entries l =
+  map-within nil (answer.get key) spares limit entries a l =
       withinTo-then _ (walk-within key (l .height) (start l) [] (3 * l .height) (omega arith)) (λ s left h. stops)
-  map-within nil (answer.put key value) spares limit entries l =
+  map-within nil (answer.put key value) spares limit entries a l =
       withinTo-then _ (walk-within key (l .height) (start l) [] (3 * l .height) (omega arith))
       (putStep-within nil key value (spares 0) entries limit)
-  map-within nil (answer.remove key) spares limit entries l =
+  map-within nil (answer.remove key) spares limit entries a l =
       withinTo-then _ (walk-within key (l .height) (start l) [] (3 * l .height) (omega arith))
       (removeStep-within entries)
 
-  pub stack-within : (nil : T) (op : Op answer.stack) (spares : ℕ → T) (limit entries : ℕ) (l : Link T)
-      → Within stackTest 1 (program nil op spares limit entries l)
+  pub stack-within : (nil : T) (op : Op answer.stack) (spares : ℕ → T) (limit entries : ℕ) (a : Ahead T) (l : Link T)
+      → Within stackTest 1 (program nil op spares limit entries a l)
   unfolding program pushProg popProg
-  stack-within nil (answer.push value) spares limit entries l = within-pick (ltb entries limit) stops stops
-  stack-within nil answer.pop spares limit entries l =
+  stack-within nil (answer.push value) spares limit entries a l = within-pick (ltb entries limit) stops stops
+  stack-within nil answer.pop spares limit entries a l =
       within-pick (eqb (l .height) 0) stops (asks (λ m passed. stops))
+
+  pub queue-within : (nil : T) (op : Op answer.queue) (spares : ℕ → T) (limit entries : ℕ) (a : Ahead T) (l : Link T)
+      → Within queueTest 1 (program nil op spares limit entries a l)
+  unfolding program enqueueProg dequeueProg
+  queue-within nil (answer.enqueue value) spares limit entries a l = within-pick (ltb entries limit) stops stops
+  queue-within nil answer.dequeue spares limit entries a l =
+      within-pick (eqb entries 0) stops (asks (λ m passed. stops))
 
   -- ---- any structure
 
-  pub program-within : {s : Structure} (nil : T) (op : Op s) (spares : ℕ → T) (limit entries : ℕ) (l : Link T)
-      → Within (test s entries) (mostWanted s entries (l .height)) (program nil op spares limit entries l)
+  pub program-within : {s : Structure} (nil : T) (op : Op s) (spares : ℕ → T) (limit entries : ℕ) (a : Ahead T) (l : Link T)
+      → Within (test s entries) (mostWanted s entries (l .height)) (program nil op spares limit entries a l)
   unfolding test
-  program-within {s = answer.map} nil op spares limit entries l = map-within nil op spares limit entries l
-  program-within {s = answer.stack} nil op spares limit entries l = stack-within nil op spares limit entries l
-  program-within {s = answer.heap} nil op spares limit entries l = heap-within nil op spares limit entries l
+  program-within {s = answer.map} nil op spares limit entries a l = map-within nil op spares limit entries a l
+  program-within {s = answer.stack} nil op spares limit entries a l = stack-within nil op spares limit entries a l
+  program-within {s = answer.heap} nil op spares limit entries a l = heap-within nil op spares limit entries a l
+  program-within {s = answer.queue} nil op spares limit entries a l = queue-within nil op spares limit entries a l

@@ -16,10 +16,11 @@ use Rattle.list_laws.specs.DistinctLaws.{distinct-perm, distinct-injective}
 use Rattle.method_spec.specs.Node.{Node, retag}
 use Rattle.method_spec.specs.Prog.{Want, Prog, done, want}
 use Rattle.method_spec.specs.Call.{Taken, keepFirst, takeKey, leftOver, Fetched, revealing, given, fetches, drawsFrom, test}
-use Rattle.method_spec.specs.Answer.{Structure, map as map-structure, stack, heap}
+use Rattle.method_spec.specs.Answer.{Structure, map as map-structure, stack, heap, queue}
 use Rattle.method_spec.specs.Map.{mapTest}
 use Rattle.method_spec.specs.Stack.{stackTest}
 use Rattle.method_spec.specs.Heap.{heapTest}
+use Rattle.method_spec.specs.Queue.{queueTest}
 use Rattle.method_spec.specs.Safe.{Safe, ends, meets, Within, asks}
 use Rattle.run_laws.specs.SafeLaws.{safe-perm}
 
@@ -85,10 +86,11 @@ module _ {T : Type 0} where
   Untagged test = (w : Want T) (n : Node T) (d : T) → test w (retag d n) ≡ test w n
 
   pub test-untagged : (s : Structure) (entries : ℕ) → Untagged (test s entries)
-  unfolding test mapTest stackTest heapTest
+  unfolding test mapTest stackTest heapTest queueTest
   test-untagged map-structure entries w n d = refl
   test-untagged stack entries w n d = refl
   test-untagged heap entries w n d = refl
+  test-untagged queue entries w n d = refl
 
   module _ {A : Type 0} where
     -- The statement of the end does not depend on the order of the nodes not fetched.

@@ -158,13 +158,13 @@ module _ {T S : Type 0} (f : T → S) where
 
   pub heap-natural : (nil : T) → Natural f heap nil
   unfolding program addProg takeProg
-  heap-natural nil (add value) spares limit entries l =
+  heap-natural nil (add value) spares limit entries a l =
       let new = newNode nil value (spares 0) entries in
       same-pick f (ltb entries limit)
       (same-bind f (descend-natural (wayTo (suc entries)) (start l) [])
       (λ r q e. both-done (rw (e, rise-natural new (r .path), topmost-natural new (r .path)))))
       (both-done refl)
-  heap-natural nil take spares limit entries l =
+  heap-natural nil take spares limit entries a l =
       same-pick f (eqb entries 0) (both-done refl)
       (same-bind f (descend-natural (wayTo entries) (start l) [])
       (λ r q e. rw (e, downward-natural (absent nil) (r .path) [])

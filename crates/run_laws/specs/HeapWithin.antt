@@ -9,7 +9,7 @@ use lib.Dec.{eqb, ltb, leb}
 use lib.ListN.{length, length-append}
 use borrow.Author.Tests.{eqb-true, leb-false}
 use Rattle.list_spec.specs.Choice.{pick}
-use Rattle.method_spec.specs.Node.{Node, Link, absent, child, withChild, linkOne}
+use Rattle.method_spec.specs.Node.{Node, Link, Ahead, absent, child, withChild, linkOne}
 use Rattle.method_spec.specs.Prog.{Want, Prog, bind}
 use Rattle.method_spec.specs.Answer.{heap, Op, add, take}
 use Rattle.method_spec.specs.Map.{start}
@@ -126,21 +126,22 @@ module _ {T : Type 0} {test : Want T → Node T → Bool} where
 
   -- ---- the programs
   -- An empty heap's calls want none.
-  empty-within : (nil : T) (op : Op heap) (spares : ℕ → T) (limit : ℕ) (l : Link T) → Within test 0 (program nil op spares limit 0 l)
+  empty-within : (nil : T) (op : Op heap) (spares : ℕ → T) (limit : ℕ) (a : Ahead T) (l : Link T)
+      → Within test 0 (program nil op spares limit 0 a l)
   unfolding program addProg takeProg turnsTo descend bind
-  empty-within nil (add value) spares limit l = within-pick (ltb 0 limit) stops stops
-  empty-within nil take spares limit l = stops
+  empty-within nil (add value) spares limit a l = within-pick (ltb 0 limit) stops stops
+  empty-within nil take spares limit a l = stops
 
-  pub heap-within : (nil : T) (op : Op heap) (spares : ℕ → T) (limit entries : ℕ) (l : Link T)
-      → Within test (mostInHeap entries) (program nil op spares limit entries l)
+  pub heap-within : (nil : T) (op : Op heap) (spares : ℕ → T) (limit entries : ℕ) (a : Ahead T) (l : Link T)
+      → Within test (mostInHeap entries) (program nil op spares limit entries a l)
   unfolding program addProg takeProg
-  heap-within nil op spares limit zero l = empty-within nil op spares limit l
-  heap-within nil (add value) spares limit (suc n) l =
+  heap-within nil op spares limit zero a l = empty-within nil op spares limit a l
+  heap-within nil (add value) spares limit (suc n) a l =
       within-pick (ltb (suc n) limit)
       (within-more {n = length (wayTo (suc (suc n))) + 0} (omega arith)
       (withinTo-then _ (descend-within 0 (wayTo (suc (suc n))) (start l) []) (λ r left h. stops)))
       stops
-  heap-within nil take spares limit (suc n) l =
+  heap-within nil take spares limit (suc n) a l =
       let turns = wayTo (suc n) in
       within-pick (eqb (suc n) 0) stops
       (within-more {n = length turns + (1 + 2 * length turns)} (omega arith)

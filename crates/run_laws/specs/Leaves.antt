@@ -11,11 +11,13 @@ use Rattle.run_laws.specs.Natural.{mapRan, Natural, run-natural}
 use Rattle.run_laws.specs.MapNatural.{map-natural}
 use Rattle.run_laws.specs.StackNatural.{stack-natural}
 use Rattle.run_laws.specs.HeapNatural.{heap-natural}
+use Rattle.run_laws.specs.QueueNatural.{queue-natural}
 
 pub natural : {T S : Type 0} (f : T → S) (s : Structure) (nil : T) → Natural f s nil
 natural f answer.map nil = map-natural f nil
 natural f answer.stack nil = stack-natural f nil
 natural f answer.heap nil = heap-natural f nil
+natural f answer.queue nil = queue-natural f nil
 
 -- From the empty structure: a run over tags and then the function on them is the run over what the function gives.
 pub run-mapped : {T S : Type 0} (f : T → S) (nil : T) {s : Structure} (rounds limit : ℕ) (draw : ℕ → ℕ → T) (ops : List (Op s))

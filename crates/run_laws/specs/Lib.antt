@@ -4,6 +4,7 @@ pub mod Natural
 pub mod StackNatural
 pub mod MapNatural
 pub mod HeapNatural
+pub mod QueueNatural
 pub mod Leaves
 pub mod RoundsLaws
 pub mod HeapWays

@@ -257,12 +257,12 @@ module _ {T S : Type 0} (f : T → S) where
 
   pub map-natural : (nil : T) → Natural f answer.map nil
   unfolding program getProg putProg removeProg
-  map-natural nil (answer.get key) spares limit entries l =
+  map-natural nil (answer.get key) spares limit entries a l =
       same-bind f (walk-natural key (l .height) (start l) [])
       (λ s t e. rw e (both-done (getStep-natural entries s)))
-  map-natural nil (answer.put key value) spares limit entries l =
+  map-natural nil (answer.put key value) spares limit entries a l =
       same-bind f (walk-natural key (l .height) (start l) [])
       (λ s t e. rw e (putStep-natural nil key value (spares 0) entries limit s))
-  map-natural nil (answer.remove key) spares limit entries l =
+  map-natural nil (answer.remove key) spares limit entries a l =
       same-bind f (walk-natural key (l .height) (start l) [])
       (λ s t e. rw e (removeStep-natural entries s))

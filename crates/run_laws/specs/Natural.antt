@@ -4,20 +4,25 @@ use mathlib.Core.Bool.{Bool, true, false}
 use mathlib.Core.List.{List, [], _∷_, map, map-append}
 use mathlib.Core.Option.{Option, none, some, Option·map}
 use Prim.Native.Nat.{ℕ, zero, suc}
-use lib.Dec.{eqb}
+use lib.Dec.{eqb, ltb}
 use Rattle.list_spec.specs.Choice.{pick}
-use Rattle.method_spec.specs.Node.{Node, Link, retag}
+use Rattle.method_spec.specs.Node.{Node, Link, Ahead, retag}
 use Rattle.method_spec.specs.Prog.{Want, Prog, done, want, bind}
+use Rattle.method_spec.specs.Answer as answer
 use Rattle.method_spec.specs.Answer.{Structure, Op}
+use Rattle.method_spec.specs.Queue.{enqueueAhead, dequeueAhead}
 use Rattle.method_spec.specs.Map.{Outcome}
-use Rattle.method_spec.specs.Rounds.{spareDraw, putDraw}
-use Rattle.method_spec.specs.Call.{Memory, Taken, keepFirst, takeKey, leftOver, Fetched, revealing, given, fetches, drawsFrom, stepped, answered, program, Called, call, Ran, andThen, run}
+use Rattle.method_spec.specs.Rounds.{putDraw}
+use Rattle.method_spec.specs.Call.{Memory, Taken, keepFirst, takeKey, leftOver, Fetched, revealing, given, fetches, drawsFrom, stepped, answered, program, aheadAfter, spareTags, Called, call, Ran, andThen, run}
 
 module _ {T S : Type 0} (f : T → S) where
   -- ---- a function on tags, applied to all that holds tags
 
   abbrev pub mapLink : Link T → Link S
   mapLink l = record { height = l .height; key = l .key; tag = f (l .tag) }
+
+  abbrev pub mapAhead : Ahead T → Ahead S
+  mapAhead a = record { key = a .key; tag = f (a .tag) }
 
   abbrev pub mapNode : Node T → Node S
   mapNode n =
@@ -41,7 +46,7 @@ module _ {T S : Type 0} (f : T → S) where
 
   abbrev pub mapMemory : Memory T → Memory S
   mapMemory m =
-      record { entries = m .entries; root = mapLink (m .root); nodes = mapNodes (m .nodes) }
+      record { entries = m .entries; root = mapLink (m .root); ahead = mapAhead (m .ahead); nodes = mapNodes (m .nodes) }
 
   abbrev pub mapTaken : Taken T → Taken S
   mapTaken t = record { node = mapNode (t .node); others = mapNodes (t .others) }
@@ -135,8 +140,27 @@ module _ {T S : Type 0} (f : T → S) where
 
   -- A structure's programs do the same at both types of tags.
   abbrev pub Natural : Structure → T → Type 0
-  Natural s nil = (op : Op s) (spares : ℕ → T) (limit entries : ℕ) (l : Link T)
-      → Same SameOutcome (program nil op spares limit entries l) (program (f nil) op (λ i. f (spares i)) limit entries (mapLink l))
+  Natural s nil = (op : Op s) (spares : ℕ → T) (limit entries : ℕ) (a : Ahead T) (l : Link T)
+      → Same SameOutcome (program nil op spares limit entries a l) (program (f nil) op (λ i. f (spares i)) limit entries (mapAhead a) (mapLink l))
+
+  ahead-pick : (b : Bool) (x y : Ahead T) → pick b (mapAhead x) (mapAhead y) ≡ mapAhead (pick b x y)
+  ahead-pick true x y = refl
+  ahead-pick false x y = refl
+
+  -- What is known ahead after a step.
+  ahead-natural : {s : Structure} (nil : T) (op : Op s) (spares : ℕ → T) (limit entries : ℕ) (a : Ahead T)
+      → aheadAfter (f nil) op (λ i. f (spares i)) limit entries (mapAhead a) ≡ mapAhead (aheadAfter nil op spares limit entries a)
+  unfolding aheadAfter enqueueAhead dequeueAhead
+  ahead-natural nil (answer.get key) spares limit entries a = refl
+  ahead-natural nil (answer.put key value) spares limit entries a = refl
+  ahead-natural nil (answer.remove key) spares limit entries a = refl
+  ahead-natural nil (answer.push value) spares limit entries a = refl
+  ahead-natural nil answer.pop spares limit entries a = refl
+  ahead-natural nil (answer.add value) spares limit entries a = refl
+  ahead-natural nil answer.take spares limit entries a = refl
+  ahead-natural nil (answer.enqueue value) spares limit entries a =
+      ahead-pick (ltb entries limit) (record { key = suc (a .key); tag = spares 1 }) a
+  ahead-natural nil answer.dequeue spares limit entries a = ahead-pick (eqb entries 1) (record { key = a .key; tag = nil }) a
 
   pub draws-natural : (draw : ℕ → T) (n d : ℕ) → drawsFrom (λ i. f (draw i)) n d ≡ map f (drawsFrom draw n d)
   unfolding drawsFrom
@@ -148,24 +172,25 @@ module _ {T S : Type 0} (f : T → S) where
   answered-natural (both-done e) = ap (λ (o : Outcome S). some (o .answer)) e
   answered-natural (both-want more) = refl
 
-  stepped-natural : (m : Memory T) (ns : List (Node T)) {p : Prog T (Outcome T)} {q : Prog S (Outcome S)} → Same SameOutcome p q
-      → stepped (mapMemory m) (mapNodes ns) q ≡ mapMemory (stepped m ns p)
+  stepped-natural : (m : Memory T) (b : Ahead T) (ns : List (Node T)) {p : Prog T (Outcome T)} {q : Prog S (Outcome S)} → Same SameOutcome p q
+      → stepped (mapMemory m) (mapAhead b) (mapNodes ns) q ≡ mapMemory (stepped m b ns p)
   unfolding stepped
-  stepped-natural m ns (both-done {a} e) = rw (e, map-append mapNode (a .nodes) ns)
-  stepped-natural m ns (both-want more) = refl
+  stepped-natural m b ns (both-done {a} e) = rw (e, map-append mapNode (a .nodes) ns)
+  stepped-natural m b ns (both-want more) = refl
 
   module _ {s : Structure} (nil : T) (natural : Natural s nil) (rounds limit : ℕ) where
     pub call-natural : (op : Op s) (draw : ℕ → T) (m : Memory T)
         → call (f nil) rounds limit op (λ d. f (draw d)) (mapMemory m) ≡ mapCalled (call nil rounds limit op draw m)
     unfolding call
     call-natural op draw m =
-        let spares : ℕ → T = λ i. draw (spareDraw rounds i) in
-        let x = fetches draw rounds 0 (program nil op spares limit (m .entries) (m .root)) (m .nodes) in
-        let e = fetches-natural draw rounds 0 (m .nodes) (natural op spares limit (m .entries) (m .root)) in
+        let spares = spareTags rounds draw in
+        let x = fetches draw rounds 0 (program nil op spares limit (m .entries) (m .ahead) (m .root)) (m .nodes) in
+        let e = fetches-natural draw rounds 0 (m .nodes) (natural op spares limit (m .entries) (m .ahead) (m .root)) in
         rw (
           e .same-nodes,
           e .same-revealed,
-          stepped-natural m (x .nodes) (e .progs),
+          ahead-natural nil op spares limit (m .entries) (m .ahead),
+          stepped-natural m (aheadAfter nil op spares limit (m .entries) (m .ahead)) (x .nodes) (e .progs),
           answered-natural (e .progs),
           draws-natural draw rounds (putDraw s rounds 0),
           ← (map-append f (x .revealed) (drawsFrom draw rounds (putDraw s rounds 0))),

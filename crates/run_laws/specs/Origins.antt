@@ -13,8 +13,7 @@ use Rattle.method_spec.specs.Answer.{Structure, Op}
 use Rattle.method_spec.specs.Rounds.{spare}
 use Rattle.method_spec.specs.Call.{Memory, capacity, emptyMemory, drawsFrom, Ran, run}
 use Rattle.method_spec.specs.Origin.{Origin, none, drawn, origins, names}
-use Rattle.run_laws.specs.Fetches.{tags}
-use Rattle.run_laws.specs.Calls.{ownDraws, allDraws, run-length, run-append, Keeps, keeps-run}
+use Rattle.run_laws.specs.Calls.{ownDraws, allDraws, tagsOf, tags-empty, run-length, run-append, Keeps, keeps-run}
 
 -- ---- draws as origins
 
@@ -82,23 +81,23 @@ module _ {s : Structure} {rounds limit : ℕ} {Inv : Memory Origin → Type 0} (
     (c : ℕ) (ops : List (Op s)) (m : Memory Origin) (inv : Inv m) where
   -- The calls on a memory, numbered from c: what they show is a tag that waited, or one of their own draws; and so are the
   -- tags that wait afterwards.
-  pub names-from : All (λ o. List·Memᴰ o (tags (m .nodes)) ⊎ OnTape (2 * rounds + spare s) c (length ops) o)
-      (run none rounds limit drawn c ops m .revealed ++ tags (run none rounds limit drawn c ops m .memory .nodes))
+  pub names-from : All (λ o. List·Memᴰ o (tagsOf s m) ⊎ OnTape (2 * rounds + spare s) c (length ops) o)
+      (run none rounds limit drawn c ops m .revealed ++ tagsOf s (run none rounds limit drawn c ops m .memory))
   names-from o i =
       let a = keeps-run keeps drawn c ops m inv .1 in
-      ⊎-map (λ (k : List·Memᴰ o (tags (m .nodes))). k) (all-draws (2 * rounds + spare s) c (length ops) o)
-      (List·Memᴰ·append-cases (tags (m .nodes)) (perm-member (a .balanced) (Memᴰ·append-left (a .dropped) i)))
+      ⊎-map (λ (k : List·Memᴰ o (tagsOf s m)). k) (all-draws (2 * rounds + spare s) c (length ops) o)
+      (List·Memᴰ·append-cases (tagsOf s m) (perm-member (a .balanced) (Memᴰ·append-left (a .dropped) i)))
 
   -- Where the tags that wait are distinct and of earlier calls, no name is shown twice, and none that was shown waits.
-  pub names-distinct : Distinct (tags (m .nodes)) → All (λ o. callOf o < c) (tags (m .nodes))
-      → Distinct (run none rounds limit drawn c ops m .revealed ++ tags (run none rounds limit drawn c ops m .memory .nodes))
+  pub names-distinct : Distinct (tagsOf s m) → All (λ o. callOf o < c) (tagsOf s m)
+      → Distinct (run none rounds limit drawn c ops m .revealed ++ tagsOf s (run none rounds limit drawn c ops m .memory))
   names-distinct distinct earlier =
       let a = keeps-run keeps drawn c ops m inv .1 in
       distinct-left
-      (run none rounds limit drawn c ops m .revealed ++ tags (run none rounds limit drawn c ops m .memory .nodes))
+      (run none rounds limit drawn c ops m .revealed ++ tagsOf s (run none rounds limit drawn c ops m .memory))
       (a .dropped)
       (distinct-perm (perm-sym (a .balanced))
-      (distinct-append (tags (m .nodes)) (allDraws (2 * rounds + spare s) drawn c (length ops)) distinct
+      (distinct-append (tagsOf s m) (allDraws (2 * rounds + spare s) drawn c (length ops)) distinct
       (all-draws-distinct (2 * rounds + spare s) c (length ops))
       (λ o i k. let before = earlier o i in let own = all-draws (2 * rounds + spare s) c (length ops) o k in omega arith)))
 
@@ -120,17 +119,17 @@ module _ {s : Structure} {rounds : ℕ} (size : ℕ) {Inv : Memory Origin → Ty
     (keeps : Keeps s none rounds (capacity size) Inv) (inv : Inv (emptyMemory none)) where
   -- No draw is named twice.
   pub names-once : (ops : List (Op s)) → Distinct (names rounds size ops)
-  unfolding origins emptyMemory
+  unfolding origins
   names-once ops =
-      distinct-left (names rounds size ops) (tags (origins rounds size ops .memory .nodes))
-      (names-distinct keeps 1 ops (emptyMemory none) inv tt (all-nil (λ o. callOf o < 1)))
+      distinct-left (names rounds size ops) (tagsOf s (origins rounds size ops .memory))
+      (names-distinct keeps 1 ops (emptyMemory none) inv (rw (tags-empty s none) tt) (rw (tags-empty s none) (all-nil (λ o. callOf o < 1))))
 
   -- Each name is a draw of a call of the list.
   pub names-on-tapes : (ops : List (Op s)) → All (OnTape (2 * rounds + spare s) 1 (length ops)) (names rounds size ops)
-  unfolding origins emptyMemory
+  unfolding origins
   names-on-tapes ops o i =
       ⊎-elim {A = List·Memᴰ o []} {B = OnTape (2 * rounds + spare s) 1 (length ops) o} (λ k. absurd (List·Memᴰ·not-nil k)) (λ k. k)
-      (names-from keeps 1 ops (emptyMemory none) inv o (Memᴰ·append-left _ i))
+      (rw (tags-empty s none) at (names-from keeps 1 ops (emptyMemory none) inv o (Memᴰ·append-left _ i)))
 
   -- A name at a place of the call after the first k is a draw of that call or of an earlier one.
   pub name-at : (ops : List (Op s)) (k j : ℕ) → k < length ops → j < 2 * rounds

@@ -14,3 +14,4 @@ unfolding rounds least shaped tallest greatest
 some-rounds answer.map k h = let least-one : 1 ≤ greatest k = greatest-mono h in omega arith
 some-rounds answer.stack k h = omega arith
 some-rounds answer.heap k h = omega arith
+some-rounds answer.queue k h = omega arith

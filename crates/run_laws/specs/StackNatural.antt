@@ -9,7 +9,7 @@ use Rattle.run_laws.specs.Natural.{Natural, both-done, both-want, same-p
 module _ {T S : Type 0} (f : T → S) where
   pub stack-natural : (nil : T) → Natural f stack nil
   unfolding program pushProg popProg
-  stack-natural nil (push value) spares limit entries l =
+  stack-natural nil (push value) spares limit entries a l =
       same-pick f (ltb entries limit) (both-done refl) (both-done refl)
-  stack-natural nil pop spares limit entries l =
+  stack-natural nil pop spares limit entries a l =
       same-pick f (eqb (l .height) 0) (both-done refl) (both-want (λ n. both-done refl))

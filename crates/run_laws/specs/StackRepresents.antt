@@ -12,19 +12,19 @@ use Rattle.list_spec.specs.Perm.{Perm, cons, trans}
 use Rattle.list_laws.specs.PermLaws.{perm-refl, perm-sym, perm-map}
 use Rattle.list_spec.specs.Distinct.{Distinct, All}
 use Rattle.list_laws.specs.DistinctLaws.{all-nil, all-cons, distinct-perm}
-use Rattle.method_spec.specs.Node.{Node, Link, absent, retag}
+use Rattle.method_spec.specs.Node.{Node, Link, Ahead, absent, retag}
 use Rattle.method_spec.specs.Prog.{Want}
 use Rattle.method_spec.specs.Answer.{stack, Op, push, pop, pushed, popped, empty, full}
 use Rattle.method_spec.specs.Plain.{plain, popped-from}
 use Rattle.method_spec.specs.Map.{Outcome, start}
 use Rattle.method_spec.specs.Stack.{pushProg, popProg, stackTest}
 use Rattle.method_spec.specs.Rounds.{spare}
-use Rattle.method_spec.specs.Call.{program, test, Memory, emptyMemory, drawsFrom}
+use Rattle.method_spec.specs.Call.{program, aheadAfter, test, Memory, emptyMemory, drawsFrom}
 use Rattle.method_spec.specs.Safe.{Safe, ends, meets}
 use Rattle.run_laws.specs.SafeLaws.{safe-pick, within-more}
 use Rattle.run_laws.specs.Fetches.{keys}
 use Rattle.run_laws.specs.EnoughRounds.{program-within}
-use Rattle.run_laws.specs.Calls.{memoryOf, sparesOf}
+use Rattle.run_laws.specs.Calls.{memoryOf, givenTags}
 use Rattle.run_laws.specs.Answers.{StepsTo, Represents}
 
 -- n, n - 1, .., 1.
@@ -108,7 +108,7 @@ module _ {T : Type 0} (nil : T) where
 
     -- The memory with one cell more.
     one-more : (value : ℕ) (tag : T) → length vs < limit
-        → HoldsStack limit (value ∷ vs) (memoryOf (pushOutcome m value tag) (m .nodes))
+        → HoldsStack limit (value ∷ vs) (memoryOf (m .ahead) (pushOutcome m value tag) (m .nodes))
     unfolding chain chainLink
     one-more value tag room =
         let cell : Cell T = record { value = value; tag = tag } in
@@ -123,7 +123,7 @@ module _ {T : Type 0} (nil : T) where
 
     -- A push onto a stack with room, and onto a full one.
     push-room : (value : ℕ) (tag : T) → ltb (length vs) limit ≡ true
-        → StepsTo (HoldsStack limit) (plain limit (push value) vs) (tag ∷ []) (pushOutcome m value tag) [] (m .nodes)
+        → StepsTo (HoldsStack limit) (plain limit (push value) vs) (tag ∷ []) (m .ahead) (pushOutcome m value tag) [] (m .nodes)
     unfolding plain
     push-room value tag room =
         record {
@@ -133,7 +133,7 @@ module _ {T : Type 0} (nil : T) where
         }
 
     push-full : (value : ℕ) (tag : T) → ltb (length vs) limit ≡ false
-        → StepsTo (HoldsStack limit) (plain limit (push value) vs) (tag ∷ []) (fullOutcome m) [] (m .nodes)
+        → StepsTo (HoldsStack limit) (plain limit (push value) vs) (tag ∷ []) (m .ahead) (fullOutcome m) [] (m .nodes)
     unfolding plain
     push-full value tag room =
         record {
@@ -143,7 +143,7 @@ module _ {T : Type 0} (nil : T) where
         }
 
     push-safe : (value : ℕ) (tag : T)
-        → Safe stackTest (StepsTo (HoldsStack limit) (plain limit (push value) vs) (tag ∷ [])) (pushProg nil value tag (m .entries) limit (m .root)) [] (m .nodes)
+        → Safe stackTest (StepsTo (HoldsStack limit) (plain limit (push value) vs) (tag ∷ []) (m .ahead)) (pushProg nil value tag (m .entries) limit (m .root)) [] (m .nodes)
     unfolding pushProg
     push-safe value tag =
         let counted = ap (λ (n : ℕ). ltb n limit) (sym (h .counted)) in
@@ -155,7 +155,7 @@ module _ {T : Type 0} (nil : T) where
 
   module _ (limit : ℕ) where
     pop-empty : (tag : T) (m : Memory T) → m .entries ≡ 0 → Perm (m .nodes) []
-        → StepsTo (HoldsStack limit) (plain limit pop []) (tag ∷ [])
+        → StepsTo (HoldsStack limit) (plain limit pop []) (tag ∷ []) (m .ahead)
         (record { nodes = []; root = absent nil; entries = m .entries; answer = empty }) [] (m .nodes)
     unfolding plain popped-from chain chainLink
     pop-empty tag m counted there =
@@ -166,13 +166,13 @@ module _ {T : Type 0} (nil : T) where
           retagged = record { dropped = tag ∷ []; among = perm-refl (tag ∷ []) };
         }
 
-    pop-top : (tag d : T) (c : Cell T) (cells : List (Cell T)) (entries : ℕ) → entries ≡ suc (length cells)
+    pop-top : (tag d : T) (a : Ahead T) (c : Cell T) (cells : List (Cell T)) (entries : ℕ) → entries ≡ suc (length cells)
         → suc (length cells) ≤ limit
-        → StepsTo (HoldsStack limit) (plain limit pop (c .value ∷ map (λ (b : Cell T). b .value) cells)) (tag ∷ [])
+        → StepsTo (HoldsStack limit) (plain limit pop (c .value ∷ map (λ (b : Cell T). b .value) cells)) (tag ∷ []) a
         (record { nodes = []; root = chainLink cells; entries = pred entries; answer = popped (c .value) })
         (retag d (chainNode c cells) ∷ []) (chain cells)
     unfolding plain popped-from
-    pop-top tag d c cells entries counted fits =
+    pop-top tag d a c cells entries counted fits =
         let values = map (λ (b : Cell T). b .value) cells in
         let same = length-map cells (λ (b : Cell T). b .value) in
         let fewer : pred entries ≡ length values = omega arith in
@@ -193,21 +193,21 @@ module _ {T : Type 0} (nil : T) where
 
     pop-safe : (tag : T) (cells : List (Cell T)) (m : Memory T)
         → m .entries ≡ length cells → m .root ≡ chainLink cells → Perm (m .nodes) (chain cells) → length cells ≤ limit
-        → Safe stackTest (StepsTo (HoldsStack limit) (plain limit pop (map (λ (c : Cell T). c .value) cells)) (tag ∷ [])) (popProg (m .entries) (m .root)) [] (m .nodes)
+        → Safe stackTest (StepsTo (HoldsStack limit) (plain limit pop (map (λ (c : Cell T). c .value) cells)) (tag ∷ []) (m .ahead)) (popProg (m .entries) (m .root)) [] (m .nodes)
     unfolding popProg chain chainLink
     pop-safe tag [] m counted rooted there fits = rw rooted (ends (pop-empty tag m counted there))
     pop-safe tag (c ∷ cells) m counted rooted there fits =
         rw rooted
         (meets (chainNode c cells) (chain cells) there refl refl (chain-passes (start (chainLink (c ∷ cells))) c cells)
-        (λ d. ends (pop-top tag d c cells (m .entries) counted fits)))
+        (λ d. ends (pop-top tag d (m .ahead) c cells (m .entries) counted fits)))
 
   -- ---- what the stack supplies
 
   pub stack-represents : (rounds limit : ℕ) → 1 ≤ rounds → Represents stack nil rounds limit (HoldsStack limit)
-  unfolding program test spare drawsFrom
+  unfolding program aheadAfter test spare drawsFrom
   stack-represents rounds limit enough =
       record {
-        unordered = λ vs entries root xs ys p h. record {
+        unordered = λ vs entries root a xs ys p h. record {
           cells = h .cells;
           values = h .values;
           counted = h .counted;
@@ -216,13 +216,13 @@ module _ {T : Type 0} (nil : T) where
           fits = h .fits;
         };
         distinct-keys = λ vs m h. distinct-perm (perm-map (λ (n : Node T). n .key) (perm-sym (h .there))) (chain-distinct (h .cells));
-        within = λ vs m h op spares. within-more enough (program-within nil op spares limit (m .entries) (m .root));
+        within = λ vs m h op spares. within-more enough (program-within nil op spares limit (m .entries) (m .ahead) (m .root));
         safe = λ vs m h. safe-step vs m h;
       }
     where
       safe-step : (vs : List ℕ) (m : Memory T) → HoldsStack limit vs m → (op : Op stack) (spares : ℕ → T)
-          → Safe (test stack (m .entries)) (StepsTo (HoldsStack limit) (plain limit op vs) (sparesOf stack spares))
-          (program nil op spares limit (m .entries) (m .root)) [] (m .nodes)
+          → Safe (test stack (m .entries)) (StepsTo (HoldsStack limit) (plain limit op vs) (givenTags stack m spares) (aheadAfter nil op spares limit (m .entries) (m .ahead)))
+          (program nil op spares limit (m .entries) (m .ahead) (m .root)) [] (m .nodes)
       safe-step vs m h (push value) spares = push-safe limit vs m h value (spares 0)
       safe-step vs m h pop spares =
           let counted = cells-counted limit vs m h in

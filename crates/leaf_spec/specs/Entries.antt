@@ -1,5 +1,5 @@
--- The entry of a node, and what a ticket asks within the widths of its fields.
-use Prim.Native.Nat.{_^_, _<_}
+-- The entry of a node; what a ticket asks within the widths of its fields; whether there is a key for what it stores.
+use Prim.Native.Nat.{ℕ, suc, _^_, _<_}
 use Rattle.method_spec.specs.Node.{Node}
 use Rattle.method_spec.specs.Answer.{Structure, Op, get, put, remove, push, pop, add, take, enqueue, dequeue}
 use Rattle.method_spec.specs.Plain.{Pair}
@@ -17,3 +17,15 @@ OpFits (add value) = value < 2 ^ 64
 OpFits take = Unit {0}
 OpFits (enqueue value) = value < 2 ^ 64
 OpFits dequeue = Unit {0}
+
+-- An in takes the next unused key, and the one after it is the next then.
+abbrev pub KeyLeft : {s : Structure} → Op s → (next : ℕ) → Type 0
+KeyLeft (get key) next = Unit {0}
+KeyLeft (put key value) next = Unit {0}
+KeyLeft (remove key) next = Unit {0}
+KeyLeft (push value) next = Unit {0}
+KeyLeft pop next = Unit {0}
+KeyLeft (add value) next = Unit {0}
+KeyLeft take next = Unit {0}
+KeyLeft (enqueue value) next = suc next < 2 ^ 32
+KeyLeft dequeue next = Unit {0}

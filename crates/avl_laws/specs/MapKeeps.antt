@@ -12,17 +12,17 @@ use borrow.Author.Tests.{ltb-true}
 use Rattle.list_spec.specs.Perm.{Perm, nil as perm-none, trans}
 use Rattle.list_laws.specs.PermLaws.{perm-refl, perm-sym, perm-of-eq, perm-append, perm-append-right, perm-append-comm, perm-front, perm-map}
 use Rattle.balance_spec.specs.Tree.{Tree, leaf, node, height, Balanced}
-use Rattle.method_spec.specs.Node.{Node, absent, withValue}
+use Rattle.method_spec.specs.Node.{Ahead, Node, absent, withValue}
 use Rattle.method_spec.specs.Prog.{done, bind}
 use Rattle.method_spec.specs.Answer.{map, Op, get, put, remove, Answer, found, replaced, new, removed, full}
 use Rattle.method_spec.specs.Answer as answers
 use Rattle.method_spec.specs.Plain.{Pair, Said, lookup, store, put-into, getAnswer, removeAnswer, plain}
 use Rattle.method_spec.specs.Map.{top, Built, Spot, linkOf, nodesAt, start, mapTest, walk, climb, unwind, unwound, finish, getStep, getProg, putStep, putProg, removeStep, removeProg}
 use Rattle.method_spec.specs.Rounds.{spare}
-use Rattle.method_spec.specs.Call.{Memory, program, drawsFrom}
+use Rattle.method_spec.specs.Call.{Memory, program, aheadAfter, drawsFrom}
 use Rattle.method_spec.specs.Safe.{Safe, ends}
 use Rattle.run_laws.specs.SafeLaws.{safe-then, safe-pick}
-use Rattle.run_laws.specs.Calls.{sparesOf}
+use Rattle.run_laws.specs.Calls.{givenTags}
 use Rattle.run_laws.specs.Answers.{StepsTo}
 use Rattle.avl_laws.specs.Search.{Entry, pairs, linkTree, nodeAt, nodesOf, Holds}
 use Rattle.avl_laws.specs.Ascending.{Ascending, ends as none-left, ascending-search}
@@ -77,11 +77,11 @@ module _ {T : Type 0} {nil tag : T} {contents : List Pair} {more : List T} {b : 
       (trans (perm-of-eq (sym (fetched-tags nil (st .view)))) (perm-sym (perm-map (λ n. n .tag) built-nodes))))
 
 module _ {T : Type 0} {nil tag : T} {limit : ℕ} where
-  finish-keeps : {contents : List Pair} {more : List T} {said : Said map} (entries : ℕ) (a : Answer) {b : Built T}
+  finish-keeps : {ahead : Ahead T} {contents : List Pair} {more : List T} {said : Said map} (entries : ℕ) (a : Answer) {b : Built T}
       {held ns : List (Node T)}
       → Standing nil tag Balanced contents [] [] more b held ns → contents ≡ said .contents → a ≡ said .answer
       → Ascending none none (said .contents) → entries ≡ length (said .contents) → length (said .contents) ≤ limit
-      → StepsTo (Holds nil limit) said (tag ∷ []) (finish entries a b) held ns
+      → StepsTo (Holds nil limit) said (tag ∷ []) ahead (finish entries a b) held ns
   finish-keeps {more = more} entries a st same ans ascends counted fits =
       record {
         contents = record {
@@ -111,8 +111,8 @@ module _ {T : Type 0} {nil tag : T} {limit : ℕ} where
         rw (← p .same)
         (unwind-stands nil (p .sound) (have (away l) e (away r)) [] (tag ∷ []) perm-none (p .balanced) (p .reached) stock)
 
-    get-keeps : (s : Spot T) (held ns : List (Node T)) → Reached nil tag key table s held ns
-        → StepsTo (Holds nil limit) (plain limit (get key) table) (tag ∷ []) (getStep (length table) s) held ns
+    get-keeps : {ahead : Ahead T} (s : Spot T) (held ns : List (Node T)) → Reached nil tag key table s held ns
+        → StepsTo (Holds nil limit) (plain limit (get key) table) (tag ∷ []) ahead (getStep (length table) s) held ns
     unfolding getStep plain getAnswer
     get-keeps s held ns (missing p sits stock) =
         finish-keeps (length table) answers.absent (unwound-stands (missing p sits stock)) refl
@@ -139,10 +139,10 @@ module _ {T : Type 0} {nil tag : T} {limit : ℕ} where
         (rw (missing-store p sits value) at (new-ascends p sits value))
         (stock-as (perm-refl (others nil fs)) (perm-front (entryTags fs) tag []) stock))
 
-    put-new : (value : ℕ) {fs : List (Frame T)} {held ns : List (Node T)} → length table < limit → Place table fs leaf
+    put-new : {ahead : Ahead T} (value : ℕ) {fs : List (Frame T)} {held ns : List (Node T)} → length table < limit → Place table fs leaf
         → Sits key fs
         → StockAt nil tag (away leaf) fs (tag ∷ []) held ns
-        → Safe mapTest (StepsTo (Holds nil limit) (stored key value table new) (tag ∷ []))
+        → Safe mapTest (StepsTo (Holds nil limit) (stored key value table new) (tag ∷ []) ahead)
         (bind (climb (list.map (stepOf nil) fs)
         (top (record { key = key; value = value; tag = tag; left = absent nil; right = absent nil }) none none) [])
         (λ b. done (finish (suc (length table)) new b))) held ns
@@ -153,11 +153,11 @@ module _ {T : Type 0} {nil tag : T} {limit : ℕ} where
         (new-ascends p sits value)
         (sym (new-length p sits value)) (let k = new-length p sits value in omega arith)))
 
-    put-value : (value : ℕ) {fs : List (Frame T)} {l : Tree (Entry T)} {e : Entry T} {r : Tree (Entry T)}
+    put-value : {ahead : Ahead T} (value : ℕ) {fs : List (Frame T)} {l : Tree (Entry T)} {e : Entry T} {r : Tree (Entry T)}
         {held ns : List (Node T)}
         → Place table fs (node l e r) → key ≡ e .key
         → StockAt nil tag (have (away l) e (away r)) fs (tag ∷ []) held ns
-        → StepsTo (Holds nil limit) (stored key value table (replaced (e .value))) (tag ∷ [])
+        → StepsTo (Holds nil limit) (stored key value table (replaced (e .value))) (tag ∷ []) ahead
         (finish (length table) (replaced (e .value))
         (unwind (list.map (stepOf nil) fs) (top (withValue value (nodeAt nil l e r)) none none) [])) held ns
     unfolding whole further below topNode subOf height Balanced pairs unfetched tags
@@ -170,8 +170,8 @@ module _ {T : Type 0} {nil tag : T} {limit : ℕ} where
         (rw same (store-ascends ascends p value))
         (rw same (sym (store-length ascends p value))) (let k = store-length ascends p value in rw same (omega arith))
 
-    put-keeps : (value : ℕ) (s : Spot T) (held ns : List (Node T)) → Reached nil tag key table s held ns
-        → Safe mapTest (StepsTo (Holds nil limit) (plain limit (put key value) table) (tag ∷ []))
+    put-keeps : {ahead : Ahead T} (value : ℕ) (s : Spot T) (held ns : List (Node T)) → Reached nil tag key table s held ns
+        → Safe mapTest (StepsTo (Holds nil limit) (plain limit (put key value) table) (tag ∷ []) ahead)
         (putStep nil key value tag (length table) limit s) held ns
     unfolding putStep
     put-keeps value s held ns (missing p sits stock) =
@@ -185,8 +185,8 @@ module _ {T : Type 0} {nil tag : T} {limit : ℕ} where
 
     -- ---- remove
 
-    remove-keeps : (s : Spot T) (held ns : List (Node T)) → Reached nil tag key table s held ns
-        → Safe mapTest (StepsTo (Holds nil limit) (plain limit (remove key) table) (tag ∷ [])) (removeStep (length table) s) held ns
+    remove-keeps : {ahead : Ahead T} (s : Spot T) (held ns : List (Node T)) → Reached nil tag key table s held ns
+        → Safe mapTest (StepsTo (Holds nil limit) (plain limit (remove key) table) (tag ∷ []) ahead) (removeStep (length table) s) held ns
     unfolding removeStep plain removeAnswer
     remove-keeps s held ns (missing p sits stock) =
         ends (finish-keeps (length table) answers.absent (unwound-stands (missing p sits stock))
@@ -218,9 +218,9 @@ module _ {T : Type 0} {nil tag : T} {limit : ℕ} where
 
 -- From a memory that holds the table, a call of the map finds each node that it wants, and keeps.
 pub map-keeps : {T : Type 0} {nil : T} {limit : ℕ} {m : Memory T} {table : List Pair} (op : Op map) (spares : ℕ → T) → Holds nil limit table m
-    → Safe mapTest (StepsTo (Holds nil limit) (plain limit op table) (sparesOf map spares))
-    (program nil op spares limit (m .entries) (m .root)) [] (m .nodes)
-unfolding program getProg putProg removeProg spare drawsFrom
+    → Safe mapTest (StepsTo (Holds nil limit) (plain limit op table) (givenTags map m spares) (aheadAfter nil op spares limit (m .entries) (m .ahead)))
+    (program nil op spares limit (m .entries) (m .ahead) (m .root)) [] (m .nodes)
+unfolding program aheadAfter getProg putProg removeProg spare drawsFrom
 map-keeps (get key) spares h =
     rw (h .counted) (safe-then _ (start-safe {tag = spares 0} key h)
     (λ s held ns r. ends (get-keeps (holds-ascending h) (h .fits) s held ns r)))

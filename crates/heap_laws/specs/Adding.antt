@@ -83,7 +83,7 @@ module _ {T : Type 0} (nil : T) (limit : ℕ) (vs : List ℕ) (m : Memory T) (h 
 
     -- The memory after the number has risen.
     cell-kept : {path : List (Pass T)} {ns : List (Node T)} → length vs < limit → Passes nil fs path → Perm ns (aside nil fs)
-        → HoldsHeap nil limit (enter (c .value) vs) (memoryOf (addOutcome nil c m path) ns)
+        → HoldsHeap nil limit (enter (c .value) vs) (memoryOf (m .ahead) (addOutcome nil c m path) ns)
     unfolding heapLink
     cell-kept {path} room passes there =
         let new = newNode nil (c .value) (c .tag) (m .entries) in
@@ -105,7 +105,7 @@ module _ {T : Type 0} (nil : T) (limit : ℕ) (vs : List ℕ) (m : Memory T) (h 
 
   add-room : (c : Cell T) {r : Reached T} {held ns : List (Node T)} → ltb (length vs) limit ≡ true
       → Came nil (suc (m .entries)) (h .tree) r held ns
-      → StepsTo (HoldsHeap nil limit) (plain limit (add (c .value)) vs) (c .tag ∷ []) (addOutcome nil c m (r .path)) held ns
+      → StepsTo (HoldsHeap nil limit) (plain limit (add (c .value)) vs) (c .tag ∷ []) (m .ahead) (addOutcome nil c m (r .path)) held ns
   unfolding plain heapNodes
   add-room c {r} {held} {ns} room came =
       let gone = place-empty came in
@@ -119,7 +119,7 @@ module _ {T : Type 0} (nil : T) (limit : ℕ) (vs : List ℕ) (m : Memory T) (h 
       }
 
   add-full : (value : ℕ) (tag : T) → ltb (length vs) limit ≡ false
-      → StepsTo (HoldsHeap nil limit) (plain limit (add value) vs) (tag ∷ [])
+      → StepsTo (HoldsHeap nil limit) (plain limit (add value) vs) (tag ∷ []) (m .ahead)
       (record { nodes = []; root = m .root; entries = m .entries; answer = full }) [] (m .nodes)
   unfolding plain
   add-full value tag room =
@@ -131,7 +131,7 @@ module _ {T : Type 0} (nil : T) (limit : ℕ) (vs : List ℕ) (m : Memory T) (h 
 
 module _ {T : Type 0} (nil : T) where
   pub add-safe : (limit : ℕ) (vs : List ℕ) (m : Memory T) → HoldsHeap nil limit vs m → (value : ℕ) (tag : T)
-      → Safe (heapTest (m .entries)) (StepsTo (HoldsHeap nil limit) (plain limit (add value) vs) (tag ∷ []))
+      → Safe (heapTest (m .entries)) (StepsTo (HoldsHeap nil limit) (plain limit (add value) vs) (tag ∷ []) (m .ahead))
       (addProg nil value tag (m .entries) limit (m .root)) [] (m .nodes)
   unfolding addProg
   add-safe limit vs m h value tag =

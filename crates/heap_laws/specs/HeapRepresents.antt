@@ -10,10 +10,10 @@ use Rattle.balance_spec.specs.Tree.{leaf}
 use Rattle.method_spec.specs.Answer.{heap, Op, add, take}
 use Rattle.method_spec.specs.Plain.{plain}
 use Rattle.method_spec.specs.Rounds.{rounds, spare}
-use Rattle.method_spec.specs.Call.{capacity, program, test, Memory, emptyMemory, drawsFrom}
+use Rattle.method_spec.specs.Call.{capacity, program, aheadAfter, test, Memory, emptyMemory, drawsFrom}
 use Rattle.method_spec.specs.Safe.{Safe}
 use Rattle.run_laws.specs.SafeLaws.{within-more}
-use Rattle.run_laws.specs.Calls.{sparesOf}
+use Rattle.run_laws.specs.Calls.{givenTags}
 use Rattle.run_laws.specs.HeapWithin.{heap-rounds, heap-within}
 use Rattle.run_laws.specs.Answers.{StepsTo, Represents}
 use Rattle.run_laws.specs.StackRepresents.{countdown}
@@ -24,10 +24,10 @@ use Rattle.heap_laws.specs.Taking.{take-safe}
 
 module _ {T : Type 0} (nil : T) where
   pub heap-represents : (k : ℕ) → Represents heap nil (rounds heap k) (capacity k) (HoldsHeap nil (capacity k))
-  unfolding rounds test program spare drawsFrom
+  unfolding rounds test program aheadAfter spare drawsFrom
   heap-represents k =
       record {
-        unordered = λ vs entries root xs ys p h. record {
+        unordered = λ vs entries root a xs ys p h. record {
           tree = h .tree;
           complete = h .complete;
           ordered = h .ordered;
@@ -42,13 +42,13 @@ module _ {T : Type 0} (nil : T) where
         distinct-keys = λ vs m h. heap-distinct nil h;
         within = λ vs m h op spares.
             let few : m .entries < 2 ^ k = omega (arith, h .counted, h .fits, pow-pos k) in
-            within-more (heap-rounds k (m .entries) few) (heap-within nil op spares (capacity k) (m .entries) (m .root));
+            within-more (heap-rounds k (m .entries) few) (heap-within nil op spares (capacity k) (m .entries) (m .ahead) (m .root));
         safe = λ vs m h. safe-step vs m h;
       }
     where
       safe-step : (vs : List ℕ) (m : Memory T) → HoldsHeap nil (capacity k) vs m → (op : Op heap) (spares : ℕ → T)
-          → Safe (test heap (m .entries)) (StepsTo (HoldsHeap nil (capacity k)) (plain (capacity k) op vs) (sparesOf heap spares))
-          (program nil op spares (capacity k) (m .entries) (m .root)) [] (m .nodes)
+          → Safe (test heap (m .entries)) (StepsTo (HoldsHeap nil (capacity k)) (plain (capacity k) op vs) (givenTags heap m spares) (aheadAfter nil op spares (capacity k) (m .entries) (m .ahead)))
+          (program nil op spares (capacity k) (m .entries) (m .ahead) (m .root)) [] (m .nodes)
       safe-step vs m h (add value) spares = add-safe nil (capacity k) vs m h value (spares 0)
       safe-step vs m h take spares = take-safe nil (capacity k) vs m h (spares 0)
 

@@ -9,7 +9,7 @@ use borrow.Author.Tests.{eqb-true, eqb-false}
 use Rattle.list_spec.specs.Perm.{Perm, cons, swap, trans}
 use Rattle.list_laws.specs.PermLaws.{perm-refl, perm-sym, perm-of-eq, perm-front, perm-length, perm-singleton, perm-append-comm, perm-cancel}
 use Rattle.balance_spec.specs.Tree.{Tree, leaf, node, height}
-use Rattle.method_spec.specs.Node.{Node, Link, absent, linkOne}
+use Rattle.method_spec.specs.Node.{Ahead, Node, Link, absent, linkOne}
 use Rattle.method_spec.specs.Prog.{want}
 use Rattle.method_spec.specs.Answer.{take, taken, empty}
 use Rattle.method_spec.specs.Plain.{plain, taken-from}
@@ -75,10 +75,10 @@ module _ {T : Type 0} (nil : T) (limit w : ℕ) (ws : List ℕ) (m : Memory T) (
 
 -- ---- the number of the last position sinks from the root
 
-module _ {T : Type 0} (nil : T) (limit w : ℕ) (ws : List ℕ) (tag : T) where
+module _ {T : Type 0} (nil : T) (limit w : ℕ) (ws : List ℕ) (tag : T) (ahead : Ahead T) where
   -- What a take must come to, where the plain heap gives the number w and keeps the others.
   abbrev Done : Outcome T → List (Node T) → List (Node T) → Type 0
-  Done = StepsTo (HoldsHeap nil limit) (plain limit take (w ∷ ws)) (tag ∷ [])
+  Done = StepsTo (HoldsHeap nil limit) (plain limit take (w ∷ ws)) (tag ∷ []) ahead
 
   module _ (z : Cell T) (d : T) where
     -- The node of the last position, as it is held.
@@ -208,14 +208,14 @@ module _ {T : Type 0} (nil : T) (limit w : ℕ) (ws : List ℕ) (tag : T) where
 module _ {T : Type 0} (nil : T) where
   -- The empty heap has none.
   none-taken : (limit : ℕ) (m : Memory T) → HoldsHeap nil limit [] m → (tag : T)
-      → StepsTo (HoldsHeap nil limit) (plain limit take []) (tag ∷ [])
+      → StepsTo (HoldsHeap nil limit) (plain limit take []) (tag ∷ []) (m .ahead)
       (record { nodes = []; root = m .root; entries = m .entries; answer = empty }) [] (m .nodes)
   unfolding plain taken-from
   none-taken limit m h tag =
       record { contents = h; answers = refl; retagged = record { dropped = tag ∷ []; among = perm-refl (tag ∷ []) } }
 
   pub take-safe : (limit : ℕ) (vs : List ℕ) (m : Memory T) → HoldsHeap nil limit vs m → (tag : T)
-      → Safe (heapTest (m .entries)) (StepsTo (HoldsHeap nil limit) (plain limit take vs) (tag ∷ [])) (takeProg nil (m .entries) (m .root)) []
+      → Safe (heapTest (m .entries)) (StepsTo (HoldsHeap nil limit) (plain limit take vs) (tag ∷ []) (m .ahead)) (takeProg nil (m .entries) (m .root)) []
       (m .nodes)
   unfolding takeProg
   take-safe limit [] m h tag =
@@ -230,4 +230,4 @@ module _ {T : Type 0} (nil : T) where
       rw (counted, h .linked)
       (safe-then _
       (descend-safe nil n n (h .tree) (m .nodes) (rw counted at (h .complete)) (omega arith) (omega arith) (h .stored))
-      (last-safe nil limit w ws tag m h)))
+      (last-safe nil limit w ws tag (m .ahead) m h)))

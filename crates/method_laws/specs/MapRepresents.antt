@@ -42,7 +42,7 @@ pub map-represents : {T : Type 0} (nil : T) (k : ℕ) → Represents map nil (ro
 unfolding rounds test
 map-represents nil k =
     record {
-      unordered = λ table entries root xs ys p h. record {
+      unordered = λ table entries root a xs ys p h. record {
         tree = h .tree;
         balanced = h .balanced;
         search = h .search;
@@ -54,6 +54,6 @@ map-represents nil k =
       };
       distinct-keys = λ table m h. holds-distinct h;
       within = λ table m h op spares. within-more (let low = holds-low k h in omega arith)
-          (program-within nil op spares (capacity k) (m .entries) (m .root));
+          (program-within nil op spares (capacity k) (m .entries) (m .ahead) (m .root));
       safe = λ table m h op spares. map-keeps op spares h;
     }

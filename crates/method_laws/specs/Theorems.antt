@@ -1,5 +1,5 @@
 -- The theorems of the method: of every structure, size and type of tags, for every list of calls from the empty structure.
-use mathlib.Core.Path.{_≡_, sym, _∙_, ap}
+use mathlib.Core.Path.{_≡_, refl, sym, _∙_, ap}
 use mathlib.Core.Bool.{Bool, true}
 use mathlib.Core.List.{List, [], _++_, map, map-append}
 use mathlib.Core.Option.{some}
@@ -13,11 +13,11 @@ use Rattle.list_laws.specs.DistinctLaws.{distinct-left}
 use Rattle.balance_spec.specs.Tree.{height, size}
 use Rattle.balance_spec.specs.Shape.{shaped}
 use Rattle.balance_spec.specs.Greatest.{greatest}
-use Rattle.method_spec.specs.Node.{Node}
+use Rattle.method_spec.specs.Node.{Node, noneAhead}
 use Rattle.method_spec.specs.Prog.{Want, Prog}
 use Rattle.method_spec.specs.Map.{Outcome}
 use Rattle.method_spec.specs.Answer as answer
-use Rattle.method_spec.specs.Answer.{Structure, stack, heap, Op}
+use Rattle.method_spec.specs.Answer.{Structure, stack, heap, queue, Op}
 use Rattle.method_spec.specs.Plain.{Pair, Contents, nothing, plainContents, plainAnswers}
 use Rattle.method_spec.specs.Rounds.{rounds, draws}
 use Rattle.method_spec.specs.Call.{capacity, program, test, Memory, emptyMemory, run, Ran}
@@ -33,11 +33,13 @@ use Rattle.run_laws.specs.Origins.{callOf, drawOf, drawn-of, OnTape, names-coun
 use Rattle.run_laws.specs.StackRepresents.{HoldsStack, chain-countdown, cells-counted, countdown}
 use Rattle.heap_laws.specs.HeapTree.{HoldsHeap}
 use Rattle.heap_laws.specs.HeapFacts.{heap-keys}
+use Rattle.queue_laws.specs.QueueRow.{HoldsQueue}
+use Rattle.queue_laws.specs.QueueRepresents as queue
 use Rattle.avl_laws.specs.Search.{Holds}
 use Rattle.avl_laws.specs.Holds.{holds-height, holds-entries}
 use Rattle.method_laws.specs.MapRepresents.{holds-low, holds-shaped}
 use Rattle.method_laws.specs.Represented.{Held, represents, held-empty, held-fits}
-use Rattle.method_laws.specs.Links.{allLinks, linkFor, one-link}
+use Rattle.method_laws.specs.Links.{allLinks, linkFor, linksAhead, one-link}
 
 -- The map's memory: a balanced search tree of as many nodes as there are entries, no higher than H, whose root link says its
 -- true height, one that the fitness test accepts.
@@ -52,6 +54,11 @@ pub record MapShape {T : Type 0} (nil : T) (k : ℕ) (table : List Pair) (m : Me
 pub record StackShape {T : Type 0} (nil : T) (k : ℕ) (values : List ℕ) (m : Memory T) : Type 0 where
   pub holds : HoldsStack nil (capacity k) values m
   pub numbered : Perm (keys (m .nodes)) (countdown (m .entries))
+
+-- The queue's memory: a row of nodes from the oldest, with keys up to the next unused one; see HoldsQueue.
+pub record QueueShape {T : Type 0} (nil : T) (k : ℕ) (values : List ℕ) (m : Memory T) : Type 0 where
+  pub holds : HoldsQueue nil (capacity k) values m
+  pub numbered : m .ahead .key ≡ holds .first + m .entries
 
 -- The heap's memory: the complete tree of positions 1 to entries, every number at least its parent's; see HoldsHeap.
 pub record HeapShape {T : Type 0} (nil : T) (k : ℕ) (numbers : List ℕ) (m : Memory T) : Type 0 where
@@ -79,7 +86,7 @@ module _ {T : Type 0} (nil : T) (k : ℕ) (draw : ℕ → ℕ → T) where
 
   pub map-shape : (ops : List (Op answer.map)) → MapShape nil k (plainContents (capacity k) ops (nothing answer.map)) (ran ops .memory)
   map-shape ops =
-      let h = held ops in
+      let h = held ops .0 in
       record {
         holds = h;
         counted = holds-entries h;
@@ -90,7 +97,7 @@ module _ {T : Type 0} (nil : T) (k : ℕ) (draw : ℕ → ℕ → T) where
 
   pub stack-shape : (ops : List (Op stack)) → StackShape nil k (plainContents (capacity k) ops (nothing stack)) (ran ops .memory)
   stack-shape ops =
-      let h = held ops in
+      let h = held ops .0 in
       record {
         holds = h;
         numbered =
@@ -99,11 +106,24 @@ module _ {T : Type 0} (nil : T) (k : ℕ) (draw : ℕ → ℕ → T) where
       }
 
   pub heap-shape : (ops : List (Op heap)) → HeapShape nil k (plainContents (capacity k) ops (nothing heap)) (ran ops .memory)
-  heap-shape ops = let h = held ops in record { holds = h; numbered = heap-keys nil h }
+  heap-shape ops = let h = held ops .0 in record { holds = h; numbered = heap-keys nil h }
 
-  -- Each node has one link to it, with its key, its tag and its height, and there is no other link.
+  pub queue-shape : (ops : List (Op queue)) → QueueShape nil k (plainContents (capacity k) ops (nothing queue)) (ran ops .memory)
+  queue-shape ops =
+      let h = held ops in
+      record { holds = h; numbered = h .in-row ∙ ap (λ (n : ℕ). h .first + n) (sym (queue.cells-counted nil (capacity k) _ _ h)) }
+
+  -- Only a queue knows anything ahead.
+  pub none-ahead : (s : Structure) → (s ≡ queue → ⊥) → (ops : List (Op s)) → ran ops .memory .ahead ≡ noneAhead nil
+  none-ahead answer.map other ops = held ops .1
+  none-ahead stack other ops = held ops .1
+  none-ahead heap other ops = held ops .1
+  none-ahead queue other ops = absurd (other refl)
+
+  -- Each node has one link to it, with its key, its tag and its height, and there is no other link but a queue's to the next node.
   pub one-link-each : {s : Structure} (ops : List (Op s))
-      → Perm (allLinks (ran ops .memory)) (map (linkFor s) (ran ops .memory .nodes))
+      → Perm (allLinks (ran ops .memory))
+      (linksAhead s (ran ops .memory .entries) (ran ops .memory .ahead) ++ map (linkFor s) (ran ops .memory .nodes))
   one-link-each {s} ops = one-link nil s (capacity k) _ (ran ops .memory) (held ops)
 
   -- The entries never pass 2^k - 1.
@@ -114,7 +134,7 @@ module _ {T : Type 0} (nil : T) (k : ℕ) (draw : ℕ → ℕ → T) where
 
   -- The program of one more call, on the memory that the calls left.
   abbrev pub nextProgram : {s : Structure} → List (Op s) → Op s → (spares : ℕ → T) → Prog T (Outcome T)
-  nextProgram ops op spares = program nil op spares (capacity k) (ran ops .memory .entries) (ran ops .memory .root)
+  nextProgram ops op spares = program nil op spares (capacity k) (ran ops .memory .entries) (ran ops .memory .ahead) (ran ops .memory .root)
 
   -- The fetch tests of that call.
   abbrev pub nextTest : {s : Structure} → List (Op s) → Want T → Node T → Bool

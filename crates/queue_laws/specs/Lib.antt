@@ -1,0 +1,2 @@
+pub mod QueueRow
+pub mod QueueRepresents

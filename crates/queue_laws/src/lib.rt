@@ -1,0 +1,1 @@
+// Queues: rows of nodes whose keys count up, and the queue of the method over them; no code.

@@ -7,6 +7,7 @@ use Rattle.list_spec.specs.Choice.{pick}
 use Rattle.method_spec.specs.Answer.{Structure, Op, Answer}
 use Rattle.bucket_call_spec.specs.Fetch.{Left}
 use Rattle.bucket_call_spec.specs.Call.{Store, bucketCall}
+use Rattle.leaf_spec.specs.Entries.{KeyLeft}
 use Rattle.simulation_laws.specs.Relation.{leftBy}
 
 -- The mark of the last call, what each call answered (none where it closed the store), all leaves revealed, and the store that is left.
@@ -34,3 +35,9 @@ bucketRun k F draw c [] st = record { mark = 0; answers = []; leaves = []; store
 bucketRun k F draw c (op ∷ ops) st =
     let l = bucketCall k F op (draw c) st in
     pick (eqb (l .mark) 0) (andThen l (bucketRun k F draw (suc c) ops (leftBy l))) (last l)
+
+-- There is a key for each call of the list that stores one.
+abbrev pub KeysLeft : {s : Structure} → (size rounds : ℕ) → (draw : ℕ → ℕ → ℕ) → (c : ℕ) → List (Op s) → Store → Type 0
+KeysLeft k F draw c [] st = Unit {0}
+KeysLeft k F draw c (op ∷ ops) st =
+    KeyLeft op (st .ahead .key) × KeysLeft k F draw (suc c) ops (leftBy (bucketCall k F op (draw c) st))

@@ -7,14 +7,14 @@ use Prim.Native.Nat.{ℕ, _^_, _≤_, _<_}
 use native.Mathlib.Omega.{arith}
 use Rattle.list_laws.specs.PermLaws.{perm-refl, perm-member}
 use Rattle.list_spec.specs.Distinct.{Distinct, All}
-use Rattle.method_spec.specs.Node.{Node}
+use Rattle.method_spec.specs.Node.{Node, Ahead}
 use Rattle.method_spec.specs.Prog.{Prog, done, want}
 use Rattle.method_spec.specs.Answer.{Structure, Op, Answer}
 use Rattle.method_spec.specs.Answer as answer
 use Rattle.method_spec.specs.Plain.{Contents}
 use Rattle.method_spec.specs.Map.{Outcome}
-use Rattle.method_spec.specs.Rounds.{rounds, spareDraw}
-use Rattle.method_spec.specs.Call.{capacity, program, Memory, emptyMemory, Fetched, fetches, stepped, answered, Called, call}
+use Rattle.method_spec.specs.Rounds.{rounds}
+use Rattle.method_spec.specs.Call.{capacity, program, aheadAfter, spareTags, Memory, emptyMemory, Fetched, fetches, stepped, answered, Called, call}
 use Rattle.run_laws.specs.RoundsLaws.{some-rounds}
 use Rattle.run_laws.specs.SafeLaws.{safe-map}
 use Rattle.run_laws.specs.Fetches.{keys}
@@ -23,15 +23,15 @@ use Rattle.run_laws.specs.Answers.{represents-call}
 use Rattle.method_laws.specs.Represented.{Held, represents}
 use Rattle.leaf_spec.specs.Leaf.{leafFormat, ProperLeaf}
 use Rattle.bucket_call_spec.specs.Fetch.{Going, Round}
-use Rattle.bucket_call_spec.specs.Call.{Store, fetchedBy, bucketCall}
+use Rattle.bucket_call_spec.specs.Call.{Store, fetchedBy, aheadThen, bucketCall}
 use Rattle.round_laws.specs.NoDamage.{there-proper}
 use Rattle.round_laws.specs.Kept.{fresh-empty, fresh-kept}
 use Rattle.list_spec.specs.Ascending.{ascending}
 use Rattle.leaf_laws.specs.Proper.{leaves-lawful, Fits, proper-fits}
-use Rattle.leaf_spec.specs.Entries.{OpFits}
+use Rattle.leaf_spec.specs.Entries.{OpFits, KeyLeft}
 use Rattle.simulation_laws.specs.ProperCall.{call-held, call-proper}
 use Rattle.bucket_call_spec.specs.Simulates.{Simulates}
-use Rattle.simulation_laws.specs.Relation.{emptyStore, memoryEntries, Matches, Overflowed}
+use Rattle.simulation_laws.specs.Relation.{emptyStore, AheadFits, memoryEntries, Matches, Overflowed}
 use Rattle.simulation_laws.specs.RoundSim.{Went}
 use Rattle.simulation_laws.specs.FetchSim.{WentAs, fetches-went}
 use Rattle.simulation_laws.specs.StepSim.{fetches-match}
@@ -50,18 +50,21 @@ simulates-fits {k} {st} {m} sim n i =
     (there-proper leafFormat leaves-lawful k (st .tree) (st .waiting) [] (sim .kept) n (perm-member (sim .there) i))
 
 module _ {s : Structure} (k : ℕ) (positive : 1 ≤ k) (small : k ≤ 16) (t : Contents s) (m : Memory ℕ) (held : Held 0 s (capacity k) t m)
-    (st : Store) (sim : Simulates k st m) (op : Op s) (op-fits : OpFits op) (draw : ℕ → ℕ) (leaves : (d : ℕ) → draw d < 2 ^ k) where
+    (known : AheadFits k (m .ahead)) (st : Store) (sim : Simulates k st m) (op : Op s) (op-fits : OpFits op) (key-left : KeyLeft op (m .ahead .key)) (draw : ℕ → ℕ) (leaves : (d : ℕ) → draw d < 2 ^ k) where
   abbrev F : ℕ
   F = rounds s k
 
   abbrev spares : ℕ → ℕ
-  spares i = draw (spareDraw F i)
+  spares = spareTags F draw
+
+  abbrev ahead : Ahead ℕ
+  ahead = aheadAfter 0 op spares (capacity k) (m .entries) (m .ahead)
 
   abbrev called : Called ℕ
   called = call 0 F (capacity k) op draw m
 
   abbrev fetched : Fetched ℕ (Outcome ℕ)
-  fetched = fetches draw F 0 (program 0 op spares (capacity k) (m .entries) (m .root)) (m .nodes)
+  fetched = fetches draw F 0 (program 0 op spares (capacity k) (m .entries) (m .ahead) (m .root)) (m .nodes)
 
   abbrev started : Going
   started = record { tree = st .tree; waiting = st .waiting; held = []; leaves = [] }
@@ -72,9 +75,9 @@ module _ {s : Structure} (k : ℕ) (positive : 1 ≤ k) (small : k ≤ 16) (t : 
   -- The fetch rounds are the method's fetches.
   fetch-phase : WentAs k (memoryEntries m) started fetched fetchEnd
   fetch-phase =
-      rw (sim .entries, sim .root)
+      rw (sim .entries, sim .root, sim .ahead)
       (fetches-went s (m .entries) k draw leaves {Post = λ o held ns. Unit {0}} (λ o held xs ys p h. h) F 0
-      (program 0 op spares (capacity k) (m .entries) (m .root)) started (omega arith)
+      (program 0 op spares (capacity k) (m .entries) (m .ahead) (m .root)) started (omega arith)
       (record { there = sim .there; kept = sim .kept; ascends = sim .ascends; whole = perm-refl (memoryEntries m) })
       (safe-map (λ o held ns post. tt) (represents 0 s k .safe t m held op spares)))
 
@@ -90,15 +93,17 @@ module _ {s : Structure} (k : ℕ) (positive : 1 ≤ k) (small : k ≤ 16) (t : 
   simulate =
       let o = outcome .0 in
       let e = outcome .1 in
-      let remembers : called .memory ≡ memoryOf o (fetched .nodes) = ap (stepped m (fetched .nodes)) e in
+      let remembers : called .memory ≡ memoryOf ahead o (fetched .nodes) = ap (stepped m ahead (fetched .nodes)) e in
       let nodes : called .memory .nodes ≡ o .nodes ++ fetched .nodes = ap (λ (x : Memory ℕ). x .nodes) remembers in
-      fetches-match s k F (some-rounds s k positive) draw leaves m called o (fetched .nodes) remembers (ap answered e)
+      let same : aheadThen k F op draw st ≡ ahead = rw (sim .entries, sim .ahead) in
+      rw same
+      (fetches-match s k F (some-rounds s k positive) draw leaves m called ahead o (fetched .nodes) remembers (ap answered e)
       (fetched .revealed) refl
       (subst (λ (ns : List (Node ℕ)). Distinct (keys ns)) nodes
       (represents 0 s k .distinct-keys _ (called .memory) (call-held k small t m held op draw)))
-      (subst (All (ProperLeaf k)) nodes (call-proper k small t m held op draw op-fits leaves (simulates-fits sim)))
+      (subst (All (ProperLeaf k)) nodes (call-proper k small t m held op draw op-fits key-left leaves known (simulates-fits sim)))
       st fetchEnd
-      (subst (λ (p : Prog ℕ (Outcome ℕ)). Went k (memoryEntries m) p (fetched .nodes) (fetched .revealed) fetchEnd) e fetch-phase)
+      (subst (λ (p : Prog ℕ (Outcome ℕ)). Went k (memoryEntries m) p (fetched .nodes) (fetched .revealed) fetchEnd) e fetch-phase))
 
 -- ---- the start
 
@@ -108,6 +113,7 @@ simulate-start k =
     record {
       entries = refl;
       root = refl;
+      ahead = refl;
       there = rw (fresh-empty leafFormat leaves-lawful k) (perm-refl []);
       kept = fresh-kept leafFormat leaves-lawful k;
       few = omega arith;

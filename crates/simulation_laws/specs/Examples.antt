@@ -11,7 +11,7 @@ use Rattle.method_spec.specs.Prog.{bind}
 use Rattle.method_spec.specs.Answer.{stack, push, pop, pushed, popped}
 use Rattle.method_spec.specs.Stack.{pushProg, popProg, stackTest}
 use Rattle.method_spec.specs.Rounds.{rounds, spare}
-use Rattle.method_spec.specs.Call.{program, test}
+use Rattle.method_spec.specs.Call.{program, aheadAfter, test}
 use Rattle.method_spec.specs.Origin.{leafOf}
 use Rattle.leaf_spec.specs.Leaf.{readLeaf}
 use Rattle.bucket_call_spec.specs.Fetch.{movedLink, movedNode, closing, atClose, idleRound, tookRound, wantRound, fetchRound, fetchRounds}
@@ -23,5 +23,5 @@ abbrev worked : BucketRan
 worked = tapeRun {s = stack} 2 ((1 ∷ 2 ∷ 3 ∷ []) ∷ (0 ∷ 1 ∷ 1 ∷ []) ∷ []) (push 50 ∷ pop ∷ [])
 
 pub push-and-pop : (worked .mark ≡ 0) × (worked .answers ≡ some pushed ∷ some (popped 50) ∷ []) × (worked .leaves ≡ 1 ∷ 3 ∷ 2 ∷ 1 ∷ [])
-unfolding bucketRun rounds spare leafOf bucketCall afterFetches afterPuts putRounds fetchRounds fetchRound wantRound tookRound idleRound atClose closing movedLink movedNode withBucket noneTwice allGood readBucket readBuckets insert join takeFirst tagged granted joined grantedFrom readHalf choose evict halvings among filled encode fieldsOf pack bytes readSlot bad fieldsIn nodeOf fields value allZero readLeaf program test pushProg popProg stackTest bind
+unfolding bucketRun rounds spare leafOf bucketCall afterFetches afterPuts putRounds fetchRounds fetchRound wantRound tookRound idleRound atClose closing movedLink movedNode withBucket noneTwice allGood readBucket readBuckets insert join takeFirst tagged granted joined grantedFrom readHalf choose evict halvings among filled encode fieldsOf pack bytes readSlot bad fieldsIn nodeOf fields value allZero readLeaf program aheadAfter test pushProg popProg stackTest bind
 push-and-pop = (refl, refl, refl)

@@ -1,10 +1,11 @@
--- The nodes of a memory that holds a structure are proper, where their own numbers are within bounds: every link is all zero, or it has
--- the key and the tag of a node and no great height.
+-- The nodes of a memory that holds a structure are proper, where their own numbers and what is known ahead are within bounds: every link is
+-- all zero, or it has the key and the tag of a node, or of the one that comes next, and no great height.
 use mathlib.Core.Path.{_≡_, refl}
 use mathlib.Core.Bool.{true, false}
 use mathlib.Core.List.{List, [], _∷_, List·Memᴰ·head, List·Memᴰ·tail}
-use Prim.Native.Nat.{ℕ, suc, _≤_, _<_}
+use Prim.Native.Nat.{ℕ, suc, _+_, _^_, _≤_, _<_}
 use native.Mathlib.Omega.{arith}
+use lib.ListN.{length}
 use lib.Pow.{pow-pos}
 use Rattle.list_laws.specs.PermLaws.{perm-sym}
 use Rattle.list_spec.specs.Distinct.{All}
@@ -14,19 +15,21 @@ use Rattle.balance_spec.specs.Least.{least}
 use Rattle.balance_spec.specs.Shape.{shaped}
 use Rattle.balance_spec.specs.Greatest.{tallest, greatest}
 use Rattle.balance_laws.specs.GreatestLaws.{greatest-mono}
-use Rattle.method_spec.specs.Node.{Node, absent}
-use Rattle.method_spec.specs.Answer.{Structure, map, stack, heap}
+use Rattle.method_spec.specs.Node.{Node, Ahead, absent}
+use Rattle.method_spec.specs.Answer.{Structure, map, stack, heap, queue}
 use Rattle.method_spec.specs.Plain.{Contents}
 use Rattle.method_spec.specs.Call.{capacity, Memory}
 use Rattle.run_laws.specs.StackRepresents.{Cell, chainLink, chain}
 use Rattle.method_spec.specs.Heap.{childPosition}
 use Rattle.heap_laws.specs.HeapTree.{heapLink, heapNodes}
+use Rattle.queue_laws.specs.QueueRow.{rowLink, row}
 use Rattle.avl_laws.specs.Search.{Entry, linkTree, nodesOf}
 use Rattle.avl_laws.specs.Holds.{holds-height}
 use Rattle.method_laws.specs.MapRepresents.{holds-low}
 use Rattle.method_laws.specs.Represented.{Held}
 use Rattle.leaf_spec.specs.Leaf.{ProperLeaf}
 use Rattle.leaf_laws.specs.Proper.{Fits, FitLink, fits-proper}
+use Rattle.simulation_laws.specs.Relation.{AheadFits}
 
 -- The heights of all sizes whose tags have two bytes fit in a byte.
 greatest-small : (k : ℕ) → k ≤ 16 → greatest k < 256
@@ -95,27 +98,54 @@ module _ (k : ℕ) where
       all-cons {P = FitLinks} (heap-link left l below, heap-link right r beside)
       (all-append {P = FitLinks} (heapNodes 0 left l) (heap-links left l below) (heap-links right r beside))
 
+  -- ---- the queue
+
+  row-link : (first : ℕ) (cs : List (Cell ℕ)) (ahead : ℕ) → All (Fits k) (row 0 first cs ahead) → FitLink k (rowLink 0 first cs)
+  unfolding row rowLink
+  row-link first [] ahead f = absent-fits
+  row-link first (c ∷ cs) ahead f = present-fits 0 _ (omega arith) (f _ (List·Memᴰ·head refl))
+
+  row-links : (first : ℕ) (cs : List (Cell ℕ)) (a : Ahead ℕ) → AheadFits k a → a .key ≡ first + length cs
+      → All (Fits k) (row 0 first cs (a .tag)) → All FitLinks (row 0 first cs (a .tag))
+  unfolding row rowLink
+  row-links first [] a known keyed f = all-nil FitLinks
+  row-links first (c ∷ []) a known keyed f =
+      let key : suc first < 2 ^ 32 = omega (arith, known .key) in
+      all-cons {P = FitLinks}
+      (record { height = omega arith; key = key; tag = known .tag; absent-zero = λ (e : 1 ≡ 0). let z : ⊥ = omega arith in absurd z }, absent-fits)
+      (all-nil FitLinks)
+  row-links first (c ∷ b ∷ cs) a known keyed f =
+      let later : All (Fits k) (row 0 (suc first) (b ∷ cs) (a .tag)) = λ n i. f n (List·Memᴰ·tail i) in
+      all-cons {P = FitLinks} (row-link (suc first) (b ∷ cs) (a .tag) later, absent-fits)
+      (row-links (suc first) (b ∷ cs) a known (omega arith) later)
+
   -- ---- every structure
 
   -- The root link, and both links of each node.
-  held-links : k ≤ 16 → (s : Structure) (t : Contents s) (m : Memory ℕ) → Held 0 s (capacity k) t m → All (Fits k) (m .nodes)
+  held-links : k ≤ 16 → (s : Structure) (t : Contents s) (m : Memory ℕ) → Held 0 s (capacity k) t m → AheadFits k (m .ahead) → All (Fits k) (m .nodes)
       → FitLink k (m .root) × All FitLinks (m .nodes)
-  held-links small map t m h fit =
+  held-links small map t m (h, idle) known fit =
       let there = all-perm {P = Fits k} (h .stored) fit in
       let low : height (h .tree) < 256 = omega (arith, holds-low k h, holds-height h, greatest-small k small) in
       (rw (h .linked) (tree-link (h .tree) low there), all-perm {P = FitLinks} (perm-sym (h .stored)) (tree-links (h .tree) low there))
-  held-links small stack t m h fit =
+  held-links small stack t m (h, idle) known fit =
       let there = all-perm {P = Fits k} (h .there) fit in
       (rw (h .rooted) (chain-link (h .cells) there), all-perm {P = FitLinks} (perm-sym (h .there)) (chain-links (h .cells) there))
-  held-links small heap t m h fit =
+  held-links small heap t m (h, idle) known fit =
       let there = all-perm {P = Fits k} (h .stored) fit in
       (rw (h .linked) (heap-link 1 (h .tree) there), all-perm {P = FitLinks} (perm-sym (h .stored)) (heap-links 1 (h .tree) there))
 
-  module _ (small : k ≤ 16) (s : Structure) (t : Contents s) (m : Memory ℕ) (held : Held 0 s (capacity k) t m) (fit : All (Fits k) (m .nodes)) where
+  held-links small queue t m h known fit =
+      let there = all-perm {P = Fits k} (h .there) fit in
+      (rw (h .rooted) (row-link (h .first) (h .cells) (m .ahead .tag) there),
+        all-perm {P = FitLinks} (perm-sym (h .there)) (row-links (h .first) (h .cells) (m .ahead) known (h .in-row) there))
+
+  module _ (small : k ≤ 16) (s : Structure) (t : Contents s) (m : Memory ℕ) (held : Held 0 s (capacity k) t m) (known : AheadFits k (m .ahead))
+      (fit : All (Fits k) (m .nodes)) where
     pub held-root : FitLink k (m .root)
-    held-root = held-links small s t m held fit .0
+    held-root = held-links small s t m held known fit .0
 
     pub held-proper : All (ProperLeaf k) (m .nodes)
     held-proper n i =
-        let l = held-links small s t m held fit .1 n i in
+        let l = held-links small s t m held known fit .1 n i in
         fits-proper k n small (fit n i) (l .0) (l .1)

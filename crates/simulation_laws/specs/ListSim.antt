@@ -21,12 +21,12 @@ use Rattle.method_laws.specs.Theorems as theorems
 use Rattle.method_spec.specs.Call as method
 use Rattle.bucket_call_spec.specs.Fetch.{Left, Round}
 use Rattle.bucket_call_spec.specs.Call.{Store, fetchedBy, bucketCall}
-use Rattle.leaf_spec.specs.Entries.{OpFits}
-use Rattle.simulation_laws.specs.ProperCall.{call-held}
+use Rattle.leaf_spec.specs.Entries.{OpFits, KeyLeft}
+use Rattle.simulation_laws.specs.ProperCall.{call-held, call-ahead}
 use Rattle.bucket_call_spec.specs.Simulates.{Simulates}
-use Rattle.simulation_laws.specs.Relation.{emptyStore, leftBy, Matches, Overflowed}
-use Rattle.simulation_laws.specs.CallSim.{simulate, simulate-start}
-use Rattle.simulation_laws.specs.BucketRun.{BucketRan, last, andThen, bucketRun}
+use Rattle.simulation_laws.specs.Relation.{emptyStore, AheadFits, leftBy, Matches, Overflowed}
+use Rattle.simulation_laws.specs.CallSim.{simulates-fits, simulate, simulate-start}
+use Rattle.simulation_laws.specs.BucketRun.{BucketRan, last, andThen, bucketRun, KeysLeft}
 
 -- All calls did what the method's calls did.
 pub record RunMatches (k : ℕ) (b : BucketRan) (r : Ran ℕ) : Type 0 where
@@ -102,15 +102,21 @@ module _ {k : ℕ} {l : Left} {r : Called ℕ} where
 module _ {s : Structure} (k : ℕ) (positive : 1 ≤ k) (small : k ≤ 16) (draw : ℕ → ℕ → ℕ) (leaves : (c d : ℕ) → draw c d < 2 ^ k) where
   -- Each list of calls, from a store that simulates a memory that holds what the plain machine holds.
   pub run-simulates : (c : ℕ) (ops : List (Op s)) → All (λ op. OpFits op) ops → (t : Contents s) (m : Memory ℕ) → Held 0 s (capacity k) t m
-      → (st : Store) → Simulates k st m
+      → AheadFits k (m .ahead) → (st : Store) → Simulates k st m → KeysLeft k (rounds s k) draw c ops st
       → RunSimulates k (bucketRun k (rounds s k) draw c ops st) (run 0 (rounds s k) (capacity k) draw c ops m)
   unfolding run bucketRun
-  run-simulates c [] fit t m held st sim = inr (record { mark = refl; answers = refl; leaves = refl; simulates = sim })
-  run-simulates c (op ∷ ops) fit t m held st sim =
-      go (simulate k positive small t m held st sim op (fit op (List·Memᴰ·head refl)) (draw c) (leaves c))
+  run-simulates c [] fit t m held known st sim keys = inr (record { mark = refl; answers = refl; leaves = refl; simulates = sim })
+  run-simulates c (op ∷ ops) fit t m held known st sim keys =
+      go (simulate k positive small t m held known st sim op op-fits key-left (draw c) (leaves c))
       (λ x. run-simulates (suc c) ops (λ o i. fit o (List·Memᴰ·tail i)) (plain (capacity k) op t .contents) (r .memory)
-      (call-held k small t m held op (draw c)) (leftBy l) (x .simulates))
+      (call-held k small t m held op (draw c)) (call-ahead k small t m held op (draw c) op-fits key-left (leaves c) known (simulates-fits sim)) (leftBy l) (x .simulates) (keys .1))
     where
+      op-fits : OpFits op
+      op-fits = fit op (List·Memᴰ·head refl)
+
+      key-left : KeyLeft op (m .ahead .key)
+      key-left = rw (← sim .ahead) (keys .0)
+
       F : ℕ
       F = rounds s k
 
@@ -127,10 +133,12 @@ module _ {s : Structure} (k : ℕ) (positive : 1 ≤ k) (small : k ≤ 16) (draw
       go (inr x) later = rw (run-goes k F draw c op ops st (x .mark)) (goes-on x (later x))
 
   -- From the empty store.
-  pub run-from-start : (ops : List (Op s)) → All (λ op. OpFits op) ops
+  pub run-from-start : (ops : List (Op s)) → All (λ op. OpFits op) ops → KeysLeft k (rounds s k) draw 1 ops (emptyStore k)
       → RunSimulates k (bucketRun k (rounds s k) draw 1 ops (emptyStore k)) (run 0 (rounds s k) (capacity k) draw 1 ops (emptyMemory 0))
-  run-from-start ops fit =
-      run-simulates 1 ops fit (nothing s) (emptyMemory 0) (held-empty 0 s (capacity k)) (emptyStore k) (simulate-start k)
+  unfolding emptyMemory
+  run-from-start ops fit keys =
+      run-simulates 1 ops fit (nothing s) (emptyMemory 0) (held-empty 0 s (capacity k)) (record { key = omega arith; tag = pow-pos k }) (emptyStore k)
+      (simulate-start k) keys
 
 -- ---- the same with the tapes that the calls bring
 
@@ -141,14 +149,19 @@ not-both p q = omega arith
 abbrev pub tapeRun : {s : Structure} → ℕ → List (List ℕ) → List (Op s) → BucketRan
 tapeRun {s} k tapes ops = bucketRun k (rounds s k) (λ c d. leafOf k tapes (drawn c d)) 1 ops (emptyStore k)
 
-module _ {s : Structure} (k : ℕ) (positive : 1 ≤ k) (small : k ≤ 16) (tapes : List (List ℕ)) (ops : List (Op s)) (fit : All (λ op. OpFits op) ops) where
+-- There is a key for each of these calls.
+abbrev pub TapeKeys : {s : Structure} → ℕ → List (List ℕ) → List (Op s) → Type 0
+TapeKeys {s} k tapes ops = KeysLeft k (rounds s k) (λ c d. leafOf k tapes (drawn c d)) 1 ops (emptyStore k)
+
+module _ {s : Structure} (k : ℕ) (positive : 1 ≤ k) (small : k ≤ 16) (tapes : List (List ℕ)) (ops : List (Op s)) (fit : All (λ op. OpFits op) ops)
+    (keys : TapeKeys k tapes ops) where
   leaf-below : (c d : ℕ) → leafOf k tapes (drawn c d) < 2 ^ k
   unfolding leafOf
   leaf-below c d = mod-lt _ (pow-pos k)
 
   pub tapes-simulate : RunSimulates k (tapeRun k tapes ops) (leafRun (rounds s k) k tapes ops)
   unfolding leafRun
-  tapes-simulate = run-from-start k positive small (λ c d. leafOf k tapes (drawn c d)) leaf-below ops fit
+  tapes-simulate = run-from-start k positive small (λ c d. leafOf k tapes (drawn c d)) leaf-below ops fit keys
 
   -- Without overflow the answers are the plain machine's.
   pub answers-plain : tapeRun k tapes ops .mark ≡ 0 → tapeRun k tapes ops .answers ≡ map some (plainAnswers (capacity k) ops (nothing s))

@@ -11,7 +11,7 @@ use Rattle.list_laws.specs.PermLaws.{perm-refl, perm-sym, perm-of-eq, perm-appe
 use Rattle.list_spec.specs.Distinct.{Distinct, All}
 use Rattle.list_laws.specs.DistinctLaws.{all-left, distinct-perm, distinct-right}
 use Rattle.list_laws.specs.Shuffle.{part, _&_, shuffle}
-use Rattle.method_spec.specs.Node.{Link, Node}
+use Rattle.method_spec.specs.Node.{Link, Ahead, Node}
 use Rattle.method_spec.specs.Prog.{done}
 use Rattle.method_spec.specs.Answer.{Structure}
 use Rattle.method_spec.specs.Plain.{Pair}
@@ -47,10 +47,10 @@ moved-entries hs =
     map-map pairOf (λ (h : fetch.Held). movedNode hs (h .node)) hs ∙ sym (map-map pairOf (λ (h : fetch.Held). h .node) hs)
 
 -- No entry is lost where the held nodes come to wait again.
-closing-entries : {k : ℕ} {all : List Pair} {g : Going} {ns : List (Node ℕ)} → Stands k all g ns → (mark entries : ℕ) (root : Link ℕ)
-    → Perm all (storeEntries k (leftBy (closing mark entries root g)))
+closing-entries : {k : ℕ} {all : List Pair} {g : Going} {ns : List (Node ℕ)} → Stands k all g ns → (mark entries : ℕ) (root : Link ℕ) (a : Ahead ℕ)
+    → Perm all (storeEntries k (leftBy (closing mark entries root a g)))
 unfolding closing
-closing-entries {k} {all} {g} {ns} st mark entries root =
+closing-entries {k} {all} {g} {ns} st mark entries root a =
     let tree = contents leafFormat k (g .tree) in
     let again = movedNodes (g .held) in
     let waits : Perm (map pairOf (join leafFormat again (g .waiting))) (map pairOf again ++ map pairOf (g .waiting)) =
@@ -66,9 +66,9 @@ closing-entries {k} {all} {g} {ns} st mark entries root =
     (perm-append-left (map pairOf tree) (perm-sym waits)))))
 
 -- The held nodes wait too.
-closing-many : (g : Going) → Many g → (mark entries : ℕ) (root : Link ℕ) → limit < length (closing mark entries root g .waiting)
+closing-many : (g : Going) → Many g → (mark entries : ℕ) (root : Link ℕ) (a : Ahead ℕ) → limit < length (closing mark entries root a g .waiting)
 unfolding closing
-closing-many g many mark entries root =
+closing-many g many mark entries root a =
     let joined = join-length leafFormat (movedNodes (g .held)) (g .waiting) in
     let again = length-map (g .held) (λ (h : fetch.Held). movedNode (g .held) (h .node)) in
     omega arith
@@ -110,12 +110,13 @@ module _ (k : ℕ) (o : Outcome ℕ) {all : List Pair} {g : Going} {ns : List (N
 -- ---- the end of a call
 
 stands-simulates : {k : ℕ} {all : List Pair} {g : Going} (m : Memory ℕ) → Stands k all g (m .nodes) → Few g
-    → Simulates k (record { entries = m .entries; root = m .root; waiting = g .waiting; tree = g .tree }) m
+    → Simulates k (record { entries = m .entries; root = m .root; ahead = m .ahead; waiting = g .waiting; tree = g .tree }) m
 stands-simulates {k} {all} {g} m st few =
     let apart = distinct-but-last (keysOf leafFormat (contents leafFormat k (g .tree))) (keysOf leafFormat (g .waiting)) (heldKeys g) (st .kept .none-twice) in
     record {
       entries = refl;
       root = refl;
+      ahead = refl;
       there = st .there;
       kept = kept-holding leafFormat k (g .tree) (g .waiting) (heldKeys g) (st .kept) [] (rw append-nil apart);
       few = omega arith;
@@ -123,26 +124,26 @@ stands-simulates {k} {all} {g} m st few =
     }
 
 module _ (s : Structure) (k F : ℕ) (some-rounds : 1 ≤ F) (draw : ℕ → ℕ) (leaves : (d : ℕ) → draw d < 2 ^ k) (m : Memory ℕ) (r : Called ℕ)
-    (o : Outcome ℕ) (ns : List (Node ℕ)) (remembers : r .memory ≡ memoryOf o ns) (answers : r .answer ≡ some (o .answer)) where
+    (a : Ahead ℕ) (o : Outcome ℕ) (ns : List (Node ℕ)) (remembers : r .memory ≡ memoryOf a o ns) (answers : r .answer ≡ some (o .answer)) where
   -- After the put rounds, where the fetch rounds came to f.
   puts-match : (f : Going) (x : Round (Outcome ℕ)) → Went k (map pairOf (o .nodes ++ ns)) (done o) (o .nodes ++ ns) (r .revealed) x
-      → Overflowed k m (on f (done o)) (afterPuts o x) r ⊎ Matches k (afterPuts o x) r
+      → Overflowed k m (on f (done o)) (afterPuts a o x) r ⊎ Matches k (afterPuts a o x) r
   unfolding afterPuts closing
   puts-match f x (went g st few shown) =
       inr (record {
         mark = refl;
         answer = sym answers;
         leaves = shown;
-        simulates = rw remembers (stands-simulates (memoryOf o ns) st few);
+        simulates = rw remembers (stands-simulates (memoryOf a o ns) st few);
       })
   puts-match f x (overflowed g left rest st many shown) =
       inl (record {
         mark = refl;
         answer = refl;
-        many = closing-many g many 9 (o .entries) (o .root);
+        many = closing-many g many 9 (o .entries) (o .root) a;
         rest = rest;
         leaves = shown;
-        nothing-lost = as-after f o (rw remembers (closing-entries st 9 (o .entries) (o .root)));
+        nothing-lost = as-after f o (rw remembers (closing-entries st 9 (o .entries) (o .root) a));
         none-bad = st .kept .none-bad;
       })
 
@@ -150,7 +151,7 @@ module _ (s : Structure) (k F : ℕ) (some-rounds : 1 ≤ F) (draw : ℕ → ℕ
       (distinct : Distinct (keys (o .nodes ++ ns))) (proper : All (ProperLeaf k) (o .nodes ++ ns)) (st : Store) where
     -- After the fetch rounds.
     pub fetches-match : (x : Round (Outcome ℕ)) → Went k (memoryEntries m) (done o) ns fetched x
-        → Overflowed k m x (afterFetches s k F draw st x) r ⊎ Matches k (afterFetches s k F draw st x) r
+        → Overflowed k m x (afterFetches s k F draw st a x) r ⊎ Matches k (afterFetches s k F draw st a x) r
     unfolding afterFetches closing
     fetches-match x (went g stands few shown) =
         puts-match g (putRounds k draw F (putDraw s F 0) o (buckets.stepped o g))
@@ -161,11 +162,11 @@ module _ (s : Structure) (k F : ℕ) (some-rounds : 1 ≤ F) (draw : ℕ → ℕ
         inl (record {
           mark = refl;
           answer = refl;
-          many = closing-many g many 9 (st .entries) (st .root);
+          many = closing-many g many 9 (st .entries) (st .root) (st .ahead);
           rest = rest ++ drawsFrom draw F (putDraw s F 0);
           leaves =
               revealed ∙ ap (λ (l : List ℕ). l ++ drawsFrom draw F (putDraw s F 0)) shown
               ∙ append-assoc (g .leaves) rest (drawsFrom draw F (putDraw s F 0));
-          nothing-lost = as-before g (closing-entries stands 9 (st .entries) (st .root));
+          nothing-lost = as-before g (closing-entries stands 9 (st .entries) (st .root) (st .ahead));
           none-bad = stands .kept .none-bad;
         })

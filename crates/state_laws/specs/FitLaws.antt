@@ -11,12 +11,13 @@ use borrow.Author.Tests.{lt-ltb, le-ltb, le-leb, lt-leb, ltb-true, leb-true}
 use lib.Bits.{bitOr}
 use Rattle.list_spec.specs.Ascending.{ascending, ascendingFrom}
 use Rattle.slot_spec.specs.declared.Link.{Link}
+use Rattle.slot_spec.specs.declared.Ahead.{Ahead}
 use Rattle.slot_spec.specs.declared.Node.{Node}
 use Rattle.slot_laws.specs.SlotLaws.{or-zero}
 use Rattle.round_spec.specs.Round.{limit}
 use Rattle.state_spec.specs.declared.Place.{Place}
 use Rattle.state_spec.specs.declared.State.{State}
-use Rattle.state_spec.specs.Fit.{largestStructure, largestSize, zeroLink, zeroNode, allOf, inRange, placesFrom, noPlace, keysIn, rootGood, placesFit, fits}
+use Rattle.state_spec.specs.Fit.{largestStructure, largestSize, zeroLink, zeroNode, allOf, inRange, placesFrom, noPlace, keysIn, rootGood, aheadGood, placesFit, fits}
 use Rattle.state_spec.specs.Head.{headFits}
 
 -- ---- numbers that are zero together
@@ -122,11 +123,12 @@ and-last true true true true false t = sym (and-false t)
 and-last true true true true true t = sym (and-true t)
 
 -- A state fits if its head does and its places do.
-pub fits-parts : (s : State) → fits s ≡ (headFits (s .structure) (s .size) (s .entries) (s .count) (s .root) && placesFit s)
+pub fits-parts : (s : State) → fits s ≡ (headFits (s .structure) (s .size) (s .entries) (s .count) (s .root) (s .ahead) && placesFit s)
 unfolding fits headFits
 fits-parts s =
     and-last (inRange (s .structure) largestStructure) (inRange (s .size) largestSize) (leb (s .entries) (2 ^ s .size - 1)) (leb (s .count) limit) (placesFit s)
-    (ltb (s .root .tag) (2 ^ s .size) && rootGood (s .structure) (s .entries) (s .root))
+    (ltb (s .root .tag) (2 ^ s .size)
+    && (rootGood (s .structure) (s .entries) (s .ahead .key) (s .root) && aheadGood (s .structure) (s .size) (s .entries) (s .ahead)))
 
 -- What a head that fits says of the numbers.
 pub record Head (structure size entries count : ℕ) : Type 0 where
@@ -135,10 +137,10 @@ pub record Head (structure size entries count : ℕ) : Type 0 where
   pub few : entries ≤ 2 ^ size - 1
   pub waiting : count ≤ limit
 
-pub head-true : (structure size entries count : ℕ) (root : Link) → headFits structure size entries count root ≡ true
+pub head-true : (structure size entries count : ℕ) (root : Link) (ahead : Ahead) → headFits structure size entries count root ahead ≡ true
     → Head structure size entries count
 unfolding headFits
-head-true structure size entries count root e =
+head-true structure size entries count root ahead e =
     let a = and-eq-true-iff (inRange structure largestStructure) _ .0 e in
     let b = and-eq-true-iff (inRange size largestSize) _ .0 (a .1) in
     let c = and-eq-true-iff (leb entries (2 ^ size - 1)) _ .0 (b .1) in

@@ -4,9 +4,10 @@ use mathlib.Core.Bool.{not}
 use lib.Dec.{eqb}
 use Rattle.list_spec.specs.Choice.{pick}
 use Rattle.slot_spec.specs.declared.Link.{Link}
+use Rattle.slot_spec.specs.declared.Ahead.{Ahead}
 use Rattle.state_spec.specs.Head.{headFits}
 
 -- The number with which the head of a state is refused: 1 closed, 2 unfit, 0 neither.
-unfoldable pub headRefusal : (mark structure size entries count : ℕ) → Link → ℕ
-headRefusal mark structure size entries count root =
-    pick (not (eqb mark 0)) 1 (pick (not (headFits structure size entries count root)) 2 0)
+unfoldable pub headRefusal : (mark structure size entries count : ℕ) → Link → Ahead → ℕ
+headRefusal mark structure size entries count root ahead =
+    pick (not (eqb mark 0)) 1 (pick (not (headFits structure size entries count root ahead)) 2 0)

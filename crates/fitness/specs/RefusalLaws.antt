@@ -7,15 +7,16 @@ use native.Mathlib.Omega.{arith}
 use lib.Dec.{eqb}
 use borrow.Author.Tests.{eqb-true, eqb-false, eq-eqb, ne-eqb}
 use Rattle.slot_spec.specs.declared.Link.{Link}
+use Rattle.slot_spec.specs.declared.Ahead.{Ahead}
 use Rattle.state_spec.specs.Head.{headFits}
 use Rattle.fitness.specs.Refusal.{headRefusal}
 
-module _ (mark structure size entries count : ℕ) (root : Link) where
+module _ (mark structure size entries count : ℕ) (root : Link) (ahead : Ahead) where
   abbrev fit : Bool
-  fit = headFits structure size entries count root
+  fit = headFits structure size entries count root ahead
 
   abbrev number : ℕ
-  number = headRefusal mark structure size entries count root
+  number = headRefusal mark structure size entries count root ahead
 
   pub closed-head : (mark ≡ 0 → ⊥) → number ≡ 1
   unfolding headRefusal

@@ -4,6 +4,7 @@ use fitness::LARGEST_SIZE;
 use fitness::LARGEST_STRUCTURE;
 use fitness::in_range;
 use slot_fields::no_link;
+use slot_spec::Ahead;
 use slot_spec::BUCKET_LENGTH;
 use slot_spec::Slot;
 use state_places::no_place;
@@ -20,6 +21,7 @@ fn empty_state(mark: u8, structure: u8, size: u8) -> State
     ensures { λ r. ⌜ r ≡ empty mark structure size ⌝ }
 {
     let root = no_link();
+    let ahead = Ahead { key: 0, tag: 0 };
     let place = no_place();
     let places = [place; 101];
     State {
@@ -28,6 +30,7 @@ fn empty_state(mark: u8, structure: u8, size: u8) -> State
         size,
         entries: 0,
         root,
+        ahead,
         count: 0,
         places,
     }

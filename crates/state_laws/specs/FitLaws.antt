@@ -40,6 +40,9 @@ node-together n =
     (and-assoc (eqb (n .key) 0) (eqb (n .value) 0 && eqb (n .tag) 0) (zeroLink (n .left) && zeroLink (n .right))
     ∙ ap (λ (t : Bool). eqb (n .key) 0 && t) (and-assoc (eqb (n .value) 0) (eqb (n .tag) 0) (zeroLink (n .left) && zeroLink (n .right))))
 
+pub ahead-together : (a : Ahead) → eqb (bitOr (a .key) (a .tag)) 0 ≡ (eqb (a .key) 0 && eqb (a .tag) 0)
+ahead-together a = or-zero (a .key) (a .tag)
+
 -- ---- one place after another
 -- What is left of n places from number i on, after the first.
 pub places-step : (n i : ℕ) (ps : List Place) → i < n → placesFrom (n - i) i ps ≡ getD ps i noPlace ∷ placesFrom (n - (i + 1)) (i + 1) ps

@@ -12,6 +12,7 @@ use lib.Seq.{take-suc, split-at, getD-at, drop-cons, drop-drop, drop-append-add,
 use Rattle.slot_spec.specs.Slot.{fieldsIn, nodeOf, slotBytes, noLink}
 use Rattle.slot_spec.specs.declared.Slot.{Slot}
 use Rattle.slot_spec.specs.declared.Link.{Link}
+use Rattle.slot_spec.specs.declared.Ahead.{Ahead}
 use Rattle.slot_spec.specs.declared.Node as node
 use Rattle.method_spec.specs.Node.{Node}
 use Rattle.round_spec.specs.Round.{limit}
@@ -123,6 +124,7 @@ withPlaces s ps =
       size = s .size;
       entries = s .entries;
       root = s .root;
+      ahead = s .ahead;
       count = s .count;
       places = ps;
     }
@@ -183,7 +185,7 @@ module _ (n : ℕ) (words : List ℕ) (h : Holds n words) where
         ∙ ap (λ (k : ℕ). replicate k noPlace) f in
         ap (λ (ps : List Place). take i (placed nodes) ++ ps) (blank-from s i (fit-places s fit) sized b few ∙ sym left) ∙ take-append-drop i (placed nodes)
 
-    pub saved-all : (i : ℕ) (after : State) (mark entries : ℕ) (root : Link) → after ≡ savedTo i n words s → n ≤ i → s .count ≤ i → i ≤ places
-        → _≡_ {A = State} (record { mark = mark; structure = after .structure; size = after .size; entries = entries; root = root; count = n; places = after .places })
-        (saved (s .structure) (s .size) mark entries root nodes)
-    saved-all i after mark entries root e a b few = rw (e, nothing-left i a b few, waiting-length h)
+    pub saved-all : (i : ℕ) (after : State) (mark entries : ℕ) (root : Link) (ahead : Ahead) → after ≡ savedTo i n words s → n ≤ i → s .count ≤ i → i ≤ places
+        → _≡_ {A = State} (record { mark = mark; structure = after .structure; size = after .size; entries = entries; root = root; ahead = ahead; count = n; places = after .places })
+        (saved (s .structure) (s .size) mark entries root ahead nodes)
+    saved-all i after mark entries root ahead e a b few = rw (e, nothing-left i a b few, waiting-length h)

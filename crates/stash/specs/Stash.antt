@@ -8,6 +8,7 @@ use lib.ListN.{length, take, set}
 use Rattle.list_spec.specs.Choice.{pick}
 use Rattle.slot_spec.specs.Row.{slotsOf}
 use Rattle.slot_spec.specs.declared.Link.{Link}
+use Rattle.slot_spec.specs.declared.Ahead.{Ahead}
 use Rattle.slot_spec.specs.declared.Node as node
 use Rattle.method_spec.specs.Node.{Node}
 use Rattle.round_spec.specs.Round.{join}
@@ -39,15 +40,16 @@ pub record NodesJoined (n : ℕ) (nodes : List node.Node) (count : ℕ) (before 
   pub holds : Holds r after
   pub waiting : waitingIn r after ≡ join leafFormat (map toNode (take count nodes)) (waitingIn n before)
 
--- A state of this structure and size, with this mark, entries, root link and waiting nodes.
-abbrev pub saved : (structure size mark entries : ℕ) → Link → List (Node ℕ) → State
-saved structure size mark entries root waiting =
+-- A state of this structure and size, with this mark, entries, root link, what is known ahead and waiting nodes.
+abbrev pub saved : (structure size mark entries : ℕ) → Link → Ahead → List (Node ℕ) → State
+saved structure size mark entries root ahead waiting =
     record {
       mark = mark;
       structure = structure;
       size = size;
       entries = entries;
       root = root;
+      ahead = ahead;
       count = length waiting;
       places = placed waiting;
     }

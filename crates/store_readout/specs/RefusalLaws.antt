@@ -10,14 +10,14 @@ use borrow.Author.Tests.{eqb-true, leb-true}
 use Rattle.list_spec.specs.Choice.{pick}
 use Rattle.slot_spec.specs.Tree.{treeLength}
 use Rattle.state_spec.specs.declared.State.{State}
-use Rattle.state_spec.specs.Fit.{inRange, largestSize, places}
+use Rattle.state_spec.specs.Fit.{inRange, largestStructure, largestSize, places}
 use Rattle.readout_spec.specs.ReadOut.{closedMark, known, refusing, readOut, fileOf}
 use Rattle.survey_laws.specs.Items.{fitting}
 use Rattle.store_readout.specs.Refusal.{knownNumbers, refusalOf}
 
 pub known-size : (structure size count : ℕ) → knownNumbers structure size count ≡ true → (size ≤ largestSize) × (count ≤ places)
 known-size structure size count e =
-    let a = and-eq-true-iff (inRange structure 3) (inRange size largestSize && leb count places) .0 e in
+    let a = and-eq-true-iff (inRange structure largestStructure) (inRange size largestSize && leb count places) .0 e in
     let b = and-eq-true-iff (inRange size largestSize) (leb count places) .0 (a .1) in
     let c = and-eq-true-iff (ltb 0 size) (leb size largestSize) .0 (b .0) in
     (leb-true size largestSize (c .1), leb-true count places (b .1))

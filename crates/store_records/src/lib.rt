@@ -1,6 +1,7 @@
 // Closed stores as records, for the programs that test and time reading out: tests/README.md has a record's layout.
 use libc::STDIN_FILENO;
 use slot_fields::node_of;
+use slot_spec::Ahead;
 use slot_spec::Link;
 use slot_spec::SLOT_LENGTH;
 use slot_spec::Slot;
@@ -16,7 +17,10 @@ ghost use Rattle.io.specs.Counts.{Counts};
 ghost use Rattle.store_records.specs.Records.{headLength, mostBytes};
 
 // The numbers of a record, and then its waiting places.
-const NUMBERS_LENGTH: usize = 24;
+const NUMBERS_LENGTH: usize = 30;
+
+// Where the numbers after the root link start.
+const AHEAD_START: usize = 14;
 
 // What stands before a record's tree.
 pub const HEAD_LENGTH: usize = NUMBERS_LENGTH + PLACES * SLOT_LENGTH;
@@ -81,6 +85,11 @@ pub fn state_of(head: &[u8]) -> State
         key: (x.b % 4294967296) as u32,
         tag: (x.b / 4294967296 % 65536) as u16,
     };
+    let y = load(head, AHEAD_START);
+    let ahead = Ahead {
+        key: (y.a % 4294967296) as u32,
+        tag: (y.a / 4294967296 % 65536) as u16,
+    };
     let places = places_of(head);
     State {
         mark: (x.a % 256) as u8,
@@ -88,6 +97,7 @@ pub fn state_of(head: &[u8]) -> State
         size: (x.a / 65536 % 256) as u8,
         entries: (x.a / 4294967296 % 65536) as u16,
         root,
+        ahead,
         count: (x.a / 281474976710656) as u16,
         places,
     }
@@ -120,7 +130,7 @@ pub fn read_record(head: &mut [u8], space: &mut [u8]) -> Read
     if got < HEAD_LENGTH {
         return no_record(Came::Short);
     }
-    let lengths = load(head, 0).c;
+    let lengths = load(head, AHEAD_START).b;
     let tree = (lengths % 4294967296) as usize;
     let room = (lengths / 4294967296) as usize;
     read_tree(tree, room, space)

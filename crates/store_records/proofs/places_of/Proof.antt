@@ -6,7 +6,7 @@ use Rattle.store_records.proofs.places_of.Statement.{statement}
 use Rattle.store_records.proofs.places_of.Tie as tie
 
 abbrev Inv-loop : tie.InvT-loop
-Inv-loop head places₀ at₀ i₀ places at i = (i ≤ 101) × (at ≡ 24 + 32 * i)
+Inv-loop head places₀ at₀ i₀ places at i = (i ≤ 101) × (at ≡ 30 + 32 * i)
 
 abbrev μ-loop : tie.MeasureT-loop
 μ-loop head places₀ at₀ i₀ places at i = 101 - i

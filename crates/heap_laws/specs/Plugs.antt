@@ -74,11 +74,6 @@ grows-beside n i (node l v r) beside =
 
 -- ---- a tree on either side
 
--- What is true of both is true of the chosen one.
-pub either : {A : Type 0} (P : A → Type 0) (s : Bool) {a b : A} → P a → P b → P (pick s a b)
-either P true p q = p
-either P false p q = q
-
 -- The lists of a tree on the side s and of one on the other, from left to right.
 pub both-sides : {A B : Type 0} (s : Bool) (x y : A) (list : Bool → A → List B)
     → Perm (list s x ++ list (not s) y) (list true (pick s x y) ++ list false (pick s y x))

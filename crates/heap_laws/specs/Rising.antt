@@ -8,6 +8,7 @@ use lib.Dec.{ltb}
 use borrow.Author.Tests.{ltb-true, ltb-false}
 use Rattle.list_spec.specs.Choice.{pick}
 use Rattle.list_spec.specs.Perm.{Perm, cons, swap, trans}
+use Rattle.list_laws.specs.ChoiceLaws.{either}
 use Rattle.list_laws.specs.PermLaws.{perm-refl, perm-sym, perm-of-eq, perm-append-left, perm-front}
 use Rattle.list_laws.specs.Shuffle.{part, _&_, shuffle}
 use Rattle.balance_spec.specs.Tree.{Tree, node}
@@ -16,7 +17,7 @@ use Rattle.method_spec.specs.Heap.{childPosition, Pass, over, settled, rise, to
 use Rattle.run_laws.specs.Fetches.{tags}
 use Rattle.run_laws.specs.StackRepresents.{Cell}
 use Rattle.heap_laws.specs.HeapTree.{AtLeast, Ordered, numbersIn, Frame, bare, joined, plug, position, frameTags, heapLink, heapNode, heapNodes, aside, PassOf, Passes, none-passed, one-passed}
-use Rattle.heap_laws.specs.Plugs.{shape, either, joinedOn, joined-sides, shape-plug, link-plug, numbers-plug, sideNodes, sides-below, pass-node}
+use Rattle.heap_laws.specs.Plugs.{shape, joinedOn, joined-sides, shape-plug, link-plug, numbers-plug, sideNodes, sides-below, pass-node}
 use Rattle.heap_laws.specs.Order.{least-less, Above, Steady, Fits, Spread, spread-fits, ordered-join}
 
 module _ {T : Type 0} (nil : T) where

@@ -1,4 +1,4 @@
--- What a passed test says of its parts.
+-- What a passed test says of its parts, and what is true of a choice.
 use mathlib.Core.Path.{_≡_, refl}
 use mathlib.Core.Bool.{Bool, true, false}
 use Rattle.list_spec.specs.Choice.{pick}
@@ -12,3 +12,8 @@ pick-both false c e = (cc, cc)
 pub pick-neither : (b c : Bool) → pick b false c ≡ true → (b ≡ false) × (c ≡ true)
 pick-neither true c e = (cc, cc)
 pick-neither false c e = (refl, e)
+
+-- What is true of both is true of the chosen one.
+pub either : {A : Type 0} (P : A → Type 0) (s : Bool) {a b : A} → P a → P b → P (pick s a b)
+either P true p q = p
+either P false p q = q

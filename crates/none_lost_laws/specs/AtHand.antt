@@ -2,14 +2,14 @@
 -- what it takes out and what it adds.
 use mathlib.Core.Path.{_≡_, refl, sym, _∙_, ap}
 use mathlib.Core.Bool.{Bool, true, false}
-use mathlib.Core.List.{List, _∷_, _++_, map, map-append, append-assoc}
+use mathlib.Core.List.{List, [], _∷_, _++_, map, map-append, append-assoc}
 use Prim.Native.Nat.{ℕ, _≤_}
 use Rattle.leaf_spec.specs.Entries.{pairOf}
 use Rattle.list_spec.specs.Perm.{Perm, trans}
-use Rattle.list_laws.specs.PermLaws.{perm-sym, perm-of-eq, perm-append-left, perm-front, perm-map}
+use Rattle.list_laws.specs.PermLaws.{perm-refl, perm-sym, perm-of-eq, perm-append-left, perm-front, perm-map}
 use Rattle.list_spec.specs.Perm as perm
 use Rattle.list_spec.specs.Distinct.{All}
-use Rattle.list_laws.specs.DistinctLaws.{all-cons, all-append, all-right, all-perm}
+use Rattle.list_laws.specs.DistinctLaws.{all-nil, all-cons, all-append, all-right, all-perm}
 use Rattle.method_spec.specs.Node.{Link, Node, withChild}
 use Rattle.method_spec.specs.Plain.{Pair}
 use Rattle.none_lost_laws.specs.Fitting.{NodeFits, node-more}
@@ -32,6 +32,9 @@ pairs-left xs ys zs p = rw (map-append pairOf xs ys, map-append pairOf xs zs) (p
 pub record AtHand (k b : ℕ) (less more : List Pair) (ns held : List (Node ℕ)) : Type 0 where
   pub fit : All (NodeFits k b) ns
   pub whole : Perm (less ++ pairsOf ns) (more ++ pairsOf held)
+
+pub at-hand-none : {k b : ℕ} → AtHand k b [] [] [] []
+at-hand-none {k} {b} = record { fit = all-nil (NodeFits k b); whole = perm-refl [] }
 
 module _ {k b : ℕ} {less more : List Pair} {ns held : List (Node ℕ)} where
   pub at-hand-more : {c : ℕ} → b ≤ c → AtHand k b less more ns held → AtHand k c less more ns held

@@ -3,7 +3,7 @@ use mathlib.Core.List.{List, [], _∷_, _++_}
 use mathlib.Core.List as list
 use Prim.Native.Nat.{ℕ, suc, _+_, _*_}
 use Rattle.method_spec.specs.Node.{Link, Node}
-use Rattle.method_spec.specs.Answer.{Structure, map, stack, heap, Op, get, put, remove, push, pop, add, take, Answer, found, absent, replaced, new, removed, pushed, popped, added, taken, empty, full}
+use Rattle.method_spec.specs.Answer.{Structure, map, stack, heap, queue, Op, get, put, remove, push, pop, add, take, enqueue, dequeue, Answer, found, absent, replaced, new, removed, pushed, popped, added, taken, queued, dequeued, empty, full}
 use Rattle.method_spec.specs.Map.{Outcome}
 use Rattle.method_spec.specs.Plain.{Pair}
 use Rattle.list_spec.specs.Perm.{Perm}
@@ -12,15 +12,17 @@ use Rattle.list_spec.specs.Distinct.{All}
 use Rattle.none_lost_laws.specs.Fitting.{LinkFits, NodeFits}
 use Rattle.none_lost_laws.specs.AtHand.{pairsOf, AtHand}
 
--- The key that a ticket is about, for the entries and the root link of the store, and the value that it brings.
-unfoldable pub keyIn : {s : Structure} → Op s → (entries : ℕ) → Link ℕ → ℕ
-keyIn (get key) entries l = key
-keyIn (put key value) entries l = key
-keyIn (remove key) entries l = key
-keyIn (push value) entries l = suc entries
-keyIn pop entries l = l .key
-keyIn (add value) entries l = suc entries
-keyIn take entries l = entries
+-- The key that a ticket is about, for the entries, the next unused key and the root link of the store, and the value that it brings.
+unfoldable pub keyIn : {s : Structure} → Op s → (entries next : ℕ) → Link ℕ → ℕ
+keyIn (get key) entries next l = key
+keyIn (put key value) entries next l = key
+keyIn (remove key) entries next l = key
+keyIn (push value) entries next l = suc entries
+keyIn pop entries next l = l .key
+keyIn (add value) entries next l = suc entries
+keyIn take entries next l = entries
+keyIn (enqueue value) entries next l = next
+keyIn dequeue entries next l = l .key
 
 unfoldable pub valueIn : {s : Structure} → Op s → ℕ
 valueIn (get key) = 0
@@ -30,6 +32,8 @@ valueIn (push value) = value
 valueIn pop = 0
 valueIn (add value) = value
 valueIn take = 0
+valueIn (enqueue value) = value
+valueIn dequeue = 0
 
 -- The entry of that key that is taken out, with the value that is answered.
 unfoldable pub takenOut : ℕ → Answer → List Pair
@@ -42,6 +46,8 @@ takenOut key pushed = []
 takenOut key (popped v) = record { key = key; value = v } ∷ []
 takenOut key added = []
 takenOut key (taken v) = record { key = key; value = v } ∷ []
+takenOut key queued = []
+takenOut key (dequeued v) = record { key = key; value = v } ∷ []
 takenOut key empty = []
 takenOut key full = []
 
@@ -56,6 +62,8 @@ broughtIn key value pushed = record { key = key; value = value } ∷ []
 broughtIn key value (popped v) = []
 broughtIn key value added = record { key = key; value = value } ∷ []
 broughtIn key value (taken v) = []
+broughtIn key value queued = record { key = key; value = value } ∷ []
+broughtIn key value (dequeued v) = []
 broughtIn key value empty = []
 broughtIn key value full = []
 
@@ -76,6 +84,10 @@ pub data AnswerOf : (s : Structure) → Op s → Answer → Type 0 where
   add-full : {value : ℕ} → AnswerOf heap (add value) full
   take-taken : {v : ℕ} → AnswerOf heap take (taken v)
   take-empty : AnswerOf heap take empty
+  enqueue-queued : {value : ℕ} → AnswerOf queue (enqueue value) queued
+  enqueue-full : {value : ℕ} → AnswerOf queue (enqueue value) full
+  dequeue-dequeued : {v : ℕ} → AnswerOf queue dequeue (dequeued v)
+  dequeue-empty : AnswerOf queue dequeue empty
 
 abbrev pub Answers : {s : Structure} → Op s → Answer → Type 0
 Answers {s} op a = AnswerOf s op a
@@ -95,6 +107,7 @@ abbrev pub seen : Structure → Pair → Pair
 seen map p = p
 seen stack p = p
 seen heap p = record { key = 0; value = p .value }
+seen queue p = p
 
 abbrev pub seenIn : Structure → List Pair → List Pair
 seenIn s ps = list.map (seen s) ps

@@ -28,6 +28,7 @@ unfoldable pub highest : Structure → ℕ → ℕ
 highest answer.map k = greatest k
 highest answer.stack k = 1
 highest answer.heap k = 1
+highest answer.queue k = 1
 
 -- What a fit state and a lent tree give.
 pub record FitStore (s : Structure) (k : ℕ) (st : Store) : Type 0 where
@@ -38,13 +39,14 @@ pub record FitStore (s : Structure) (k : ℕ) (st : Store) : Type 0 where
   pub low : st .root .height ≤ highest s k
   pub entries : st .entries < 2 ^ k
   pub rooted : RootFor s (st .entries) (st .root)
+  pub ahead-tag : st .ahead .tag < 2 ^ k
 
 abbrev pub entriesBefore : ℕ → Store → List Pair
 entriesBefore k st = entriesWith k (st .tree) (st .waiting)
 
 -- The key that a ticket is about.
 abbrev pub keyOf : {s : Structure} → Op s → Store → ℕ
-keyOf op st = keyIn op (st .entries) (st .root)
+keyOf op st = keyIn op (st .entries) (st .ahead .key) (st .root)
 
 abbrev pub entriesLeft : ℕ → Left → List Pair
 entriesLeft k l = entriesWith k (l .tree) (l .waiting)

@@ -20,6 +20,7 @@ use Rattle.method_spec.specs.Answer.{Structure}
 use Rattle.method_spec.specs.Map.{mapTest}
 use Rattle.method_spec.specs.Stack.{stackTest}
 use Rattle.method_spec.specs.Heap.{heapTest}
+use Rattle.method_spec.specs.Queue.{queueTest}
 use Rattle.method_spec.specs.Call.{test}
 use Rattle.method_spec.specs.Plain.{Pair}
 use Rattle.method_spec.specs.Safe.{Within, stops, asks as asks-within}
@@ -39,10 +40,11 @@ use Rattle.none_lost_laws.specs.Sound.{nodesIn, total, Sound, After, goe
 
 -- The fetch tests ask nothing of a node's own tag.
 test-retag : (s : Structure) (entries : ℕ) (w : Want ℕ) (n : Node ℕ) (t : ℕ) → test s entries w (retag t n) ≡ test s entries w n
-unfolding test mapTest stackTest heapTest
+unfolding test mapTest stackTest heapTest queueTest
 test-retag answer.map entries w n t = refl
 test-retag answer.stack entries w n t = refl
 test-retag answer.heap entries w n t = refl
+test-retag answer.queue entries w n t = refl
 
 module _ {A : Type 0} where
   -- Where a call on a store with so many entries stands between two fetch rounds of which n are left: its program, and the nodes held,

@@ -48,6 +48,11 @@ module _ {k : ℕ} where
   pub absent-fits : {b : ℕ} → LinkFits k b (absent 0)
   absent-fits = record { height = omega arith; key = omega arith; tag = pow-pos k; absent-zero = λ e. (refl, refl) }
 
+  -- A link of height 1.
+  pub one-fits : {b key tag : ℕ} → 1 ≤ b → key < 2 ^ 32 → tag < 2 ^ k → LinkFits k b (record { height = 1; key = key; tag = tag })
+  one-fits low small leaf =
+      record { height = low; key = small; tag = leaf; absent-zero = λ (e : _≡_ {A = ℕ} 1 0). let z : ⊥ = omega arith in absurd z }
+
   module _ {b : ℕ} {n : Node ℕ} (f : NodeFits k b n) where
     pub child-fits : (s : Bool) → LinkFits k b (child s n)
     child-fits true = f .left

@@ -7,7 +7,7 @@ use Prim.Native.Nat.{ℕ, _^_, _<_}
 use native.Mathlib.Omega.{arith}
 use Rattle.method_spec.specs.Node.{Link, Node, child}
 use Rattle.method_spec.specs.Prog.{From, root, side, Want, Prog}
-use Rattle.method_spec.specs.Answer.{Structure, map, stack, heap}
+use Rattle.method_spec.specs.Answer.{Structure, map, stack, heap, queue}
 use Rattle.method_spec.specs.Map.{mapTest}
 use Rattle.run_laws.specs.EnoughRounds.{tested-height}
 use Rattle.leaf_spec.specs.Leaf.{ProperLeaf}
@@ -18,11 +18,12 @@ use Rattle.none_lost_laws.specs.Yields.{Yields}
 abbrev pub Asked : ℕ → Want ℕ → List (Node ℕ) → Type 0
 Asked k w held = w .link .tag < 2 ^ k
 
--- What a fit root link tells of a structure with so many entries, beside its height: a heap's root is position 1.
+-- What a fit root link tells of a structure with so many entries, beside its height: a heap's root is position 1; a queue with entries has a root.
 abbrev pub RootFor : Structure → (entries : ℕ) → Link ℕ → Type 0
 RootFor map entries l = Unit {0}
 RootFor stack entries l = Unit {0}
 RootFor heap entries l = (entries ≡ 0 → ⊥) → (l .height ≡ 0 → ⊥) × (l .key ≡ 1)
+RootFor queue entries l = (entries ≡ 0 → ⊥) → (l .height ≡ 0 → ⊥)
 
 -- A node that a round hands over for a want.
 pub record Given (k : ℕ) (test : Want ℕ → Node ℕ → Bool) (w : Want ℕ) (n : Node ℕ) : Type 0 where

@@ -11,7 +11,7 @@ use borrow.Author.Tests.{eqb-false}
 use Rattle.list_spec.specs.Choice.{pick}
 use Rattle.list_spec.specs.Distinct.{All}
 use Rattle.list_laws.specs.DistinctLaws.{all-nil, all-cons}
-use Rattle.method_spec.specs.Node.{Link, Node, absent, child, withChild, linkOne}
+use Rattle.method_spec.specs.Node.{Link, Ahead, Node, absent, child, withChild, linkOne}
 use Rattle.method_spec.specs.Prog.{Want, Prog}
 use Rattle.method_spec.specs.Answer as answer
 use Rattle.method_spec.specs.Answer.{Op}
@@ -161,17 +161,17 @@ module _ (k entries : ℕ) (l : Link ℕ) where
       yields-then _ (sink-seeks (suc (length below)) (z .value) p below held r) (λ out given h. ends tt)
 
   -- ---- the programs
-  pub heap-seeks : (spares : ℕ → ℕ) (limit : ℕ) → RootFor answer.heap entries l → (op : Op answer.heap)
-      → Seeks (λ o given. Unit {0}) (program 0 op spares limit entries l) []
+  pub heap-seeks : (spares : ℕ → ℕ) (limit : ℕ) (a : Ahead ℕ) → RootFor answer.heap entries l → (op : Op answer.heap)
+      → Seeks (λ o given. Unit {0}) (program 0 op spares limit entries a l) []
   unfolding program addProg takeProg
-  heap-seeks spares limit rooted (answer.add value) =
+  heap-seeks spares limit a rooted (answer.add value) =
       yields-pick (ltb entries limit)
       (yields-then _
       (descend-seeks (suc entries) (le-refl (suc entries)) (wayTo (suc entries)) (start l) [] [] 1 (le-refl 1) (along-way (suc entries) (omega arith))
       (λ h. let r = rooted (λ z. omega arith) in (r .1, at-root (r .0))) (λ h. all-nil (OnWay [])))
       (λ r given h. ends tt))
       (ends tt)
-  heap-seeks spares limit rooted answer.take =
+  heap-seeks spares limit a rooted answer.take =
       yields-when (eqb entries 0) (λ e. ends tt)
       (λ e.
       let some = eqb-false entries 0 e in

@@ -13,7 +13,7 @@ use Rattle.list_spec.specs.Distinct.{All}
 use Rattle.list_laws.specs.PermLaws.{perm-refl, perm-sym, perm-of-eq, perm-append-left, perm-append-right}
 use Rattle.list_laws.specs.DistinctLaws.{all-nil, all-cons, all-append}
 use Rattle.list_laws.specs.Shuffle.{part, _&_, shuffle}
-use Rattle.method_spec.specs.Node.{Link, Node, absent, withChild, withValue, linkOne}
+use Rattle.method_spec.specs.Node.{Link, Ahead, Node, absent, withChild, withValue, linkOne}
 use Rattle.method_spec.specs.Prog.{Want, Prog}
 use Rattle.method_spec.specs.Answer as answer
 use Rattle.method_spec.specs.Answer.{Op}
@@ -23,7 +23,7 @@ use Rattle.method_spec.specs.Heap.{Pass, Lower, childless, lower, wayTo, beneat
 use Rattle.method_spec.specs.Call.{program}
 use Rattle.run_laws.specs.HeapWithin.{heap-tested}
 use Rattle.leaf_spec.specs.Entries.{pairOf, OpFits}
-use Rattle.none_lost_laws.specs.Fitting.{LinkFits, NodeFits, link-more, absent-fits, child-fits, with-child-fits, with-value-fits, proper-node}
+use Rattle.none_lost_laws.specs.Fitting.{LinkFits, NodeFits, link-more, absent-fits, one-fits, child-fits, with-child-fits, with-value-fits, proper-node}
 use Rattle.none_lost_laws.specs.Yields.{ends, asks, yields-pick, yields-then}
 use Rattle.none_lost_laws.specs.AtHand.{pairsOf}
 use Rattle.none_lost_laws.specs.Given.{Given, YieldsBy}
@@ -98,13 +98,7 @@ module _ (k h entries : ℕ) where
       proper-node k (got .proper) (omega arith) (omega arith)
 
   link-one-fits : {n : Node ℕ} → NodeFits k b n → LinkFits k b (linkOne n)
-  link-one-fits f =
-      record {
-        height = one;
-        key = f .own .key;
-        tag = f .own .tag;
-        absent-zero = λ (e : _≡_ {A = ℕ} 1 0). let z : ⊥ = omega arith in absurd z;
-      }
+  link-one-fits f = one-fits one (f .own .key) (f .own .tag)
 
   passes-nodes : (ps : List (Pass ℕ)) → PassesFit ps → All (NodeFits k b) (passed ps)
   passes-nodes [] f = all-nil (NodeFits k b)
@@ -307,10 +301,10 @@ module _ (k h entries : ℕ) where
         root = link-more (omega arith) (link-one-fits (first-fits fs));
       }))
 
-  pub heap-yields : (spares : ℕ → ℕ) (limit : ℕ) (l : Link ℕ) → spares 0 < 2 ^ k → LinkFits k h l → suc entries < 2 ^ 32 → (op : Op answer.heap) → OpFits op
-      → YieldsBy k (heapTest entries) (Made answer.heap k h (keyIn op entries l) (valueIn op) (Answers op)) (program 0 op spares limit entries l) []
+  pub heap-yields : (spares : ℕ → ℕ) (limit : ℕ) (a : Ahead ℕ) (l : Link ℕ) → spares 0 < 2 ^ k → LinkFits k h l → suc entries < 2 ^ 32 → (op : Op answer.heap) → OpFits op
+      → YieldsBy k (heapTest entries) (Made answer.heap k h (keyIn op entries (a .key) l) (valueIn op) (Answers op)) (program 0 op spares limit entries a l) []
   unfolding program addProg takeProg keyIn valueIn takenOut broughtIn
-  heap-yields spares limit l leaf f small (answer.add value) fits =
+  heap-yields spares limit a l leaf f small (answer.add value) fits =
       let new = newNode 0 value (spares 0) entries in
       let fn : NodeFits k b new = record { own = record { key = small; value = fits; tag = leaf }; left = absent-fits; right = absent-fits } in
       yields-pick (ltb entries limit)
@@ -322,7 +316,7 @@ module _ (k h entries : ℕ) where
         root = link-more (omega arith) (link-one-fits (topmost-fits new (r .path) fn (d .1 .0)));
       })))
       (ends (record { kind = add-full; fit = all-nil (NodeFits k b); whole = perm-refl []; root = link-more (omega arith) f }))
-  heap-yields spares limit l leaf f small answer.take fits =
+  heap-yields spares limit a l leaf f small answer.take fits =
       yields-pick (eqb entries 0)
       (ends (record { kind = take-empty; fit = all-nil (NodeFits k b); whole = perm-refl []; root = link-more (omega arith) f }))
       (yields-then _ (descend-yields (wayTo entries) (start l) [] refl (all-nil (λ (p : Pass ℕ). NodeFits k b (p .node))) (link-more (omega arith) f))

@@ -8,7 +8,7 @@ use lib.ListN.{length, length-map}
 use Rattle.list_spec.specs.Perm.{trans}
 use Rattle.list_laws.specs.PermLaws.{perm-sym, perm-of-eq, perm-append-comm, perm-map}
 use Rattle.list_laws.specs.DistinctLaws.{all-append, all-perm}
-use Rattle.method_spec.specs.Node.{Link}
+use Rattle.method_spec.specs.Node.{Link, Ahead}
 use Rattle.method_spec.specs.Prog.{Prog}
 use Rattle.method_spec.specs.Map.{Outcome}
 use Rattle.method_spec.specs.Plain.{Pair}
@@ -28,10 +28,10 @@ use Rattle.none_lost_laws.specs.Putting.{Resting}
 use Rattle.none_lost_laws.specs.Ends.{Keeps, Closed, Answered}
 
 -- A call that closes the store: the held nodes wait too.
-pub closing-keeps : {k b : ℕ} {r : Link ℕ} {all : List Pair} {g : Going} → k ≤ 16 → b < 256 → LinkFits k b r → Sound k r all g → total g ≤ placesFor k → (m entries : ℕ)
-    → Keeps k all (closing m entries r g)
+pub closing-keeps : {k b : ℕ} {r : Link ℕ} {all : List Pair} {g : Going} → k ≤ 16 → b < 256 → LinkFits k b r → Sound k r all g → total g ≤ placesFor k → (m entries : ℕ) (a : Ahead ℕ)
+    → Keeps k all (closing m entries r a g)
 unfolding closing
-closing-keeps {k} {g = g} small low f sound room m entries =
+closing-keeps {k} {g = g} small low f sound room m entries a =
     let again = movedNodes (g .held) in
     let tree = contents leafFormat k (g .tree) in
     let size = join-length leafFormat again (g .waiting) in
@@ -52,10 +52,10 @@ closing-keeps {k} {g = g} small low f sound room m entries =
     }
 
 -- A call that answers.
-resting-keeps : {k b : ℕ} {all : List Pair} {g : Going} (o : Outcome ℕ) → b < 256 → LinkFits k b (o .root) → Sound k (o .root) all g → total g ≤ limit → g .held ≡ []
-    → (p : Prog ℕ (Outcome ℕ)) → Keeps k all (afterPuts o (on g p))
+resting-keeps : {k b : ℕ} {all : List Pair} {g : Going} (a : Ahead ℕ) (o : Outcome ℕ) → b < 256 → LinkFits k b (o .root) → Sound k (o .root) all g → total g ≤ limit → g .held ≡ []
+    → (p : Prog ℕ (Outcome ℕ)) → Keeps k all (afterPuts a o (on g p))
 unfolding afterPuts
-resting-keeps {k} {g = g} o low f sound few rests p =
+resting-keeps {k} {g = g} a o low f sound few rests p =
     record {
       is-tree = sound .is-tree;
       proper = sound .waiting;
@@ -68,24 +68,24 @@ resting-keeps {k} {g = g} o low f sound few rests p =
           (ap (λ (hs : List Held). entriesWith k (g .tree) (g .waiting ++ nodesIn hs)) rests ∙ ap (entriesWith k (g .tree)) (append-nil (g .waiting))));
     }
 
-pub closing-mark : (m entries : ℕ) (r : Link ℕ) (g : Going) → closing m entries r g .mark ≡ m
+pub closing-mark : (m entries : ℕ) (r : Link ℕ) (a : Ahead ℕ) (g : Going) → closing m entries r a g .mark ≡ m
 unfolding closing
-closing-mark m entries r g = refl
+closing-mark m entries r a g = refl
 
-pub closing-closed : {m shown : ℕ} (entries : ℕ) (r : Link ℕ) (g : Going) → (m ≡ 8) ⊎ (m ≡ 9) → length (g .leaves) ≤ shown → Closed shown (closing m entries r g)
+pub closing-closed : {m shown : ℕ} (entries : ℕ) (r : Link ℕ) (a : Ahead ℕ) (g : Going) → (m ≡ 8) ⊎ (m ≡ 9) → length (g .leaves) ≤ shown → Closed shown (closing m entries r a g)
 unfolding closing
-closing-closed entries r g mark seen = record { mark = mark; answer = refl; leaves = seen }
+closing-closed entries r a g mark seen = record { mark = mark; answer = refl; leaves = seen }
 
 -- After the put rounds.
-pub puts-end : {k b shown : ℕ} {now : List Pair} (o : Outcome ℕ) {x : Round (Outcome ℕ)} → k ≤ 16 → b < 256 → LinkFits k b (o .root)
+pub puts-end : {k b shown : ℕ} {now : List Pair} (a : Ahead ℕ) (o : Outcome ℕ) {x : Round (Outcome ℕ)} → k ≤ 16 → b < 256 → LinkFits k b (o .root)
     → After k (o .root) now shown (Resting o) x
-    → Keeps k now (afterPuts o x) × (Closed shown (afterPuts o x) ⊎ Answered shown (o .answer) (afterPuts o x))
+    → Keeps k now (afterPuts a o x) × (Closed shown (afterPuts a o x) ⊎ Answered shown (o .answer) (afterPuts a o x))
 unfolding afterPuts
-puts-end o small low f (closes {m = m} {g = h} mark sound room seen) = (
-  closing-keeps small low f sound room m (o .entries),
-  inl (closing-closed (o .entries) (o .root) h mark seen),
+puts-end a o small low f (closes {m = m} {g = h} mark sound room seen) = (
+  closing-keeps small low f sound room m (o .entries) a,
+  inl (closing-closed (o .entries) (o .root) a h mark seen),
 )
-puts-end o small low f (goes {g = h} {q = q} sound few seen next) = (
-  resting-keeps o low f sound few (next .none-held) q,
+puts-end a o small low f (goes {g = h} {q = q} sound few seen next) = (
+  resting-keeps a o low f sound few (next .none-held) q,
   inr (record { mark = refl; answer = refl; leaves = seen; few = omega arith }),
 )

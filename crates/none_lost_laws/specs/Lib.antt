@@ -6,6 +6,7 @@ pub mod Rotations
 pub mod Changes
 pub mod MapYields
 pub mod HeapYields
+pub mod QueueYields
 pub mod ProgramYields
 pub mod Growing
 pub mod Shrinking
@@ -15,6 +16,7 @@ pub mod Sound
 pub mod Fetching
 pub mod Putting
 pub mod Moved
+pub mod KnownAhead
 pub mod Ends
 pub mod Leaving
 pub mod Lost

@@ -22,7 +22,7 @@ use Rattle.method_spec.specs.Map.{Outcome}
 use Rattle.method_spec.specs.Plain.{Pair}
 use Rattle.method_spec.specs.Rounds.{rounds, spareDraw, putDraw}
 use Rattle.method_spec.specs.Safe.{Within, stops, asks}
-use Rattle.method_spec.specs.Call.{capacity, program}
+use Rattle.method_spec.specs.Call.{capacity, program, spareTags}
 use Rattle.run_laws.specs.SafeLaws.{within-more}
 use Rattle.run_laws.specs.RoundsLaws.{some-rounds}
 use Rattle.run_laws.specs.HeapWithin.{heap-rounds}
@@ -30,10 +30,10 @@ use Rattle.run_laws.specs.EnoughRounds.{mostWanted, program-within}
 use Rattle.round_spec.specs.Round.{join, limit}
 use Rattle.leaf_spec.specs.Leaf.{leafFormat, ProperLeaf}
 use Rattle.bucket_call_spec.specs.Fetch.{Going, closing, Round, on, shut, fetchRounds}
-use Rattle.bucket_call_spec.specs.Call.{fetchedBy, Store, putRounds, afterPuts, stepped, afterFetches, bucketCall}
+use Rattle.bucket_call_spec.specs.Call.{fetchedBy, aheadThen, Store, putRounds, afterPuts, stepped, afterFetches, bucketCall}
 use Rattle.none_lost_laws.specs.Fitting.{LinkFits, link-of-fit}
 use Rattle.none_lost_laws.specs.Yields.{yields-done, yields-map, yields-both}
-use Rattle.leaf_spec.specs.Entries.{OpFits}
+use Rattle.leaf_spec.specs.Entries.{OpFits, KeyLeft}
 use Rattle.none_lost_laws.specs.Changes.{valueIn, Answers, takenOut, broughtIn, mostHigh, seenIn, Made}
 use Rattle.none_lost_laws.specs.ProgramYields.{program-yields}
 use Rattle.none_lost_laws.specs.Present.{program-seeks}
@@ -50,6 +50,7 @@ unfolding highest least shaped tallest greatest
 high-bound answer.map k small = let most : greatest k ≤ 22 = greatest-mono small in omega arith
 high-bound answer.stack k small = omega arith
 high-bound answer.heap k small = omega arith
+high-bound answer.queue k small = omega arith
 
 -- A call has as many fetch rounds as its program may want nodes.
 enough-rounds : (s : Structure) (k entries h : ℕ) → entries < 2 ^ k → h ≤ highest s k → mostWanted s entries h ≤ rounds s k
@@ -57,6 +58,7 @@ unfolding highest rounds
 enough-rounds answer.map k entries h few low = omega arith
 enough-rounds answer.stack k entries h few low = omega arith
 enough-rounds answer.heap k entries h few low = heap-rounds k entries few
+enough-rounds answer.queue k entries h few low = omega arith
 
 -- ---- a call
 -- The entries after the step.
@@ -84,17 +86,17 @@ within-none stops e w c q = let z : _≡_ {A = ℕ} 0 1 = cc in omega arith
 within-none (asks {n = n} more) e w c q = let z : suc n ≡ 0 = e in omega arith
 
 module _ {s : Structure} (k F : ℕ) (op : Op s) (draw : ℕ → ℕ) (st : Store) where
-  pub left-shut : (m : ℕ) (g : Going) → fetchedBy k F op draw st ≡ shut m g → bucketCall k F op draw st ≡ closing m (st .entries) (st .root) g
+  pub left-shut : (m : ℕ) (g : Going) → fetchedBy k F op draw st ≡ shut m g → bucketCall k F op draw st ≡ closing m (st .entries) (st .root) (st .ahead) g
   unfolding bucketCall afterFetches
   left-shut m g e = rw e
 
   pub left-on : (g : Going) (o : Outcome ℕ) → fetchedBy k F op draw st ≡ on g (done o)
-      → bucketCall k F op draw st ≡ afterPuts o (putRounds k draw F (putDraw s F 0) o (stepped o g))
+      → bucketCall k F op draw st ≡ afterPuts (aheadThen k F op draw st) o (putRounds k draw F (putDraw s F 0) o (stepped o g))
   unfolding bucketCall afterFetches
   left-on g o e = rw e
 
 module _ {s : Structure} (k : ℕ) (some-size : 1 ≤ k) (small : k ≤ 16) (op : Op s) (op-fits : OpFits op) (draw : ℕ → ℕ) (leaves : (d : ℕ) → draw d < 2 ^ k)
-    (st : Store) (fit : FitStore s k st) where
+    (st : Store) (fit : FitStore s k st) (key-left : KeyLeft op (st .ahead .key)) where
   root-fits : LinkFits k (highest s k) (st .root)
   root-fits = link-of-fit (fit .low) (fit .root)
 
@@ -102,12 +104,12 @@ module _ {s : Structure} (k : ℕ) (some-size : 1 ≤ k) (small : k ≤ 16) (op 
   pub fetch-rounds : (n left : ℕ) → n + left ≡ rounds s k
       → FetchEnds k n left op st
       (fetchRounds s (st .entries) k draw n 0
-      (program 0 op (λ i. draw (spareDraw (rounds s k) i)) (capacity k) (st .entries) (st .root))
+      (program 0 op (spareTags (rounds s k) draw) (capacity k) (st .entries) (st .ahead) (st .root))
       (record { tree = st .tree; waiting = st .waiting; held = []; leaves = [] }))
   fetch-rounds n left all-rounds =
-      let spares : ℕ → ℕ = λ i. draw (spareDraw (rounds s k) i) in
+      let spares : ℕ → ℕ = spareTags (rounds s k) draw in
       let most : 2 ^ k ≤ 2 ^ 16 = pow-mono small in
-      fetches-after s (st .entries) small draw leaves n left 0 (program 0 op spares (capacity k) (st .entries) (st .root)) _
+      fetches-after s (st .entries) small draw leaves n left 0 (program 0 op spares (capacity k) (st .entries) (st .ahead) (st .root)) _
       (record {
         is-tree = fit .is-tree;
         waiting = fit .proper;
@@ -124,11 +126,12 @@ module _ {s : Structure} (k : ℕ) (some-size : 1 ≤ k) (small : k ≤ 16) (op 
         yields =
             yields-map (λ o given h. h .0)
             (yields-both
-            (program-yields op spares (capacity k) (st .entries) (st .root) op-fits (λ i below. leaves (spareDraw (rounds s k) i)) (omega (arith, fit .entries)) root-fits)
-            (program-seeks op spares (capacity k) (st .entries) (st .root) (fit .rooted)));
+            (program-yields op spares (capacity k) (st .entries) (st .ahead) (st .root) op-fits key-left (λ i below. leaves (spareDraw (rounds s k) i)) (fit .ahead-tag)
+            (omega (arith, fit .entries)) root-fits)
+            (program-seeks op spares (capacity k) (st .entries) (st .ahead) (st .root) (fit .rooted)));
         within =
             within-more (omega (arith, enough-rounds s k (st .entries) (st .root .height) (fit .entries) (fit .low)))
-            (program-within 0 op spares (capacity k) (st .entries) (st .root));
+            (program-within 0 op spares (capacity k) (st .entries) (st .ahead) (st .root));
       })
 
   fetched-all : FetchEnds k (rounds s k) 0 op st (fetchedBy k (rounds s k) op draw st)
@@ -148,11 +151,11 @@ module _ {s : Structure} (k : ℕ) (some-size : 1 ≤ k) (small : k ≤ 16) (op 
       rw (left-shut k (rounds s k) op draw st m g e) (go (subst (FetchEnds k (rounds s k) 0 op st) e fetched-all))
     where
       go : FetchEnds k (rounds s k) 0 op st (shut m g)
-          → (let l = closing m (st .entries) (st .root) g in (l .mark ≡ m) × Closed (rounds s k) l × Keeps k (entriesBefore k st) l)
+          → (let l = closing m (st .entries) (st .root) (st .ahead) g in (l .mark ≡ m) × Closed (rounds s k) l × Keeps k (entriesBefore k st) l)
       go (closes mark sound room seen) = (
-        closing-mark m (st .entries) (st .root) g,
-        closing-closed (st .entries) (st .root) g mark (omega arith),
-        closing-keeps small (omega (arith, high-bound s k small)) root-fits sound room m (st .entries),
+        closing-mark m (st .entries) (st .root) (st .ahead) g,
+        closing-closed (st .entries) (st .root) (st .ahead) g mark (omega arith),
+        closing-keeps small (omega (arith, high-bound s k small)) root-fits sound room m (st .entries) (st .ahead),
       )
 
   -- After the fetch rounds the step changes the entries as its answer says, and brings at most one node more.
@@ -186,7 +189,7 @@ module _ {s : Structure} (k : ℕ) (some-size : 1 ≤ k) (small : k ≤ 16) (op 
       → StepEnds k (rounds s k) op st (o .answer) (entriesAfter k g o) (bucketCall k (rounds s k) op draw st)
   put-closing g o e =
       let t = stepping g o e in
-      let r = puts-end o small (high-bound s k small) (t .root) (put-rounds g o e (rounds s k) (some-rounds s k some-size)) in
+      let r = puts-end (aheadThen k (rounds s k) op draw st) o small (high-bound s k small) (t .root) (put-rounds g o e (rounds s k) (some-rounds s k some-size)) in
       let all-leaves : length (g .leaves) + rounds s k ≡ 2 * rounds s k = omega (arith, t .leaves) in
       rw (left-on k (rounds s k) op draw st g o e) (record { kind = t .kind; changed = t .changed; keeps = r .0; ended = rw all-leaves at (r .1) })
 

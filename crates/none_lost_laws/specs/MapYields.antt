@@ -13,7 +13,7 @@ use Rattle.list_spec.specs.Perm.{trans}
 use Rattle.list_laws.specs.PermLaws.{perm-refl, perm-of-eq, perm-append-comm}
 use Rattle.list_laws.specs.DistinctLaws.{all-nil, all-cons}
 use Rattle.list_laws.specs.Shuffle.{part, _&_, shuffle}
-use Rattle.method_spec.specs.Node.{Link, Node, absent, withValue}
+use Rattle.method_spec.specs.Node.{Link, Ahead, Node, absent, withValue}
 use Rattle.method_spec.specs.Prog.{Want, Prog, done}
 use Rattle.method_spec.specs.Answer as answer
 use Rattle.method_spec.specs.Answer.{Op, Answer}
@@ -176,12 +176,12 @@ module _ {k h : ℕ} where
       (λ b given raised. ends (finished (pred entries) (answer.removed (n .value)) b remove-removed (rw same raised)))
 
 -- ---- the calls
-module _ {k h : ℕ} (spares : ℕ → ℕ) (limit entries : ℕ) (l : Link ℕ) (leaf : spares 0 < 2 ^ k) (f : LinkFits k h l) where
+module _ {k h : ℕ} (spares : ℕ → ℕ) (limit entries : ℕ) (a : Ahead ℕ) (l : Link ℕ) (leaf : spares 0 < 2 ^ k) (f : LinkFits k h l) where
   walked : (key : ℕ) → YieldsBy k mapTest (Walked k h key) (walk key (l .height) (start l) []) []
   walked key = walk-yields key (l .height) (start l) [] (omega arith) f (record { fit = all-nil (NodeFits k h); whole = perm-refl [] })
 
   pub map-yields : (op : Op answer.map) → OpFits op
-      → YieldsBy k mapTest (Yielded k h (keyIn op entries l) (valueIn op) (Answers op)) (program 0 op spares limit entries l) []
+      → YieldsBy k mapTest (Yielded k h (keyIn op entries (a .key) l) (valueIn op) (Answers op)) (program 0 op spares limit entries a l) []
   unfolding program getProg putProg removeProg keyIn valueIn
   map-yields (answer.get key) fits = yields-then _ (walked key) (λ s given a. ends (getStep-yields 0 entries a))
   map-yields (answer.put key value) fits =

@@ -10,12 +10,13 @@ use lib.Dec.{eqb, ltb}
 use borrow.Author.Tests.{eqb-false}
 use Rattle.list_spec.specs.Distinct.{All}
 use Rattle.list_laws.specs.DistinctLaws.{all-nil, all-cons}
-use Rattle.method_spec.specs.Node.{Link, Node, child, heightOf}
+use Rattle.method_spec.specs.Node.{Link, Ahead, Node, child, heightOf}
 use Rattle.method_spec.specs.Prog.{Want}
 use Rattle.method_spec.specs.Answer as answer
 use Rattle.method_spec.specs.Answer.{Structure, Op}
 use Rattle.method_spec.specs.Map.{Step, stub, top, Spot, gap, hit, start, stepAt, below, walk, getProg, putStep, putProg, lowest, swapped, takeOut, removeStep, removeProg}
 use Rattle.method_spec.specs.Stack.{pushProg, popProg, stackTest}
+use Rattle.method_spec.specs.Queue.{enqueueProg, dequeueProg, queueTest}
 use Rattle.method_spec.specs.Call.{program, test}
 use Rattle.run_laws.specs.EnoughRounds.{tested-height}
 use Rattle.none_lost_laws.specs.Yields.{Yields, ends, asks, yields-pick, yields-when, yields-then, yields-keep}
@@ -119,24 +120,32 @@ module _ {k most : ℕ} {l : Link ℕ} where
   putStep-seeks key value tag entries limit (saw-node here even falls) = ends tt
 
 -- ---- every structure
-module _ {k : ℕ} (spares : ℕ → ℕ) (limit entries : ℕ) (l : Link ℕ) where
+module _ {k : ℕ} (spares : ℕ → ℕ) (limit entries : ℕ) (a : Ahead ℕ) (l : Link ℕ) where
   sighted : (key : ℕ) → Seeks k l (Sighted (l .height)) (walk key (l .height) (start l) []) []
   sighted key = walk-seeks key (l .height) (start l) [] at-root (all-nil (Fresh [])) (at-top (le-refl (l .height)))
 
-  map-seeks : (op : Op answer.map) → Seeks k l (λ o given. Unit {0}) (program 0 op spares limit entries l) []
+  map-seeks : (op : Op answer.map) → Seeks k l (λ o given. Unit {0}) (program 0 op spares limit entries a l) []
   unfolding program getProg putProg removeProg
   map-seeks (answer.get key) = yields-then _ (sighted key) (λ s given h. ends tt)
   map-seeks (answer.put key value) = yields-then _ (sighted key) (λ s given h. putStep-seeks key value (spares 0) entries limit h)
   map-seeks (answer.remove key) = yields-then _ (sighted key) (λ s given h. removeStep-seeks entries h)
 
-  stack-seeks : (op : Op answer.stack) → Yields (Sought l) (Given k stackTest) (λ o given. Unit {0}) (program 0 op spares limit entries l) []
+  stack-seeks : (op : Op answer.stack) → Yields (Sought l) (Given k stackTest) (λ o given. Unit {0}) (program 0 op spares limit entries a l) []
   unfolding program pushProg popProg
   stack-seeks (answer.push value) = yields-pick (ltb entries limit) (ends tt) (ends tt)
   stack-seeks answer.pop = yields-when (eqb (l .height) 0) (λ e. ends tt) (λ e. asks (at-root (eqb-false (l .height) 0 e)) (λ n got. ends tt))
 
-pub program-seeks : {s : Structure} {k : ℕ} (op : Op s) (spares : ℕ → ℕ) (limit entries : ℕ) (l : Link ℕ) → RootFor s entries l
-    → Yields (Sought l) (Given k (test s entries)) (λ o given. Unit {0}) (program 0 op spares limit entries l) []
+  queue-seeks : RootFor answer.queue entries l → (op : Op answer.queue)
+      → Yields (Sought l) (Given k queueTest) (λ o given. Unit {0}) (program 0 op spares limit entries a l) []
+  unfolding program enqueueProg dequeueProg
+  queue-seeks rooted (answer.enqueue value) = yields-pick (ltb entries limit) (ends tt) (ends tt)
+  queue-seeks rooted answer.dequeue =
+      yields-when (eqb entries 0) (λ e. ends tt) (λ e. asks (at-root (rooted (eqb-false entries 0 e))) (λ n got. ends tt))
+
+pub program-seeks : {s : Structure} {k : ℕ} (op : Op s) (spares : ℕ → ℕ) (limit entries : ℕ) (a : Ahead ℕ) (l : Link ℕ) → RootFor s entries l
+    → Yields (Sought l) (Given k (test s entries)) (λ o given. Unit {0}) (program 0 op spares limit entries a l) []
 unfolding test
-program-seeks {s = answer.map} op spares limit entries l rooted = map-seeks spares limit entries l op
-program-seeks {s = answer.stack} op spares limit entries l rooted = stack-seeks spares limit entries l op
-program-seeks {s = answer.heap} {k} op spares limit entries l rooted = heap-seeks k entries l spares limit rooted op
+program-seeks {s = answer.map} op spares limit entries a l rooted = map-seeks spares limit entries a l op
+program-seeks {s = answer.stack} op spares limit entries a l rooted = stack-seeks spares limit entries a l op
+program-seeks {s = answer.heap} {k} op spares limit entries a l rooted = heap-seeks k entries l spares limit a rooted op
+program-seeks {s = answer.queue} op spares limit entries a l rooted = queue-seeks spares limit entries a l rooted op

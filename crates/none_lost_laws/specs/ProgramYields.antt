@@ -9,23 +9,22 @@ use lib.Dec.{eqb, ltb}
 use borrow.Author.Tests.{eqb-true}
 use Rattle.list_spec.specs.Choice.{pick}
 use Rattle.list_laws.specs.ChoiceLaws.{pick-both}
-use Rattle.list_laws.specs.PermLaws.{perm-refl}
-use Rattle.list_laws.specs.DistinctLaws.{all-nil}
-use Rattle.method_spec.specs.Node.{Link, Node, absent}
+use Rattle.method_spec.specs.Node.{Link, Ahead, Node, absent}
 use Rattle.method_spec.specs.Prog.{Want}
 use Rattle.method_spec.specs.Answer as answer
 use Rattle.method_spec.specs.Answer.{Structure, Op}
 use Rattle.method_spec.specs.Stack.{pushProg, popProg, stackTest}
 use Rattle.method_spec.specs.Rounds.{spare}
 use Rattle.method_spec.specs.Call.{program, test}
-use Rattle.none_lost_laws.specs.Fitting.{LinkFits, NodeFits, link-more, absent-fits, proper-node}
+use Rattle.none_lost_laws.specs.Fitting.{LinkFits, NodeFits, link-more, absent-fits, one-fits, proper-node}
 use Rattle.none_lost_laws.specs.Yields.{ends, asks, yields-map, yields-pick}
-use Rattle.none_lost_laws.specs.AtHand.{AtHand, at-hand-given, at-hand-aside, at-hand-add}
+use Rattle.none_lost_laws.specs.AtHand.{at-hand-none, at-hand-given, at-hand-aside, at-hand-add}
 use Rattle.none_lost_laws.specs.Given.{Given, YieldsBy}
-use Rattle.leaf_spec.specs.Entries.{OpFits}
+use Rattle.leaf_spec.specs.Entries.{OpFits, KeyLeft}
 use Rattle.none_lost_laws.specs.Changes.{keyIn, valueIn, takenOut, broughtIn, Answers, push-pushed, push-full, pop-popped, pop-empty, mostHigh, Yielded, Made, yielded-made}
 use Rattle.none_lost_laws.specs.MapYields.{map-yields}
 use Rattle.none_lost_laws.specs.HeapYields.{heap-yields}
+use Rattle.none_lost_laws.specs.QueueYields.{queue-yields}
 
 -- ---- the stack
 -- The stack's test bounds a node's heights by 1.
@@ -45,12 +44,9 @@ popped-fits : {k b : ℕ} {w : Want ℕ} {n : Node ℕ} → 1 ≤ b → Given k 
 popped-fits {k} {b} {w} {n} le got =
     let low = stack-tested w n (got .passed) in proper-node k (got .proper) (omega arith) (omega arith)
 
-module _ {k h : ℕ} (spares : ℕ → ℕ) (limit entries : ℕ) (l : Link ℕ) (leaf : spares 0 < 2 ^ k) (f : LinkFits k h l) where
-  none-at-hand : {b : ℕ} → AtHand k b [] [] [] []
-  none-at-hand {b} = record { fit = all-nil (NodeFits k b); whole = perm-refl [] }
-
+module _ {k h : ℕ} (spares : ℕ → ℕ) (limit entries : ℕ) (a : Ahead ℕ) (l : Link ℕ) (leaf : spares 0 < 2 ^ k) (f : LinkFits k h l) where
   stack-yields : suc entries < 2 ^ 32 → (op : Op answer.stack) → OpFits op
-      → YieldsBy k stackTest (Yielded k h (keyIn op entries l) (valueIn op) (Answers op)) (program 0 op spares limit entries l) []
+      → YieldsBy k stackTest (Yielded k h (keyIn op entries (a .key) l) (valueIn op) (Answers op)) (program 0 op spares limit entries a l) []
   unfolding program pushProg popProg keyIn valueIn takenOut broughtIn
   stack-yields small (answer.push value) fits =
       let n : Node ℕ = record { key = suc entries; value = value; tag = spares 0; left = l; right = absent 0 } in
@@ -60,31 +56,33 @@ module _ {k h : ℕ} (spares : ℕ → ℕ) (limit entries : ℕ) (l : Link ℕ)
       (ends
       (record {
         kind = push-pushed;
-        nodes = at-hand-add fn none-at-hand;
-        root =
-            record { height = omega arith; key = small; tag = leaf; absent-zero = λ (e : 1 ≡ 0). let z : ⊥ = omega arith in absurd z };
+        nodes = at-hand-add fn at-hand-none;
+        root = one-fits (omega arith) small leaf;
       }))
-      (ends (record { kind = push-full; nodes = none-at-hand; root = link-more (omega arith) f }))
+      (ends (record { kind = push-full; nodes = at-hand-none; root = link-more (omega arith) f }))
   stack-yields small answer.pop fits =
-      yields-pick (eqb (l .height) 0) (ends (record { kind = pop-empty; nodes = none-at-hand; root = link-more (omega arith) f }))
+      yields-pick (eqb (l .height) 0) (ends (record { kind = pop-empty; nodes = at-hand-none; root = link-more (omega arith) f }))
       (asks (f .tag) (λ n got.
       let fn : NodeFits k (mostHigh h) n = popped-fits (omega arith) got in
       ends
       (record {
         kind = pop-popped;
-        nodes = rw (← got .named) (at-hand-aside (n ∷ []) (at-hand-given fn none-at-hand));
+        nodes = rw (← got .named) (at-hand-aside (n ∷ []) (at-hand-given fn at-hand-none));
         root = link-more (omega arith) (fn .left);
       })))
 
 -- ---- every structure
--- The spare draws are leaves, and the root link is in order.
-pub program-yields : {s : Structure} {k h : ℕ} (op : Op s) (spares : ℕ → ℕ) (limit entries : ℕ) (l : Link ℕ)
-    → OpFits op → ((i : ℕ) → i < spare s → spares i < 2 ^ k) → suc entries < 2 ^ 32 → LinkFits k h l
-    → YieldsBy k (test s entries) (Made s k h (keyIn op entries l) (valueIn op) (Answers op)) (program 0 op spares limit entries l) []
+-- There is a key for what is stored, the spare draws and the tag drawn ahead are leaves, and the root link is in order.
+pub program-yields : {s : Structure} {k h : ℕ} (op : Op s) (spares : ℕ → ℕ) (limit entries : ℕ) (a : Ahead ℕ) (l : Link ℕ)
+    → OpFits op → KeyLeft op (a .key) → ((i : ℕ) → i < spare s → spares i < 2 ^ k) → a .tag < 2 ^ k → suc entries < 2 ^ 32 → LinkFits k h l
+    → YieldsBy k (test s entries) (Made s k h (keyIn op entries (a .key) l) (valueIn op) (Answers op)) (program 0 op spares limit entries a l) []
 unfolding test spare
-program-yields {s = answer.map} op spares limit entries l fits leaves small f =
-    yields-map (λ o held y. yielded-made answer.map y) (map-yields spares limit entries l (leaves 0 (omega arith)) f op fits)
-program-yields {s = answer.stack} op spares limit entries l fits leaves small f =
-    yields-map (λ o held y. yielded-made answer.stack y) (stack-yields spares limit entries l (leaves 0 (omega arith)) f small op fits)
-program-yields {s = answer.heap} {k} {h} op spares limit entries l fits leaves small f =
-    heap-yields k h entries spares limit l (leaves 0 (omega arith)) f small op fits
+program-yields {s = answer.map} op spares limit entries a l fits key-left leaves ahead small f =
+    yields-map (λ o held y. yielded-made answer.map y) (map-yields spares limit entries a l (leaves 0 (omega arith)) f op fits)
+program-yields {s = answer.stack} op spares limit entries a l fits key-left leaves ahead small f =
+    yields-map (λ o held y. yielded-made answer.stack y) (stack-yields spares limit entries a l (leaves 0 (omega arith)) f small op fits)
+program-yields {s = answer.heap} {k} {h} op spares limit entries a l fits key-left leaves ahead small f =
+    heap-yields k h entries spares limit a l (leaves 0 (omega arith)) f small op fits
+program-yields {s = answer.queue} op spares limit entries a l fits key-left leaves ahead small f =
+    yields-map (λ o held y. yielded-made answer.queue y)
+    (queue-yields spares limit entries a l (leaves 0 (omega arith)) (leaves 1 (omega arith)) ahead f op fits key-left)

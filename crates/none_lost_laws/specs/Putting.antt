@@ -11,7 +11,7 @@ use Rattle.list_laws.specs.DistinctLaws.{all-nil, all-append, all-perm}
 use Rattle.list_laws.specs.Shuffle.{part, _&_, shuffle}
 use Rattle.method_spec.specs.Node.{Link, Node}
 use Rattle.method_spec.specs.Prog.{Prog, done}
-use Rattle.method_spec.specs.Answer.{Structure, Answer, found, absent, replaced, new, removed, pushed, popped, added, taken, empty, full}
+use Rattle.method_spec.specs.Answer.{Structure, Answer, found, absent, replaced, new, removed, pushed, popped, added, taken, queued, dequeued, empty, full}
 use Rattle.method_spec.specs.Map.{Outcome}
 use Rattle.method_spec.specs.Plain.{Pair}
 use Rattle.round_spec.specs.Round.{join, limit}
@@ -73,6 +73,8 @@ brought-one key value pushed = omega arith
 brought-one key value (popped v) = omega arith
 brought-one key value added = omega arith
 brought-one key value (taken v) = omega arith
+brought-one key value queued = omega arith
+brought-one key value (dequeued v) = omega arith
 brought-one key value empty = omega arith
 brought-one key value full = omega arith
 

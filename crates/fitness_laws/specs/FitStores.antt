@@ -47,4 +47,5 @@ fit-store s tree fit sized bytes widths =
       low = f .low;
       entries = f .entries;
       rooted = f .rooted;
+      ahead-tag = f .ahead-tag;
     }

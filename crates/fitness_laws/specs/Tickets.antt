@@ -1,4 +1,4 @@
--- What a ticket of bytes asks is within the widths of its fields.
+-- What a ticket of bytes asks is within the widths of its fields; a ticket that is not refused for want of a key has one.
 use Prim.Native.Nat.{ℕ, _^_, _≤_, _<_}
 use mathlib.Core.Path.{_≡_, subst}
 use mathlib.Core.Bool.{Bool, true, false}
@@ -6,14 +6,15 @@ use mathlib.Core.List.{List}
 use mathlib.Core.Option.{Option, none, some}
 use native.Mathlib.Nat.{pow-le-pow-right}
 use native.Mathlib.Omega.{arith}
+use borrow.Author.Tests.{eqb-false}
 use lib.Dec.{eqb}
 use lib.ListN.{length, take, drop, length-take}
 use Rattle.list_spec.specs.Choice.{pick}
 use Rattle.slot_spec.specs.LittleEndian.{value, Bytes}
 use Rattle.slot_laws.specs.LittleEndianLaws.{value-below, bytes-take, bytes-drop}
-use Rattle.method_spec.specs.Answer.{Structure, map, stack, heap, Op, get, put, remove, push, pop, add, take as take-smallest}
-use Rattle.leaf_spec.specs.Entries.{OpFits}
-use Rattle.state_spec.specs.Ticket.{kindIn, keyIn, valueIn, opIn}
+use Rattle.method_spec.specs.Answer.{Structure, map, stack, heap, queue, Op, get, put, remove, push, pop, add, take as take-smallest, enqueue, dequeue}
+use Rattle.leaf_spec.specs.Entries.{OpFits, KeyLeft}
+use Rattle.state_spec.specs.Ticket.{kindIn, keyIn, valueIn, opIn, lastKey, outOfKeys}
 
 -- A number in at most w bytes.
 value-fits : (w : ℕ) (bs : List ℕ) → Bytes bs → value (take w bs) < 256 ^ w
@@ -56,6 +57,23 @@ module _ (t : List ℕ) (h : Bytes t) where
       go true b = value-in-fits
       go false true = tt
       go false false = tt
+  asked-fits queue = go (eqb (kindIn t) 8) (eqb (kindIn t) 9)
+    where
+      go : (a b : Bool) → AskedFits {st = queue} (pick a (some (enqueue (valueIn t))) (pick b (some dequeue) none))
+      go true b = value-in-fits
+      go false true = tt
+      go false false = tt
 
 pub op-fits : (st : Structure) (ticket : List ℕ) → Bytes ticket → (op : Op st) → opIn st ticket ≡ some op → OpFits op
 op-fits st ticket bytes op e = subst (AskedFits ticket bytes {st = st}) e (asked-fits ticket bytes st)
+
+pub key-left : {st : Structure} (op : Op st) (next : ℕ) → next < 2 ^ 32 → outOfKeys op next ≡ false → KeyLeft op next
+key-left (get key) next small e = tt
+key-left (put key value) next small e = tt
+key-left (remove key) next small e = tt
+key-left (push value) next small e = tt
+key-left pop next small e = tt
+key-left (add value) next small e = tt
+key-left take-smallest next small e = tt
+key-left (enqueue value) next small e = let other = eqb-false next lastKey e in omega arith
+key-left dequeue next small e = tt

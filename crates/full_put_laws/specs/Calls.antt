@@ -13,7 +13,7 @@ use borrow.Author.Tests.{eqb-true, not-false}
 use Rattle.list_spec.specs.Choice.{pick}
 use Rattle.slot_spec.specs.LittleEndian.{Bytes}
 use Rattle.slot_spec.specs.Tree.{treeLength}
-use Rattle.method_spec.specs.Answer.{Structure, map, Op, get, put, remove, push, pop, add, take}
+use Rattle.method_spec.specs.Answer.{Structure, map, Op, get, put, remove, push, pop, add, take, enqueue, dequeue}
 use Rattle.method_spec.specs.Rounds.{rounds, draws}
 use Rattle.method_spec.specs.Call.{capacity}
 use Rattle.leaf_spec.specs.Entries.{OpFits}
@@ -87,6 +87,8 @@ module _ (s : State) (tree tape trace : List ℕ) where
   with-compares st pop fit fits some-size small present = let z : _≡_ {A = ℕ} 0 1 = cc in absurd (omega arith)
   with-compares st (add value) fit fits some-size small present = let z : _≡_ {A = ℕ} 0 1 = cc in absurd (omega arith)
   with-compares st take fit fits some-size small present = let z : _≡_ {A = ℕ} 0 1 = cc in absurd (omega arith)
+  with-compares st (enqueue value) fit fits some-size small present = let z : _≡_ {A = ℕ} 0 1 = cc in absurd (omega arith)
+  with-compares st dequeue fit fits some-size small present = let z : _≡_ {A = ℕ} 0 1 = cc in absurd (omega arith)
 
 -- A put of a present key on a full map: but for the one value and the answer all is as it was. The premises hold of everything that a machine can lend.
 pub on-full-map : (s : State) (tree ticket tape trace : List ℕ) → Bytes tree → Bytes ticket → Widths s → fullPutCall s tree ticket tape ≡ true

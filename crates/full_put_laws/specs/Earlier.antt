@@ -9,17 +9,17 @@ use lib.Dec.{eqb, ltb}
 use lib.ListN.{length}
 use Rattle.list_spec.specs.Choice.{pick}
 use Rattle.slot_spec.specs.Tree.{treeLength}
-use Rattle.method_spec.specs.Node.{Link, absent, withValue}
+use Rattle.method_spec.specs.Node.{Link, Ahead, absent, withValue}
 use Rattle.method_spec.specs.Prog.{Prog, done, bind}
-use Rattle.method_spec.specs.Answer.{Structure, Op, get, put, remove, push, pop, add, take, replaced, new, full}
+use Rattle.method_spec.specs.Answer.{Structure, Op, get, put, remove, push, pop, add, take, enqueue, dequeue, replaced, new, full}
 use Rattle.method_spec.specs.Map.{Outcome, top, Spot, gap, hit, start, walk, climb, unwind, unwound, finish}
-use Rattle.method_spec.specs.Rounds.{rounds, spareDraw, draws}
-use Rattle.method_spec.specs.Call.{capacity, program}
+use Rattle.method_spec.specs.Rounds.{rounds, draws}
+use Rattle.method_spec.specs.Call.{capacity, program, spareTags}
 use Rattle.bucket_call_spec.specs.Fetch.{Left, Round, fetchRounds}
-use Rattle.bucket_call_spec.specs.Call.{Store, afterFetches, drawOf, bucketCall}
+use Rattle.bucket_call_spec.specs.Call.{Store, aheadThen, afterFetches, drawOf, bucketCall}
 use Rattle.state_spec.specs.declared.State.{State}
 use Rattle.state_spec.specs.Fit.{fits}
-use Rattle.state_spec.specs.Ticket.{ticketLength, opIn, structureOf}
+use Rattle.state_spec.specs.Ticket.{ticketLength, opIn, structureOf, outOfKeys}
 use Rattle.call_spec.specs.Store.{Ended, refusing, ending, storeOf, callWith, called}
 
 -- ---- the earlier put
@@ -43,42 +43,45 @@ module _ {T : Type 0} where
       bind (walk key (l .height) (start l) []) (earlierPutStep nil key value tag entries limit)
 
 -- ---- calls with any programs
--- The program of each ticket, as `program` is: for the spare draws, the capacity, the entries and the root link.
+-- The program of each ticket, as `program` is: for the spare draws, the capacity, the entries, what is known ahead and the root link.
 abbrev pub Programs : Type 0
-Programs = (s : Structure) → Op s → (spares : ℕ → ℕ) → (limit entries : ℕ) → Link ℕ → Prog ℕ (Outcome ℕ)
+Programs = (s : Structure) → Op s → (spares : ℕ → ℕ) → (limit entries : ℕ) → Ahead ℕ → Link ℕ → Prog ℕ (Outcome ℕ)
 
 abbrev pub currentPrograms : Programs
 currentPrograms s op = program 0 op
 
 -- But for put they are the current ones.
 unfoldable pub earlierPrograms : Programs
-earlierPrograms s (put key value) spares limit entries l = earlierPutProg 0 key value (spares 0) entries limit l
-earlierPrograms s (get key) spares limit entries l = program 0 (get key) spares limit entries l
-earlierPrograms s (remove key) spares limit entries l = program 0 (remove key) spares limit entries l
-earlierPrograms s (push value) spares limit entries l = program 0 (push value) spares limit entries l
-earlierPrograms s pop spares limit entries l = program 0 pop spares limit entries l
-earlierPrograms s (add value) spares limit entries l = program 0 (add value) spares limit entries l
-earlierPrograms s take spares limit entries l = program 0 take spares limit entries l
+earlierPrograms s (put key value) spares limit entries a l = earlierPutProg 0 key value (spares 0) entries limit l
+earlierPrograms s (get key) spares limit entries a l = program 0 (get key) spares limit entries a l
+earlierPrograms s (remove key) spares limit entries a l = program 0 (remove key) spares limit entries a l
+earlierPrograms s (push value) spares limit entries a l = program 0 (push value) spares limit entries a l
+earlierPrograms s pop spares limit entries a l = program 0 pop spares limit entries a l
+earlierPrograms s (add value) spares limit entries a l = program 0 (add value) spares limit entries a l
+earlierPrograms s take spares limit entries a l = program 0 take spares limit entries a l
+earlierPrograms s (enqueue value) spares limit entries a l = program 0 (enqueue value) spares limit entries a l
+earlierPrograms s dequeue spares limit entries a l = program 0 dequeue spares limit entries a l
 
 module _ (programs : Programs) where
   -- Where the fetch rounds come to, as `fetchedBy` says it of the current programs.
   abbrev pub fetchedWith : {s : Structure} → (size rounds : ℕ) → Op s → (draw : ℕ → ℕ) → Store → Round (Outcome ℕ)
   fetchedWith {s} k F op draw st =
       fetchRounds s (st .entries) k draw F 0
-      (programs s op (λ i. draw (spareDraw F i)) (capacity k) (st .entries) (st .root))
+      (programs s op (spareTags F draw) (capacity k) (st .entries) (st .ahead) (st .root))
       (record { tree = st .tree; waiting = st .waiting; held = []; leaves = [] })
 
   -- A call over buckets, as `bucketCall`.
   abbrev pub bucketCallWith : {s : Structure} → (size rounds : ℕ) → Op s → (draw : ℕ → ℕ) → Store → Left
-  bucketCallWith {s} k F op draw st = afterFetches s k F draw st (fetchedWith k F op draw st)
+  bucketCallWith {s} k F op draw st = afterFetches s k F draw st (aheadThen k F op draw st) (fetchedWith k F op draw st)
 
   -- A call with all its checks, as `callWith` and `called`.
   unfoldable pub callWithPrograms : (st : Structure) → State → (tree tape trace : List ℕ) → Option (Op st) → Ended
   callWithPrograms st s tree tape trace none = refusing 5 s tree trace
   callWithPrograms st s tree tape trace (some op) =
-      pick (ltb (length tape) (draws st (s .size))) (refusing 6 s tree trace)
+      pick (outOfKeys op (s .ahead .key)) (refusing 17 s tree trace)
+      (pick (ltb (length tape) (draws st (s .size))) (refusing 6 s tree trace)
       (pick (ltb (length trace) (2 * rounds st (s .size))) (refusing 7 s tree trace)
-      (ending s trace (bucketCallWith (s .size) (rounds st (s .size)) op (drawOf (s .size) tape) (storeOf s tree))))
+      (ending s trace (bucketCallWith (s .size) (rounds st (s .size)) op (drawOf (s .size) tape) (storeOf s tree)))))
 
   unfoldable pub calledWith : State → (tree ticket tape trace : List ℕ) → Ended
   calledWith s tree ticket tape trace =

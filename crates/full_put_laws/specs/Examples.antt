@@ -16,7 +16,7 @@ use Rattle.method_spec.specs.Prog.{bind}
 use Rattle.method_spec.specs.Answer.{map, Op, get, put, replaced, full}
 use Rattle.method_spec.specs.Map.{walk, single, double, turn, raise, climb, unwind, unwound, getStep, getProg, putStep, putProg, between, mapTest}
 use Rattle.method_spec.specs.Rounds.{rounds, spare}
-use Rattle.method_spec.specs.Call.{program, test}
+use Rattle.method_spec.specs.Call.{program, aheadAfter, test}
 use Rattle.leaf_spec.specs.Leaf.{leafFormat, readLeaf}
 use Rattle.bucket_call_spec.specs.Fetch.{Left, movedLink, movedNode, closing, atClose, idleRound, tookRound, wantRound, fetchRound, fetchRounds}
 use Rattle.bucket_call_spec.specs.Call.{Store, putRounds, afterPuts, afterFetches, fetchedBy, bucketCall}
@@ -24,7 +24,7 @@ use Rattle.balance_spec.specs.Least.{least}
 use Rattle.balance_spec.specs.Shape.{shaped}
 use Rattle.balance_spec.specs.Greatest.{tallest, greatest}
 use Rattle.list_spec.specs.Ascending.{ascendingFrom, ascending}
-use Rattle.state_spec.specs.Fit.{allOf, rootGood, fits, placesFrom}
+use Rattle.state_spec.specs.Fit.{allOf, rootGood, aheadGood, fits, placesFrom}
 use Rattle.state_spec.specs.Ticket.{opIn}
 use Rattle.state_spec.specs.Opening.{opened}
 use Rattle.operation_spec.specs.declared.Answer.the-variants.{Replaced}
@@ -44,6 +44,7 @@ empty =
     record {
       entries = 0;
       root = record { height = 0; key = 0; tag = 0 };
+      ahead = record { key = 0; tag = 0 };
       waiting = [];
       tree = replicate 384 0;
     }
@@ -52,11 +53,11 @@ abbrev zeros : ℕ → ℕ
 zeros d = 0
 
 abbrev leftBy : Left → Store
-leftBy l = record { entries = l .entries; root = l .root; waiting = l .waiting; tree = l .tree }
+leftBy l = record { entries = l .entries; root = l .root; ahead = l .ahead; waiting = l .waiting; tree = l .tree }
 
 -- Where this unfolds, so does all that a call computes with.
 unfoldable holdsNine : Store
-unfolding bucketCall afterFetches afterPuts putRounds fetchRounds fetchRound wantRound tookRound idleRound atClose closing movedLink movedNode withBucket noneTwice allGood readBucket readBuckets insert join takeFirst tagged granted joined grantedFrom readHalf choose evict halvings among filled encode fieldsOf pack bytes readSlot bad fieldsIn nodeOf fields value allZero wellFormed readLeaf spare program test walk single double turn raise climb unwind unwound getStep getProg putStep putProg between mapTest bind earlierPutStep earlierPutProg earlierPrograms fullPut
+unfolding bucketCall afterFetches afterPuts putRounds fetchRounds fetchRound wantRound tookRound idleRound atClose closing movedLink movedNode withBucket noneTwice allGood readBucket readBuckets insert join takeFirst tagged granted joined grantedFrom readHalf choose evict halvings among filled encode fieldsOf pack bytes readSlot bad fieldsIn nodeOf fields value allZero wellFormed readLeaf spare program aheadAfter test walk single double turn raise climb unwind unwound getStep getProg putStep putProg between mapTest bind earlierPutStep earlierPutProg earlierPrograms fullPut
 holdsNine = leftBy (bucketCall 1 3 (put 9 1) zeros empty)
 
 -- Which calls on it are puts of a present key on a full map; on the empty map none is.
@@ -79,7 +80,7 @@ unfolding holdsNine
 nine-twice = (refl, refl)
 
 -- Where there is room the earlier put replaces too.
-with-room : bucketCallWith earlierPrograms 2 6 (put 9 2) zeros (leftBy (bucketCall 2 6 (put 9 1) zeros (record { entries = 0; root = empty .root; waiting = []; tree = replicate 896 0 }))) .answer ≡ some (replaced 1)
+with-room : bucketCallWith earlierPrograms 2 6 (put 9 2) zeros (leftBy (bucketCall 2 6 (put 9 1) zeros (record { entries = 0; root = empty .root; ahead = empty .ahead; waiting = []; tree = replicate 896 0 }))) .answer ≡ some (replaced 1)
 unfolding holdsNine
 with-room = refl
 
@@ -126,12 +127,17 @@ one-root : (earlier .root ≡ linkTo (nineWith 1)) × (now .root ≡ linkTo (nin
 unfolding holdsNine
 one-root = (refl, refl, refl, refl)
 
+one-ahead : (earlier .ahead ≡ empty .ahead) × (now .ahead ≡ empty .ahead)
+unfolding holdsNine
+one-ahead = (refl, refl)
+
 only-the-value : OnlyValue 1 9 2 earlier now
 only-the-value =
     record {
       mark = one-mark .1 ∙ sym (one-mark .0);
       entries = one-mark .3 ∙ sym (one-mark .2);
       root = one-root .1 ∙ sym (one-root .0);
+      ahead = one-ahead .1 ∙ sym (one-ahead .0);
       leaves = one-root .3 ∙ sym (one-root .2);
       node = nineWith 1;
       named = refl;
@@ -144,7 +150,7 @@ abbrev putTicket : (key number : ℕ) → List ℕ
 putTicket key number = bytes 1 2 ++ (bytes 4 key ++ bytes 8 number)
 
 unfoldable filled-by-nine : Ended
-unfolding holdsNine opened called callWith calledWith callWithPrograms presentOnFull replied replyOf fits allOf ascendingFrom ascending rootGood placesFrom opIn rounds greatest tallest shaped least
+unfolding holdsNine opened called callWith calledWith callWithPrograms presentOnFull replied replyOf fits allOf ascendingFrom ascending rootGood aheadGood placesFrom opIn rounds greatest tallest shaped least
 filled-by-nine =
     called (opened 1 1 (replicate 384 7) .state) (opened 1 1 (replicate 384 7) .tree) (putTicket 9 1) (replicate 7 0) (replicate 6 5)
 

@@ -10,9 +10,9 @@ use native.Mathlib.Omega.{arith}
 use lib.Dec.{ltb}
 use Rattle.list_spec.specs.Choice.{pick}
 use Rattle.slot_spec.specs.Tree.{among}
-use Rattle.method_spec.specs.Node.{Link, Node, withValue}
+use Rattle.method_spec.specs.Node.{Link, Ahead, Node, withValue}
 use Rattle.method_spec.specs.Prog.{done}
-use Rattle.method_spec.specs.Answer.{Structure, map, Op, get, put, remove, push, pop, add, take, Answer, replaced, full}
+use Rattle.method_spec.specs.Answer.{Structure, map, Op, get, put, remove, push, pop, add, take, enqueue, dequeue, Answer, replaced, full}
 use Rattle.method_spec.specs.Map.{Outcome}
 use Rattle.method_spec.specs.Rounds.{rounds, spareDraw, putDraw}
 use Rattle.method_spec.specs.Call.{capacity, program}
@@ -23,7 +23,7 @@ use Rattle.round_spec.specs.Whole.{IsTree}
 use Rattle.leaf_spec.specs.Leaf.{leafFormat, ProperLeaf}
 use Rattle.leaf_spec.specs.Entries.{OpFits}
 use Rattle.bucket_call_spec.specs.Fetch.{Going, Left, heldKeys, movedLink, closing, Round, on, shut}
-use Rattle.bucket_call_spec.specs.Call.{Store, afterPuts, stepped, afterFetches, fetchedBy, bucketCall}
+use Rattle.bucket_call_spec.specs.Call.{Store, afterPuts, stepped, afterFetches, fetchedBy, aheadThen, bucketCall}
 use Rattle.none_lost_laws.specs.Fitting.{with-value-proper}
 use Rattle.none_lost_laws.specs.Sound.{nodesIn, goes}
 use Rattle.none_lost_laws.specs.Ends.{FitStore}
@@ -50,18 +50,21 @@ fullPut limit entries (push value) r = false
 fullPut limit entries pop r = false
 fullPut limit entries (add value) r = false
 fullPut limit entries take r = false
+fullPut limit entries (enqueue value) r = false
+fullPut limit entries dequeue r = false
 
 -- The two answers, by the mark that both calls left: 10 became replaced with the old value; calls that closed the store have none.
 pub data TwoAnswers (old : ℕ) : (mark : ℕ) → (earlier now : Option Answer) → Type 0 where
   ten-then-replaced : TwoAnswers old 0 (some full) (some (replaced old))
   neither : {m : ℕ} → (m ≡ 8) ⊎ (m ≡ 9) → TwoAnswers old m none none
 
--- What the earlier call left and what the call leaves: the same mark, entries, root link and leaves; the same nodes in the same places, but that one
--- node, which has the key, has the put's value.
+-- What the earlier call left and what the call leaves: the same mark, entries, root link and leaves, the same known ahead; the same nodes in the same
+-- places, but that one node, which has the key, has the put's value.
 pub record OnlyValue (k key value : ℕ) (earlier now : Left) : Type 0 where
   pub mark : now .mark ≡ earlier .mark
   pub entries : now .entries ≡ earlier .entries
   pub root : now .root ≡ earlier .root
+  pub ahead : now .ahead ≡ earlier .ahead
   pub leaves : now .leaves ≡ earlier .leaves
   pub node : Node ℕ
   pub named : node .key ≡ key
@@ -82,14 +85,14 @@ module _ (k F key value : ℕ) (draw : ℕ → ℕ) (st : Store) where
 
   -- ---- where the key is absent, or there is room
   same-left : {x y : Round (Outcome ℕ)} → Together (Compared key value room) x y → pick room false (holdsKey key x) ≡ false
-      → afterFetches map k F draw st x ≡ afterFetches map k F draw st y
+      → (a : Ahead ℕ) → afterFetches map k F draw st a x ≡ afterFetches map k F draw st a y
   unfolding afterFetches
-  same-left (both-shut m g) e = refl
-  same-left (both-on g (both-done (same none-there o))) e = refl
-  same-left (both-on g (both-done (revalued none-left n others root entries named held there))) e =
+  same-left (both-shut m g) e a = refl
+  same-left (both-on g (both-done (same none-there o))) e a = refl
+  same-left (both-on g (both-done (revalued none-left n others root entries named held there))) e a =
       let z : true ≡ false = sym (rw (none-left, there) refl) ∙ e in
       cc
-  same-left (both-on g (both-want more)) e = refl
+  same-left (both-on g (both-want more)) e a = refl
 
 -- A call over buckets is as it was, every byte, unless it is a put of a present key on a full map: for any structure, ticket, store and tape, and any number
 -- of rounds.
@@ -97,21 +100,23 @@ pub same-call : {s : Structure} (k F : ℕ) (op : Op s) (draw : ℕ → ℕ) (st
     → fullPut (capacity k) (st .entries) op (fetchedBy k F op draw st) ≡ false
     → bucketCall k F op draw st ≡ bucketCallWith earlierPrograms k F op draw st
 unfolding bucketCall fullPut earlierPrograms
-same-call k F (put key value) draw st e = same-left k F key value draw st (puts-together k F key value draw st) e
+same-call k F (put key value) draw st e = same-left k F key value draw st (puts-together k F key value draw st) e (aheadThen k F (put key value) draw st)
 same-call k F (get key) draw st e = refl
 same-call k F (remove key) draw st e = refl
 same-call k F (push value) draw st e = refl
 same-call k F pop draw st e = refl
 same-call k F (add value) draw st e = refl
 same-call k F take draw st e = refl
+same-call k F (enqueue value) draw st e = refl
+same-call k F dequeue draw st e = refl
 
 -- ---- a put of a present key on a full map
 -- A store that is closed with nothing held.
-closed-left : (m entries : ℕ) (l : Link ℕ) (g : Going) → g .held ≡ []
-    → closing m entries l g
-    ≡ record { mark = m; entries = entries; root = l; waiting = g .waiting; tree = g .tree; leaves = g .leaves; answer = none }
+closed-left : (m entries : ℕ) (l : Link ℕ) (a : Ahead ℕ) (g : Going) → g .held ≡ []
+    → closing m entries l a g
+    ≡ record { mark = m; entries = entries; root = l; ahead = a; waiting = g .waiting; tree = g .tree; leaves = g .leaves; answer = none }
 unfolding closing movedLink join
-closed-left m entries l g none-held = rw none-held
+closed-left m entries l a g none-held = rw none-held
 
 module _ (k key value : ℕ) (n : Node ℕ) (named : n .key ≡ key) (others : List (Node ℕ)) (l : Link ℕ) (entries : ℕ) where
   abbrev before : Outcome ℕ
@@ -120,25 +125,28 @@ module _ (k key value : ℕ) (n : Node ℕ) (named : n .key ≡ key) (others : L
   abbrev after : Outcome ℕ
   after = record { nodes = withValue value n ∷ others; root = l; entries = entries; answer = replaced (n .value) }
 
-  ends-apart : {x y : Round (Outcome ℕ)} → NearRounds k n (withValue value n) before after x y → OnlyValue k key value (afterPuts before x) (afterPuts after y)
+  ends-apart : (a : Ahead ℕ) {x y : Round (Outcome ℕ)} → NearRounds k n (withValue value n) before after x y
+      → OnlyValue k key value (afterPuts a before x) (afterPuts a after y)
   unfolding afterPuts
-  ends-apart (near-shut m g h closes near) =
-      rw (closed-left m entries l g (near .none-held), closed-left m entries l h (near .held ∙ near .none-held))
+  ends-apart a (near-shut m g h closes near) =
+      rw (closed-left m entries l a g (near .none-held), closed-left m entries l a h (near .held ∙ near .none-held))
       (record {
         mark = refl;
         entries = refl;
         root = refl;
+        ahead = refl;
         leaves = near .leaves;
         node = n;
         named = named;
         apart = near .apart;
         answers = neither closes;
       })
-  ends-apart (near-on g h near) =
+  ends-apart a (near-on g h near) =
       record {
         mark = refl;
         entries = refl;
         root = refl;
+        ahead = refl;
         leaves = near .leaves;
         node = n;
         named = named;
@@ -167,24 +175,24 @@ module _ (k : ℕ) (some-size : 1 ≤ k) (small : k ≤ 16) (key value : ℕ) (f
   held-proper g o e =
       go
       (subst (FetchEnds k (rounds map k) 0 (put key value) st) e
-      (fetch-rounds k some-size small (put key value) fits draw leaves st fit (rounds map k) 0 (omega arith)))
+      (fetch-rounds k some-size small (put key value) fits draw leaves st fit tt (rounds map k) 0 (omega arith)))
     where
       go : FetchEnds k (rounds map k) 0 (put key value) st (on g (done o)) → IsTree k (g .tree) × All (ProperLeaf k) (nodesIn (g .held))
       go (goes sound few seen next) = (sound .is-tree, sound .held)
 
   left-apart : {x y : Round (Outcome ℕ)} → fetchedBy k (rounds map k) (put key value) draw st ≡ x
       → Together (Compared key value (ltb (st .entries) (capacity k))) x y → pick (ltb (st .entries) (capacity k)) false (holdsKey key x) ≡ true
-      → OnlyValue k key value (afterFetches map k (rounds map k) draw st y) (afterFetches map k (rounds map k) draw st x)
+      → (a : Ahead ℕ) → OnlyValue k key value (afterFetches map k (rounds map k) draw st a y) (afterFetches map k (rounds map k) draw st a x)
   unfolding afterFetches
-  left-apart e (both-on g (both-done (revalued none-left n others root entries named held there))) present =
+  left-apart e (both-on g (both-done (revalued none-left n others root entries named held there))) present a =
       let p = held-proper g _ e in
-      ends-apart k key value n named others root entries
+      ends-apart k key value n named others root entries a
       (puts-near k refl refl (p .1 n held) (with-value-proper k small n value (fits .1) (p .1 n held)) _ _ draw leaves (rounds map k) (putDraw map (rounds map k) 0) _ _
       (steps-near k key value n named others root entries g (p .0)))
-  left-apart e (both-on g (both-done (same none-there o))) present = let z : _≡_ {A = ℕ} 0 1 = cc in absurd (omega arith)
-  left-apart e (both-on g (both-want {w = w} {c = c} more)) present =
-      absurd (never-left-wanting k some-size small (put key value) fits draw leaves st fit g w c e)
-  left-apart e (both-shut m g) present =
+  left-apart e (both-on g (both-done (same none-there o))) present a = let z : _≡_ {A = ℕ} 0 1 = cc in absurd (omega arith)
+  left-apart e (both-on g (both-want {w = w} {c = c} more)) present a =
+      absurd (never-left-wanting k some-size small (put key value) fits draw leaves st fit tt g w c e)
+  left-apart e (both-shut m g) present a =
       let closed = pick-neither (ltb (st .entries) (capacity k)) false present .1 in
       let z : _≡_ {A = ℕ} 0 1 = cc in
       absurd (omega arith)
@@ -193,4 +201,4 @@ module _ (k : ℕ) (some-size : 1 ≤ k) (small : k ≤ 16) (key value : ℕ) (f
   pub only-value : fullPut (capacity k) (st .entries) (put key value) (fetchedBy k (rounds map k) (put key value) draw st) ≡ true
       → OnlyValue k key value (bucketCallWith earlierPrograms k (rounds map k) (put key value) draw st) (bucketCall k (rounds map k) (put key value) draw st)
   unfolding bucketCall fullPut
-  only-value present = left-apart refl (puts-together k (rounds map k) key value draw st) present
+  only-value present = left-apart refl (puts-together k (rounds map k) key value draw st) present (aheadThen k (rounds map k) (put key value) draw st)

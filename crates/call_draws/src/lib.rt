@@ -5,10 +5,10 @@ ghost use Prim.Native.Nat.{_≤_};
 ghost use Rattle.state_spec.specs.Fit.{largestSize};
 ghost use Rattle.state_spec.specs.Fetching.{roundsOf, spareOf, drawsOf, mostRounds, mostSpare, mostDraws};
 
-// The most fetch rounds of a call, a map's of the largest size, and the most spare draws.
+// The most fetch rounds of a call, a map's of the largest size, and the most spare draws, a queue's.
 pub const MOST_ROUNDS: usize = 33;
 
-pub const MOST_SPARE: usize = 1;
+pub const MOST_SPARE: usize = 2;
 
 // F: the fetch rounds of a call, and as many put rounds.
 pub fn rounds_of(structure: u8, size: u8) -> usize
@@ -21,20 +21,22 @@ pub fn rounds_of(structure: u8, size: u8) -> usize
     if structure == 2 {
         return 1;
     }
-    3 * size as usize
+    if structure == 3 {
+        return 3 * size as usize;
+    }
+    1
 }
 
 // The spare draws of a call: those that no round takes.
 pub fn spare_of(structure: u8) -> usize
     ensures { λ r. ⌜ (r ≡ spareOf structure) × (r ≤ mostSpare) ⌝ }
 {
-    if structure == 1 {
-        return 1;
+    match structure {
+        1 => 1,
+        2 => 1,
+        3 => 1,
+        _ => 2,
     }
-    if structure == 2 {
-        return 1;
-    }
-    1
 }
 
 // The draws of a call: two for each of the F, and the spare ones.

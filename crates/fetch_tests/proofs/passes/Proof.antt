@@ -27,10 +27,19 @@ heap-test-requires c κs = search needs
 returns-3 : tie.Need-returns-3
 unfolding test
 returns-3 c =
-    let a = c .before .before .before .args in
-    rw (ne-eqb (a .structure) 1 (c .before .before .if1 .left), ne-eqb (a .structure) 2 (c .before .if2 .left)) (c .heap-test .ensures)
+    let a = c .before .before .before .before .args in
+    rw (ne-eqb (a .structure) 1 (c .before .before .before .if1 .left), ne-eqb (a .structure) 2 (c .before .before .if2 .left), eq-eqb (a .structure) 3 (c .before .if3 .taken)) (c .heap-test .ensures)
+
+queue-test-requires : tie.Need-queue-test-requires
+queue-test-requires c κs = search needs
+
+returns-4 : tie.Need-returns-4
+unfolding test
+returns-4 c =
+    let a = c .before .before .before .before .args in
+    rw (ne-eqb (a .structure) 1 (c .before .before .before .if1 .left), ne-eqb (a .structure) 2 (c .before .before .if2 .left), ne-eqb (a .structure) 3 (c .before .if3 .left)) (c .queue-test .ensures)
 
 pub passes-spec : {M : Type 1} → statement M
 passes-spec =
     tie.close
-    (tie.spec map-test-requires returns stack-test-requires returns-2 heap-test-requires returns-3)
+    (tie.spec map-test-requires returns stack-test-requires returns-2 heap-test-requires returns-3 queue-test-requires returns-4)

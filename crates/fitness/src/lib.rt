@@ -71,7 +71,7 @@ fn ahead_good(structure: u8, size: usize, entries: u16, ahead: Ahead) -> bool
     (ahead.tag as usize) < leaves(size)
 }
 
-// The root's tag is a leaf, the root is one that so many entries have, and so is what is known ahead.
+// The root's tag is a leaf, and the root and what is known ahead are such as so many entries have.
 fn root_fits(size: usize, structure: u8, entries: u16, root: Link, ahead: Ahead) -> bool
     requires { ⌜ size ≤ 16 ⌝ }
     ensures { λ r. ⌜ r ≡ (ltb (root .tag) (2 ^ size) && (rootGood structure entries (ahead .key) root && aheadGood structure size entries ahead)) ⌝ }

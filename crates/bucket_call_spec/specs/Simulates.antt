@@ -1,9 +1,10 @@
 -- When a bucket store keeps a memory of the method at leaves, between two calls, and what a call that met overflow left.
 use mathlib.Core.Path.{_≡_}
 use mathlib.Core.List.{List, [], _++_}
-use Prim.Native.Nat.{ℕ, _≤_}
+use Prim.Native.Nat.{ℕ, _^_, _≤_, _<_}
 use lib.ListN.{length}
 use Rattle.list_spec.specs.Perm.{Perm}
+use Rattle.method_spec.specs.Node.{Ahead}
 use Rattle.method_spec.specs.Prog.{done}
 use Rattle.method_spec.specs.Plain.{Pair}
 use Rattle.method_spec.specs.Map.{Outcome}
@@ -14,12 +15,18 @@ use Rattle.leaf_spec.specs.Leaf.{leafFormat, ProperLeaf}
 use Rattle.bucket_call_spec.specs.Fetch.{Going, Round, on, shut}
 use Rattle.bucket_call_spec.specs.Call.{Store}
 
--- The same entries, root link and what is known ahead; the memory's nodes are, in another order, those of the tree and those that wait; the store is kept;
+-- What is known ahead is within its widths: a key, and a leaf.
+pub record AheadFits (k : ℕ) (a : Ahead ℕ) : Type 0 where
+  pub key : a .key < 2 ^ 32
+  pub tag : a .tag < 2 ^ k
+
+-- The same entries, root link and what is known ahead, which is within its widths; the memory's nodes are, in another order, those of the tree and those that wait; the store is kept;
 -- and at most 64 wait, in ascending order of keys.
 pub record Simulates (k : ℕ) (st : Store) (m : Memory ℕ) : Type 0 where
   pub entries : st .entries ≡ m .entries
   pub root : st .root ≡ m .root
   pub ahead : st .ahead ≡ m .ahead
+  pub known : AheadFits k (st .ahead)
   pub there : Perm (m .nodes) (contents leafFormat k (st .tree) ++ st .waiting)
   pub kept : Kept leafFormat ProperLeaf k (st .tree) (st .waiting) []
   pub few : length (st .waiting) ≤ limit

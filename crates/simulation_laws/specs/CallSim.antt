@@ -5,6 +5,7 @@ use mathlib.Core.List.{List, [], _++_}
 use mathlib.Core.Option.{some}
 use Prim.Native.Nat.{ℕ, _^_, _≤_, _<_}
 use native.Mathlib.Omega.{arith}
+use lib.Pow.{pow-pos}
 use Rattle.list_laws.specs.PermLaws.{perm-refl, perm-member}
 use Rattle.list_spec.specs.Distinct.{Distinct, All}
 use Rattle.method_spec.specs.Node.{Node, Ahead}
@@ -13,7 +14,7 @@ use Rattle.method_spec.specs.Answer.{Structure, Op, Answer}
 use Rattle.method_spec.specs.Answer as answer
 use Rattle.method_spec.specs.Plain.{Contents}
 use Rattle.method_spec.specs.Map.{Outcome}
-use Rattle.method_spec.specs.Rounds.{rounds}
+use Rattle.method_spec.specs.Rounds.{rounds, spareDraw}
 use Rattle.method_spec.specs.Call.{capacity, program, aheadAfter, spareTags, Memory, emptyMemory, Fetched, fetches, stepped, answered, Called, call}
 use Rattle.run_laws.specs.RoundsLaws.{some-rounds}
 use Rattle.run_laws.specs.SafeLaws.{safe-map}
@@ -29,9 +30,9 @@ use Rattle.round_laws.specs.Kept.{fresh-empty, fresh-kept}
 use Rattle.list_spec.specs.Ascending.{ascending}
 use Rattle.leaf_laws.specs.Proper.{leaves-lawful, Fits, proper-fits}
 use Rattle.leaf_spec.specs.Entries.{OpFits, KeyLeft}
-use Rattle.simulation_laws.specs.ProperCall.{call-held, call-proper}
-use Rattle.bucket_call_spec.specs.Simulates.{Simulates}
-use Rattle.simulation_laws.specs.Relation.{emptyStore, AheadFits, memoryEntries, Matches, Overflowed}
+use Rattle.simulation_laws.specs.ProperCall.{call-held, call-proper, ahead-after}
+use Rattle.bucket_call_spec.specs.Simulates.{AheadFits, Simulates}
+use Rattle.simulation_laws.specs.Relation.{emptyStore, memoryEntries, Matches, Overflowed}
 use Rattle.simulation_laws.specs.RoundSim.{Went}
 use Rattle.simulation_laws.specs.FetchSim.{WentAs, fetches-went}
 use Rattle.simulation_laws.specs.StepSim.{fetches-match}
@@ -50,7 +51,7 @@ simulates-fits {k} {st} {m} sim n i =
     (there-proper leafFormat leaves-lawful k (st .tree) (st .waiting) [] (sim .kept) n (perm-member (sim .there) i))
 
 module _ {s : Structure} (k : ℕ) (positive : 1 ≤ k) (small : k ≤ 16) (t : Contents s) (m : Memory ℕ) (held : Held 0 s (capacity k) t m)
-    (known : AheadFits k (m .ahead)) (st : Store) (sim : Simulates k st m) (op : Op s) (op-fits : OpFits op) (key-left : KeyLeft op (m .ahead .key)) (draw : ℕ → ℕ) (leaves : (d : ℕ) → draw d < 2 ^ k) where
+    (st : Store) (sim : Simulates k st m) (op : Op s) (op-fits : OpFits op) (key-left : KeyLeft op (m .ahead .key)) (draw : ℕ → ℕ) (leaves : (d : ℕ) → draw d < 2 ^ k) where
   abbrev F : ℕ
   F = rounds s k
 
@@ -71,6 +72,9 @@ module _ {s : Structure} (k : ℕ) (positive : 1 ≤ k) (small : k ≤ 16) (t : 
 
   abbrev fetchEnd : Round (Outcome ℕ)
   fetchEnd = fetchedBy k F op draw st
+
+  known : AheadFits k (m .ahead)
+  known = rw (← sim .ahead) (sim .known)
 
   -- The fetch rounds are the method's fetches.
   fetch-phase : WentAs k (memoryEntries m) started fetched fetchEnd
@@ -97,7 +101,7 @@ module _ {s : Structure} (k : ℕ) (positive : 1 ≤ k) (small : k ≤ 16) (t : 
       let nodes : called .memory .nodes ≡ o .nodes ++ fetched .nodes = ap (λ (x : Memory ℕ). x .nodes) remembers in
       let same : aheadThen k F op draw st ≡ ahead = rw (sim .entries, sim .ahead) in
       rw same
-      (fetches-match s k F (some-rounds s k positive) draw leaves m called ahead o (fetched .nodes) remembers (ap answered e)
+      (fetches-match s k F (some-rounds s k positive) draw leaves m called ahead (ahead-after k op spares (λ i. leaves (spareDraw F i)) (capacity k) (m .entries) (m .ahead) key-left known) o (fetched .nodes) remembers (ap answered e)
       (fetched .revealed) refl
       (subst (λ (ns : List (Node ℕ)). Distinct (keys ns)) nodes
       (represents 0 s k .distinct-keys _ (called .memory) (call-held k small t m held op draw)))
@@ -114,6 +118,7 @@ simulate-start k =
       entries = refl;
       root = refl;
       ahead = refl;
+      known = record { key = omega arith; tag = pow-pos k };
       there = rw (fresh-empty leafFormat leaves-lawful k) (perm-refl []);
       kept = fresh-kept leafFormat leaves-lawful k;
       few = omega arith;

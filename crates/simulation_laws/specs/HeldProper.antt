@@ -29,7 +29,7 @@ use Rattle.method_laws.specs.MapRepresents.{holds-low}
 use Rattle.method_laws.specs.Represented.{Held}
 use Rattle.leaf_spec.specs.Leaf.{ProperLeaf}
 use Rattle.leaf_laws.specs.Proper.{Fits, FitLink, fits-proper}
-use Rattle.simulation_laws.specs.Relation.{AheadFits}
+use Rattle.bucket_call_spec.specs.Simulates.{AheadFits}
 
 -- The heights of all sizes whose tags have two bytes fit in a byte.
 greatest-small : (k : ℕ) → k ≤ 16 → greatest k < 256

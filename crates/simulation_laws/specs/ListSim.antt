@@ -22,10 +22,10 @@ use Rattle.method_spec.specs.Call as method
 use Rattle.bucket_call_spec.specs.Fetch.{Left, Round}
 use Rattle.bucket_call_spec.specs.Call.{Store, fetchedBy, bucketCall}
 use Rattle.leaf_spec.specs.Entries.{OpFits, KeyLeft}
-use Rattle.simulation_laws.specs.ProperCall.{call-held, call-ahead}
+use Rattle.simulation_laws.specs.ProperCall.{call-held}
 use Rattle.bucket_call_spec.specs.Simulates.{Simulates}
-use Rattle.simulation_laws.specs.Relation.{emptyStore, AheadFits, leftBy, Matches, Overflowed}
-use Rattle.simulation_laws.specs.CallSim.{simulates-fits, simulate, simulate-start}
+use Rattle.simulation_laws.specs.Relation.{emptyStore, leftBy, Matches, Overflowed}
+use Rattle.simulation_laws.specs.CallSim.{simulate, simulate-start}
 use Rattle.simulation_laws.specs.BucketRun.{BucketRan, last, andThen, bucketRun, KeysLeft}
 
 -- All calls did what the method's calls did.
@@ -102,14 +102,14 @@ module _ {k : ℕ} {l : Left} {r : Called ℕ} where
 module _ {s : Structure} (k : ℕ) (positive : 1 ≤ k) (small : k ≤ 16) (draw : ℕ → ℕ → ℕ) (leaves : (c d : ℕ) → draw c d < 2 ^ k) where
   -- Each list of calls, from a store that simulates a memory that holds what the plain machine holds.
   pub run-simulates : (c : ℕ) (ops : List (Op s)) → All (λ op. OpFits op) ops → (t : Contents s) (m : Memory ℕ) → Held 0 s (capacity k) t m
-      → AheadFits k (m .ahead) → (st : Store) → Simulates k st m → KeysLeft k (rounds s k) draw c ops st
+      → (st : Store) → Simulates k st m → KeysLeft k (rounds s k) draw c ops st
       → RunSimulates k (bucketRun k (rounds s k) draw c ops st) (run 0 (rounds s k) (capacity k) draw c ops m)
   unfolding run bucketRun
-  run-simulates c [] fit t m held known st sim keys = inr (record { mark = refl; answers = refl; leaves = refl; simulates = sim })
-  run-simulates c (op ∷ ops) fit t m held known st sim keys =
-      go (simulate k positive small t m held known st sim op op-fits key-left (draw c) (leaves c))
+  run-simulates c [] fit t m held st sim keys = inr (record { mark = refl; answers = refl; leaves = refl; simulates = sim })
+  run-simulates c (op ∷ ops) fit t m held st sim keys =
+      go (simulate k positive small t m held st sim op op-fits key-left (draw c) (leaves c))
       (λ x. run-simulates (suc c) ops (λ o i. fit o (List·Memᴰ·tail i)) (plain (capacity k) op t .contents) (r .memory)
-      (call-held k small t m held op (draw c)) (call-ahead k small t m held op (draw c) op-fits key-left (leaves c) known (simulates-fits sim)) (leftBy l) (x .simulates) (keys .1))
+      (call-held k small t m held op (draw c)) (leftBy l) (x .simulates) (keys .1))
     where
       op-fits : OpFits op
       op-fits = fit op (List·Memᴰ·head refl)
@@ -135,9 +135,8 @@ module _ {s : Structure} (k : ℕ) (positive : 1 ≤ k) (small : k ≤ 16) (draw
   -- From the empty store.
   pub run-from-start : (ops : List (Op s)) → All (λ op. OpFits op) ops → KeysLeft k (rounds s k) draw 1 ops (emptyStore k)
       → RunSimulates k (bucketRun k (rounds s k) draw 1 ops (emptyStore k)) (run 0 (rounds s k) (capacity k) draw 1 ops (emptyMemory 0))
-  unfolding emptyMemory
   run-from-start ops fit keys =
-      run-simulates 1 ops fit (nothing s) (emptyMemory 0) (held-empty 0 s (capacity k)) (record { key = omega arith; tag = pow-pos k }) (emptyStore k)
+      run-simulates 1 ops fit (nothing s) (emptyMemory 0) (held-empty 0 s (capacity k)) (emptyStore k)
       (simulate-start k) keys
 
 -- ---- the same with the tapes that the calls bring

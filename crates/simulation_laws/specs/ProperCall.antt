@@ -26,7 +26,7 @@ use Rattle.method_laws.specs.Represented.{Held, represents}
 use Rattle.leaf_spec.specs.Leaf.{ProperLeaf}
 use Rattle.leaf_laws.specs.Proper.{Fits}
 use Rattle.leaf_spec.specs.Entries.{pairOf, OpFits, KeyLeft}
-use Rattle.simulation_laws.specs.Relation.{AheadFits}
+use Rattle.bucket_call_spec.specs.Simulates.{AheadFits}
 use Rattle.simulation_laws.specs.Entries.{PairFits, EntriesFit, plain-fits, held-entries, pairs-fit, fit-entries}
 use Rattle.simulation_laws.specs.HeldProper.{held-proper}
 

@@ -3,11 +3,11 @@
 use mathlib.Core.Path.{_≡_}
 use mathlib.Core.List.{List, [], _++_, map}
 use mathlib.Core.Option.{none, some}
-use Prim.Native.Nat.{ℕ, _+_, _^_, _≤_, _<_}
+use Prim.Native.Nat.{ℕ, _+_, _≤_, _<_}
 use lib.ListN.{length, replicate}
 use Rattle.list_spec.specs.Perm.{Perm}
 use Rattle.slot_spec.specs.Tree.{treeLength}
-use Rattle.method_spec.specs.Node.{Node, Ahead, absent, noneAhead}
+use Rattle.method_spec.specs.Node.{Node, absent, noneAhead}
 use Rattle.method_spec.specs.Plain.{Pair}
 use Rattle.method_spec.specs.Map.{Outcome}
 use Rattle.method_spec.specs.Call.{Memory, Called}
@@ -27,11 +27,6 @@ emptyStore k = record { entries = 0; root = absent 0; ahead = noneAhead 0; waiti
 
 abbrev pub leftBy : Left → Store
 leftBy l = record { entries = l .entries; root = l .root; ahead = l .ahead; waiting = l .waiting; tree = l .tree }
-
--- What is known ahead is within its widths: a key, and a leaf.
-pub record AheadFits (k : ℕ) (a : Ahead ℕ) : Type 0 where
-  pub key : a .key < 2 ^ 32
-  pub tag : a .tag < 2 ^ k
 
 -- The keys and values of all nodes of a store, and of a memory.
 abbrev pub storeEntries : ℕ → Store → List Pair

@@ -34,7 +34,7 @@ use Rattle.round_laws.specs.ReadHalf.{distinct-but-last}
 use Rattle.round_laws.specs.Kept.{kept-holding, kept-joined}
 use Rattle.round_laws.specs.Sorted.{ascending-join}
 use Rattle.leaf_spec.specs.Entries.{pairOf}
-use Rattle.bucket_call_spec.specs.Simulates.{Simulates, as-before, as-after}
+use Rattle.bucket_call_spec.specs.Simulates.{AheadFits, Simulates, as-before, as-after}
 use Rattle.simulation_laws.specs.Relation.{leftBy, storeEntries, memoryEntries, Matches, Overflowed, Stands, Few, Many}
 use Rattle.simulation_laws.specs.RoundSim.{Went, went, overflowed}
 use Rattle.simulation_laws.specs.FetchSim.{puts-went}
@@ -109,14 +109,15 @@ module _ (k : ℕ) (o : Outcome ℕ) {all : List Pair} {g : Going} {ns : List (N
 
 -- ---- the end of a call
 
-stands-simulates : {k : ℕ} {all : List Pair} {g : Going} (m : Memory ℕ) → Stands k all g (m .nodes) → Few g
+stands-simulates : {k : ℕ} {all : List Pair} {g : Going} (m : Memory ℕ) → AheadFits k (m .ahead) → Stands k all g (m .nodes) → Few g
     → Simulates k (record { entries = m .entries; root = m .root; ahead = m .ahead; waiting = g .waiting; tree = g .tree }) m
-stands-simulates {k} {all} {g} m st few =
+stands-simulates {k} {all} {g} m known st few =
     let apart = distinct-but-last (keysOf leafFormat (contents leafFormat k (g .tree))) (keysOf leafFormat (g .waiting)) (heldKeys g) (st .kept .none-twice) in
     record {
       entries = refl;
       root = refl;
       ahead = refl;
+      known = known;
       there = st .there;
       kept = kept-holding leafFormat k (g .tree) (g .waiting) (heldKeys g) (st .kept) [] (rw append-nil apart);
       few = omega arith;
@@ -124,7 +125,7 @@ stands-simulates {k} {all} {g} m st few =
     }
 
 module _ (s : Structure) (k F : ℕ) (some-rounds : 1 ≤ F) (draw : ℕ → ℕ) (leaves : (d : ℕ) → draw d < 2 ^ k) (m : Memory ℕ) (r : Called ℕ)
-    (a : Ahead ℕ) (o : Outcome ℕ) (ns : List (Node ℕ)) (remembers : r .memory ≡ memoryOf a o ns) (answers : r .answer ≡ some (o .answer)) where
+    (a : Ahead ℕ) (known : AheadFits k a) (o : Outcome ℕ) (ns : List (Node ℕ)) (remembers : r .memory ≡ memoryOf a o ns) (answers : r .answer ≡ some (o .answer)) where
   -- After the put rounds, where the fetch rounds came to f.
   puts-match : (f : Going) (x : Round (Outcome ℕ)) → Went k (map pairOf (o .nodes ++ ns)) (done o) (o .nodes ++ ns) (r .revealed) x
       → Overflowed k m (on f (done o)) (afterPuts a o x) r ⊎ Matches k (afterPuts a o x) r
@@ -134,7 +135,7 @@ module _ (s : Structure) (k F : ℕ) (some-rounds : 1 ≤ F) (draw : ℕ → ℕ
         mark = refl;
         answer = sym answers;
         leaves = shown;
-        simulates = rw remembers (stands-simulates (memoryOf a o ns) st few);
+        simulates = rw remembers (stands-simulates (memoryOf a o ns) known st few);
       })
   puts-match f x (overflowed g left rest st many shown) =
       inl (record {

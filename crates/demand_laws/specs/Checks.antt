@@ -2,12 +2,13 @@
 use Prim.Native.Nat.{ℕ, _*_, _≤_}
 use mathlib.Core.Path.{_≡_, refl}
 use mathlib.Core.Bool.{Bool, true, false, not}
+use mathlib.Core.Logic.{_⊎_, inl, inr}
 use mathlib.Core.List.{List}
 use mathlib.Core.Option.{Option, none, some}
 use lib.Dec.{eqb, ltb}
 use lib.ListN.{length}
 use native.Mathlib.Omega.{arith}
-use borrow.Author.Tests.{eqb-true, eqb-false}
+use borrow.Author.Tests.{eqb-true, eqb-false, le-leb}
 use Rattle.list_spec.specs.Choice.{pick}
 use Rattle.slot_spec.specs.Tree.{treeLength}
 use Rattle.method_spec.specs.Answer.{Structure, Op}
@@ -16,42 +17,54 @@ use Rattle.bucket_call_spec.specs.Fetch.{Left}
 use Rattle.bucket_call_spec.specs.Call.{drawOf, bucketCall}
 use Rattle.state_spec.specs.declared.State.{State}
 use Rattle.state_spec.specs.Fit.{fits}
-use Rattle.state_spec.specs.Ticket.{ticketLength, opIn, structureOf}
+use Rattle.state_spec.specs.Ticket.{ticketLength, opIn, structureOf, outOfKeys}
 use Rattle.call_spec.specs.Store.{Ended, storeOf, refusing, ending, callWith, called}
+use Rattle.demand_spec.specs.History.{changesNothing}
+
+-- The refusals that what a call brings decides: 4 to 7, and 17.
+abbrev pub IllBrought : ℕ → Type 0
+IllBrought n = ((4 ≤ n) × (n ≤ 7)) ⊎ (n ≡ 17)
+
+pub ill-changes : (n : ℕ) → IllBrought n → changesNothing n ≡ true
+ill-changes n (inl h) = rw (le-leb n 7 (h .1))
+ill-changes n (inr h) = rw h
 
 module _ (st : Structure) (s : State) (tree ticket tape trace : List ℕ) where
   -- What the rounds of the call of that ticket leave.
   abbrev pub leftBy : Op st → Left
   leftBy op = bucketCall (s .size) (rounds st (s .size)) op (drawOf (s .size) tape) (storeOf s tree)
 
-  -- What a call comes to: refusal 1, 2 or 3, one of the refusals 4 to 7 that what it brings decides, or, on a fit state and a tree of its
-  -- size, the rounds.
+  -- What a call comes to: refusal 1, 2 or 3, one that what it brings decides, or, on a fit state and a tree of its size, the
+  -- rounds, with a key for what it stores.
   pub data Verdict (e : Ended) : Type 0 where
     closed : (s .mark ≡ 0 → ⊥) → e ≡ refusing 1 s tree trace → Verdict e
     unfit : fits s ≡ false → e ≡ refusing 2 s tree trace → Verdict e
     other-tree : (length tree ≡ treeLength (s .size) → ⊥) → e ≡ refusing 3 s tree trace → Verdict e
-    ill-brought : (n : ℕ) → 4 ≤ n → n ≤ 7 → e ≡ refusing n s tree trace → Verdict e
+    ill-brought : (n : ℕ) → IllBrought n → e ≡ refusing n s tree trace → Verdict e
     counts : fits s ≡ true → length tree ≡ treeLength (s .size) → (op : Op st) → opIn st ticket ≡ some op
-        → e ≡ ending s trace (leftBy op) → Verdict e
+        → outOfKeys op (s .ahead .key) ≡ false → e ≡ ending s trace (leftBy op) → Verdict e
 
   -- ---- the checks of what the call brings
 
   module _ (fit : fits s ≡ true) (sized : length tree ≡ treeLength (s .size)) where
-    by-room : (op : Op st) → opIn st ticket ≡ some op → (short few : Bool)
-        → Verdict (pick short (refusing 6 s tree trace) (pick few (refusing 7 s tree trace) (ending s trace (leftBy op))))
-    by-room op e true few = ill-brought 6 (omega arith) (omega arith) refl
-    by-room op e false true = ill-brought 7 (omega arith) (omega arith) refl
-    by-room op e false false = counts fit sized op e refl
+    by-room : (op : Op st) → opIn st ticket ≡ some op → (gone short few : Bool) → outOfKeys op (s .ahead .key) ≡ gone
+        → Verdict
+        (pick gone (refusing 17 s tree trace)
+        (pick short (refusing 6 s tree trace) (pick few (refusing 7 s tree trace) (ending s trace (leftBy op)))))
+    by-room op e true short few g = ill-brought 17 (inr refl) refl
+    by-room op e false true few g = ill-brought 6 (inl (omega arith, omega arith)) refl
+    by-room op e false false true g = ill-brought 7 (inl (omega arith, omega arith)) refl
+    by-room op e false false false g = counts fit sized op e g refl
 
     by-kind : (o : Option (Op st)) → opIn st ticket ≡ o → Verdict (callWith st s tree tape trace o)
     unfolding callWith
-    by-kind none e = ill-brought 5 (omega arith) (omega arith) refl
+    by-kind none e = ill-brought 5 (inl (omega arith, omega arith)) refl
     by-kind (some op) e =
-        by-room op e (ltb (length tape) (draws st (s .size))) (ltb (length trace) (2 * rounds st (s .size)))
+        by-room op e (outOfKeys op (s .ahead .key)) (ltb (length tape) (draws st (s .size))) (ltb (length trace) (2 * rounds st (s .size))) refl
 
     by-length : (same : Bool) → Verdict (pick (not same) (refusing 4 s tree trace) (callWith st s tree tape trace (opIn st ticket)))
     by-length true = by-kind (opIn st ticket) refl
-    by-length false = ill-brought 4 (omega arith) (omega arith) refl
+    by-length false = ill-brought 4 (inl (omega arith, omega arith)) refl
 
   -- ---- the checks of the state and the tree
 

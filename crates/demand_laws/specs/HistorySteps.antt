@@ -1,26 +1,25 @@
--- What the first call of a list adds to it: one refused with 1 to 7 nothing, one that counts its reply and its leaves. A closed store
+-- What the first call of a list adds to it: one refused with 1 to 7 or 17 nothing, one that counts its reply and its leaves. A closed store
 -- refuses all calls.
 use Prim.Native.Nat.{ℕ, _≤_}
 use mathlib.Core.Path.{_≡_, refl, _∙_, ap}
-use mathlib.Core.Bool.{false}
+use mathlib.Core.Bool.{true, false}
 use mathlib.Core.Logic.{inl, inr}
 use mathlib.Core.List.{List, [], _∷_, _++_}
 use native.Mathlib.Omega.{arith}
-use borrow.Author.Tests.{le-leb}
 use lib.ListN.{length, take, drop}
-use Rattle.method_spec.specs.Answer.{Answer, found, absent, replaced, new, removed, pushed, popped, added, taken, empty, full}
+use Rattle.method_spec.specs.Answer.{Answer, found, absent, replaced, new, removed, pushed, popped, added, taken, queued, dequeued, empty, full}
 use Rattle.bucket_call_spec.specs.Fetch.{Left}
 use Rattle.call_spec.specs.Store.{refusing, ending, replied, replyOf}
-use Rattle.demand_spec.specs.History.{Brought, Kept, callOn, leftBy, history, finally, early, counted, replies, traceOf}
+use Rattle.demand_spec.specs.History.{Brought, Kept, callOn, leftBy, history, finally, changesNothing, early, counted, replies, traceOf}
 use Rattle.demand_laws.specs.Marks.{Ends, closes, answers}
 use Rattle.demand_laws.specs.Refusals.{refused-closed}
 
--- ---- a first call that is refused with 1 to 7
+-- ---- a first call that is refused so that it changes nothing
 
 abbrev pub Refuses : Kept → Brought → ℕ → Type 0
 Refuses s b n = callOn s b ≡ refusing n (s .state) (s .tree) (b .trace)
 
-module _ (s : Kept) (b : Brought) (bs : List Brought) (n : ℕ) (few : n ≤ 7) (e : Refuses s b n) where
+module _ (s : Kept) (b : Brought) (bs : List Brought) (n : ℕ) (early-number : changesNothing n ≡ true) (e : Refuses s b n) where
   pub early-finally : finally s (b ∷ bs) ≡ finally s bs
   unfolding finally
   early-finally = rw e
@@ -31,11 +30,11 @@ module _ (s : Kept) (b : Brought) (bs : List Brought) (n : ℕ) (few : n ≤ 7) 
 
   pub early-counted : counted s (b ∷ bs) ≡ counted s bs
   unfolding counted early
-  early-counted = rw (e, le-leb n 7 few)
+  early-counted = rw (e, early-number)
 
   pub early-replies : replies (history s (b ∷ bs)) ≡ replies (history s bs)
   unfolding replies early
-  early-replies = rw (early-history, le-leb n 7 few)
+  early-replies = rw (early-history, early-number)
 
   pub early-trace : traceOf (history s (b ∷ bs)) ≡ traceOf (history s bs)
   unfolding traceOf
@@ -54,6 +53,8 @@ answer-late pushed = refl
 answer-late (popped v) = refl
 answer-late added = refl
 answer-late (taken v) = refl
+answer-late queued = refl
+answer-late (dequeued v) = refl
 answer-late empty = refl
 answer-late full = refl
 
@@ -102,19 +103,19 @@ module _ (s : Kept) (shut : s .state .mark ≡ 0 → ⊥) where
   pub closed-finally : (bs : List Brought) → finally s bs ≡ s
   unfolding finally
   closed-finally [] = refl
-  closed-finally (b ∷ bs) = early-finally s b bs 1 (omega arith) (closed-call b) ∙ closed-finally bs
+  closed-finally (b ∷ bs) = early-finally s b bs 1 refl (closed-call b) ∙ closed-finally bs
 
   pub closed-counted : (bs : List Brought) → counted s bs ≡ []
   unfolding counted
   closed-counted [] = refl
-  closed-counted (b ∷ bs) = early-counted s b bs 1 (omega arith) (closed-call b) ∙ closed-counted bs
+  closed-counted (b ∷ bs) = early-counted s b bs 1 refl (closed-call b) ∙ closed-counted bs
 
   pub closed-replies : (bs : List Brought) → replies (history s bs) ≡ []
   unfolding replies history
   closed-replies [] = refl
-  closed-replies (b ∷ bs) = early-replies s b bs 1 (omega arith) (closed-call b) ∙ closed-replies bs
+  closed-replies (b ∷ bs) = early-replies s b bs 1 refl (closed-call b) ∙ closed-replies bs
 
   pub closed-trace : (bs : List Brought) → traceOf (history s bs) ≡ []
   unfolding traceOf history
   closed-trace [] = refl
-  closed-trace (b ∷ bs) = early-trace s b bs 1 (omega arith) (closed-call b) ∙ closed-trace bs
+  closed-trace (b ∷ bs) = early-trace s b bs 1 refl (closed-call b) ∙ closed-trace bs

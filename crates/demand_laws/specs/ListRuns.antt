@@ -19,18 +19,19 @@ use Rattle.method_spec.specs.Call.{capacity, Memory, Called, call}
 use Rattle.method_laws.specs.Represented.{Held}
 use Rattle.bucket_call_spec.specs.Fetch.{Left}
 use Rattle.bucket_call_spec.specs.Call.{Store, drawOf, fetchedBy, bucketCall}
-use Rattle.leaf_spec.specs.Entries.{OpFits}
+use Rattle.leaf_spec.specs.Entries.{OpFits, KeyLeft}
 use Rattle.simulation_laws.specs.ProperCall.{call-held}
 use Rattle.bucket_call_spec.specs.Simulates.{Simulates}
 use Rattle.simulation_laws.specs.Relation.{Matches, Overflowed}
 use Rattle.simulation_laws.specs.Relation as relation
 use Rattle.simulation_laws.specs.CallSim.{simulate}
-use Rattle.simulation_laws.specs.BucketRun.{BucketRan, last, andThen, bucketRun}
+use Rattle.simulation_laws.specs.BucketRun.{BucketRan, last, andThen, bucketRun, KeysLeft}
 use Rattle.state_spec.specs.Ticket.{opIn}
 use Rattle.call_spec.specs.declared.Reply.{Reply}
 use Rattle.call_spec.specs.Store.{Ended, ending, replied}
 use Rattle.demand_spec.specs.History.{Brought, Kept, callOn, history, finally, counted, replies, traceOf, opsIn, tapesOf}
 use Rattle.demand_laws.specs.Marks.{Ends, call-ends}
+use Rattle.demand_laws.specs.Checks.{IllBrought, ill-changes}
 use Rattle.demand_laws.specs.OpenStates.{stateOf, keptOf}
 use Rattle.demand_laws.specs.HistorySteps.{Refuses, early-finally, early-history, early-counted, early-replies, early-trace, next, late-finally, late-history, late-counted, late-replies, late-trace, closed-finally, closed-counted, closed-replies, closed-trace}
 use Rattle.demand_laws.specs.SoundReplies.{Sound, Undamaged, early-sound, late-sound, reply-of-answer, closed-sound}
@@ -83,7 +84,8 @@ module _ (st : Structure) (k : ℕ) where
   RunsOf s bs cs =
       Asking cs
       × ((draw : ℕ → ℕ → ℕ) (c : ℕ) → Drawn draw c cs
-      → Runs (bucketRun k (rounds st k) draw c (opsIn st cs) s) (history (keptOf st k s) bs) (finally (keptOf st k s) bs))
+      → Runs (bucketRun k (rounds st k) draw c (opsIn st cs) s) (history (keptOf st k s) bs) (finally (keptOf st k s) bs)
+      × KeysLeft k (rounds st k) draw c (opsIn st cs) s)
 
   abbrev pub ListRuns : Store → List Brought → Type 0
   ListRuns s bs = RunsOf s bs (counted (keptOf st k s) bs)
@@ -109,24 +111,27 @@ module _ (st : Structure) (k : ℕ) where
     here = keptOf st k s
 
     -- A refused call adds nothing.
-    after-refused : (n : ℕ) → 4 ≤ n → n ≤ 7 → Refuses here b n → ListRuns s bs → ListRuns s (b ∷ bs)
-    after-refused n low high e a =
-        rw (early-counted here b bs n high e) (
+    after-refused : (n : ℕ) → IllBrought n → Refuses here b n → ListRuns s bs → ListRuns s (b ∷ bs)
+    after-refused n ill e a =
+        let early = ill-changes n ill in
+        rw (early-counted here b bs n early e) (
           a .0,
           λ draw c drawn.
-              let r = a .1 draw c drawn in
-              record {
-                mark = rw (early-finally here b bs n high e) (r .mark);
-                answers = early-replies here b bs n high e ∙ r .answers;
-                leaves = early-trace here b bs n high e ∙ r .leaves;
-                store = λ m. early-finally here b bs n high e ∙ r .store m;
-                sound =
-                    subst (All Sound) (sym (early-history here b bs n high e))
-                    (all-cons {P = Sound} (early-sound n (inr (low, high)) here b) (r .sound));
-              },
+              let r = a .1 draw c drawn .0 in (
+                record {
+                  mark = rw (early-finally here b bs n early e) (r .mark);
+                  answers = early-replies here b bs n early e ∙ r .answers;
+                  leaves = early-trace here b bs n early e ∙ r .leaves;
+                  store = λ m. early-finally here b bs n early e ∙ r .store m;
+                  sound =
+                      subst (All Sound) (sym (early-history here b bs n early e))
+                      (all-cons {P = Sound} (early-sound n (inr ill) here b) (r .sound));
+                },
+                a .1 draw c drawn .1,
+              ),
         )
 
-    module _ (op : Op st) (asks : opIn st (b .ticket) ≡ some op) (fits : OpFits op)
+    module _ (op : Op st) (asks : opIn st (b .ticket) ≡ some op) (fits : OpFits op) (keyed : KeyLeft op (s .ahead .key))
         (e : callOn here b ≡ ending (stateOf st k s) (b .trace) (leaving st k s b op)) where
       abbrev left : Left
       left = leaving st k s b op
@@ -160,7 +165,8 @@ module _ (st : Structure) (k : ℕ) where
       -- The list with that call first, from what the others brought that count.
       list-of : (cs : List Brought) → counted (next here b left) bs ≡ cs → Asking cs
           → ((draw : ℕ → ℕ → ℕ) (c : ℕ) → Drawn draw c (b ∷ cs)
-          → Runs (bucketRun k (rounds st k) draw c (op ∷ opsIn st cs) s) (history here (b ∷ bs)) (finally here (b ∷ bs)))
+          → Runs (bucketRun k (rounds st k) draw c (op ∷ opsIn st cs) s) (history here (b ∷ bs)) (finally here (b ∷ bs))
+          × KeysLeft k (rounds st k) draw c (op ∷ opsIn st cs) s)
           → ListRuns s (b ∷ bs)
       list-of cs others asking ran =
           subst (RunsOf s (b ∷ bs))
@@ -169,11 +175,14 @@ module _ (st : Structure) (k : ℕ) where
 
       -- After a call that met overflow no other counts.
       after-overflow : left .mark ≡ 9 → ListRuns s (b ∷ bs)
+      unfolding opsIn
       after-overflow m =
           list-of [] (closed-counted (next here b left) shut bs) asking-none
-          (λ draw c drawn.
-          rw (run-stops k (rounds st k) draw c op (opsIn st []) s left (same-call draw c [] drawn) m, ← append-nil (left .leaves))
-          (then-runs (inr m) (closed-runs (next here b left) shut bs (relation.leftBy left))))
+          (λ draw c drawn. (
+            rw (run-stops k (rounds st k) draw c op (opsIn st []) s left (same-call draw c [] drawn) m, ← append-nil (left .leaves))
+                (then-runs (inr m) (closed-runs (next here b left) shut bs (relation.leftBy left))),
+            (keyed, tt),
+          ))
         where
           shut : left .mark ≡ 0 → ⊥
           shut z = omega arith
@@ -182,11 +191,16 @@ module _ (st : Structure) (k : ℕ) where
       after-match : left .mark ≡ 0 → ListRuns (relation.leftBy left) bs → ListRuns s (b ∷ bs)
       after-match m later =
           list-of others (ap (λ (x : Kept). counted x bs) same) (later .0)
-          (λ draw c drawn.
-          rw (run-goes k (rounds st k) draw c op (opsIn st others) s left (same-call draw c others drawn) m)
-          (then-runs (inl m)
-          (subst⁻¹ (λ (x : Kept). Runs (bucketRun k (rounds st k) draw (suc c) (opsIn st others) (relation.leftBy left)) (history x bs) (finally x bs)) same
-          (later .1 draw (suc c) (λ i. others-drawn draw c drawn i)))))
+          (λ draw c drawn. (
+            rw (run-goes k (rounds st k) draw c op (opsIn st others) s left (same-call draw c others drawn) m)
+                (then-runs (inl m)
+                (subst⁻¹ (λ (x : Kept). Runs (bucketRun k (rounds st k) draw (suc c) (opsIn st others) (relation.leftBy left)) (history x bs) (finally x bs)) same
+                (later .1 draw (suc c) (λ i. others-drawn draw c drawn i) .0))),
+            (
+              keyed,
+              rw (same-call draw c others drawn) (later .1 draw (suc c) (λ i. others-drawn draw c drawn i) .1),
+            ),
+          ))
         where
           same : next here b left ≡ keptOf st k (relation.leftBy left)
           same = left-open st k s b left m
@@ -206,13 +220,8 @@ module _ (st : Structure) (k : ℕ) where
     unfolding counted history finally replies traceOf bucketRun opsIn
     list-runs [] bytes s m sim t held = (
       asking-none,
-      λ draw c drawn. record {
-        mark = refl;
-        answers = refl;
-        leaves = refl;
-        store = λ z. refl;
-        sound = all-nil Sound;
-      },
+      λ draw c drawn.
+          (record { mark = refl; answers = refl; leaves = refl; store = λ z. refl; sound = all-nil Sound }, tt),
     )
     list-runs (b ∷ bs) bytes s m sim t held =
         go (step st k positive small s m sim t held b (bytes b (List·Memᴰ·head refl)))
@@ -221,17 +230,17 @@ module _ (st : Structure) (k : ℕ) where
         go : Step st k s b
             → ((s : Store) (m : Memory ℕ) → Simulates k s m → (t : Contents st) → Held 0 st (capacity k) t m → ListRuns s bs)
             → ListRuns s (b ∷ bs)
-        go (refused n low high e) later = after-refused s b bs n low high e (later s m sim t held)
-        go (runs op asks fits e) later =
-            which (simulate k positive (omega arith) t m held s sim op fits (drawOf k (b .tape)) (λ d. mod-lt _ (pow-pos k)))
+        go (refused n ill e) later = after-refused s b bs n ill e (later s m sim t held)
+        go (runs op asks fits keyed e) later =
+            which (simulate k positive (omega arith) t m held s sim op fits (rw (← sim .ahead) keyed) (drawOf k (b .tape)) (λ d. mod-lt _ (pow-pos k)))
           where
             r : Called ℕ
             r = call 0 (rounds st k) (capacity k) op (drawOf k (b .tape)) m
 
             which : Overflowed k m (fetchedBy k (rounds st k) op (drawOf k (b .tape)) s) (leaving st k s b op) r ⊎ Matches k (leaving st k s b op) r
                 → ListRuns s (b ∷ bs)
-            which (inl x) = after-overflow s b bs op asks fits e (x .mark)
+            which (inl x) = after-overflow s b bs op asks fits keyed e (x .mark)
             which (inr x) =
-                after-match s b bs op asks fits e (x .mark)
+                after-match s b bs op asks fits keyed e (x .mark)
                 (later (relation.leftBy (leaving st k s b op)) (r .memory) (x .simulates) (plain (capacity k) op t .contents)
                 (call-held k (omega arith) t m held op (drawOf k (b .tape))))

@@ -6,16 +6,16 @@ use mathlib.Core.Logic.{_⊎_, inl, inr}
 use mathlib.Core.List.{List, []}
 use mathlib.Core.Option.{Option, none, some}
 use Rattle.list_spec.specs.Choice.{pick}
-use Rattle.method_spec.specs.Node.{Node}
+use Rattle.method_spec.specs.Node.{Node, Ahead}
 use Rattle.method_spec.specs.Prog.{Prog, done, want, Want}
 use Rattle.method_spec.specs.Answer.{Structure, Op, Answer}
-use Rattle.method_spec.specs.Rounds.{spareDraw, putDraw}
+use Rattle.method_spec.specs.Rounds.{putDraw}
 use Rattle.method_spec.specs.Map.{Outcome}
-use Rattle.method_spec.specs.Call.{capacity, program, test}
+use Rattle.method_spec.specs.Call.{capacity, program, spareTags, test}
 use Rattle.round_spec.specs.Round.{Hand, readHalf}
 use Rattle.leaf_spec.specs.Leaf.{leafFormat}
 use Rattle.bucket_call_spec.specs.Fetch.{Going, Left, Round, on, shut, closing, heldKeys, wishFor, tooMany, atClose, idleRound, tookRound, wantRound, fetchRound, fetchRounds}
-use Rattle.bucket_call_spec.specs.Call.{Store, putRounds, afterPuts, afterFetches, stepped, bucketCall}
+use Rattle.bucket_call_spec.specs.Call.{Store, putRounds, afterPuts, afterFetches, stepped, aheadThen, bucketCall}
 
 -- A mark that closes a store: damage or overflow.
 abbrev pub Closing : ℕ → Type 0
@@ -100,21 +100,21 @@ pub data Ends (l : Left) : Type 0 where
   closes : Closing (l .mark) → l .answer ≡ none → Ends l
   answers : (a : Answer) → l .mark ≡ 0 → l .answer ≡ some a → Ends l
 
-puts-end : (o : Outcome ℕ) (r : Round (Outcome ℕ)) → Marked r → Ends (afterPuts o r)
+puts-end : (a : Ahead ℕ) (o : Outcome ℕ) (r : Round (Outcome ℕ)) → Marked r → Ends (afterPuts a o r)
 unfolding afterPuts closing
-puts-end o (on g p) marked = answers (o .answer) refl refl
-puts-end o (shut m g) marked = closes marked refl
+puts-end a o (on g p) marked = answers (o .answer) refl refl
+puts-end a o (shut m g) marked = closes marked refl
 
-fetches-end : (s : Structure) (k F : ℕ) (draw : ℕ → ℕ) (st : Store) (r : Round (Outcome ℕ)) → Marked r → Ends (afterFetches s k F draw st r)
+fetches-end : (s : Structure) (k F : ℕ) (draw : ℕ → ℕ) (st : Store) (a : Ahead ℕ) (r : Round (Outcome ℕ)) → Marked r → Ends (afterFetches s k F draw st a r)
 unfolding afterFetches closing
-fetches-end s k F draw st (shut m g) marked = closes marked refl
-fetches-end s k F draw st (on g (want w c)) marked = closes (inl refl) refl
-fetches-end s k F draw st (on g (done o)) marked =
-    puts-end o (putRounds k draw F (putDraw s F 0) o (stepped o g)) (puts-marked k draw F (putDraw s F 0) o (stepped o g))
+fetches-end s k F draw st a (shut m g) marked = closes marked refl
+fetches-end s k F draw st a (on g (want w c)) marked = closes (inl refl) refl
+fetches-end s k F draw st a (on g (done o)) marked =
+    puts-end a o (putRounds k draw F (putDraw s F 0) o (stepped o g)) (puts-marked k draw F (putDraw s F 0) o (stepped o g))
 
 pub call-ends : {s : Structure} (k F : ℕ) (op : Op s) (draw : ℕ → ℕ) (st : Store) → Ends (bucketCall k F op draw st)
 unfolding bucketCall
 call-ends {s} k F op draw st =
-    fetches-end s k F draw st _
-    (fetches-marked s (st .entries) k draw F 0 (program 0 op (λ i. draw (spareDraw F i)) (capacity k) (st .entries) (st .root))
+    fetches-end s k F draw st (aheadThen k F op draw st) _
+    (fetches-marked s (st .entries) k draw F 0 (program 0 op (spareTags F draw) (capacity k) (st .entries) (st .ahead) (st .root))
     (record { tree = st .tree; waiting = st .waiting; held = []; leaves = [] }))

@@ -1,8 +1,8 @@
 -- Demand 1's nodes: a call that closes the store loses none.
 use Prim.Native.Nat.{ℕ, _^_, _≤_, _<_}
 use mathlib.Core.Path.{_≡_, refl, sym, _∙_, ap, subst⁻¹}
-use mathlib.Core.Bool.{true}
-use mathlib.Core.Logic.{inl, inr}
+use mathlib.Core.Bool.{true, false}
+use mathlib.Core.Logic.{_⊎_, inl, inr}
 use mathlib.Core.List.{List, _++_, map}
 use mathlib.Core.Option.{some}
 use native.Mathlib.Nat.{mod-lt}
@@ -23,13 +23,13 @@ use Rattle.none_lost_laws.specs.Ends.{entriesLeft, Keeps}
 use Rattle.none_lost_laws.specs.Lost.{never-left-wanting, fetch-closing, put-closing}
 use Rattle.state_spec.specs.declared.State.{State}
 use Rattle.state_spec.specs.Fit.{fits}
-use Rattle.state_spec.specs.Ticket.{opIn, structureOf}
+use Rattle.state_spec.specs.Ticket.{opIn, structureOf, outOfKeys}
 use Rattle.call_spec.specs.declared.Reply.the-variants.{Refused}
 use Rattle.call_spec.specs.Store.{Ended, called, refusing, ending, stateLeft, storeOf}
 use Rattle.state_spec.specs.Widths.{Widths}
 use Rattle.fitness_laws.specs.FitState.{fit-state}
 use Rattle.fitness_laws.specs.FitStores.{fit-store}
-use Rattle.fitness_laws.specs.Tickets.{op-fits}
+use Rattle.fitness_laws.specs.Tickets.{op-fits, key-left}
 use Rattle.leaf_spec.specs.Entries.{pairOf}
 use Rattle.demand_spec.specs.History.{pairsIn}
 use Rattle.demand_laws.specs.Marks.{Closing}
@@ -51,34 +51,39 @@ module _ (s : State) (tree ticket tape trace : List ℕ) where
   record InRounds (op : Op structure) : Type 0 where
     fit : fits s ≡ true
     sized : length tree ≡ treeLength (s .size)
+    keyed : outOfKeys op (s .ahead .key) ≡ false
     ends : called s tree ticket tape trace ≡ ending s trace (leftBy structure s tree ticket tape trace op)
 
-  -- It is none of the refusals 1 to 7.
-  not-early : {m n : ℕ} → m ≤ 7 → Closing n → called s tree ticket tape trace ≡ refusing m s tree trace
+  -- It is none of the refusals 1 to 7 and 17.
+  not-early : {m n : ℕ} → (m ≤ 7) ⊎ (m ≡ 17) → Closing n → called s tree ticket tape trace ≡ refusing m s tree trace
       → called s tree ticket tape trace .reply ≡ Refused n → ⊥
-  not-early {m} {n} early c e r = go c
+  not-early {m} {n} early c e r = go early c
     where
       same : m ≡ n
       same = same-number (ap (λ (x : Ended). x .reply) (sym e) ∙ r)
 
-      go : Closing n → ⊥
-      go (inl x) = omega (arith, same)
-      go (inr x) = omega (arith, same)
+      go : (m ≤ 7) ⊎ (m ≡ 17) → Closing n → ⊥
+      go (inl h) (inl x) = omega (arith, same)
+      go (inl h) (inr x) = omega (arith, same)
+      go (inr h) (inl x) = omega (arith, same)
+      go (inr h) (inr x) = omega (arith, same)
 
   closing-rounds : (n : ℕ) → called s tree ticket tape trace .reply ≡ Refused n → Closing n
       → (op : Op structure) → opIn structure ticket ≡ some op → InRounds op
   closing-rounds n r c op asked = go (verdict structure s tree ticket tape trace refl)
     where
       go : Verdict structure s tree ticket tape trace (called s tree ticket tape trace) → InRounds op
-      go (closed h e) = absurd (not-early (omega arith) c e r)
-      go (unfit h e) = absurd (not-early (omega arith) c e r)
-      go (other-tree h e) = absurd (not-early (omega arith) c e r)
-      go (ill-brought m low high e) = absurd (not-early high c e r)
-      go (counts fit sized other h e) =
+      go (closed h e) = absurd (not-early (inl (omega arith)) c e r)
+      go (unfit h e) = absurd (not-early (inl (omega arith)) c e r)
+      go (other-tree h e) = absurd (not-early (inl (omega arith)) c e r)
+      go (ill-brought m (inl h) e) = absurd (not-early (inl (h .1)) c e r)
+      go (ill-brought m (inr h) e) = absurd (not-early (inr h) c e r)
+      go (counts fit sized other h keyed e) =
           let same : other ≡ op = cc in
           record {
             fit = fit;
             sized = sized;
+            keyed = ap (λ (x : Op structure). outOfKeys x (s .ahead .key)) (sym same) ∙ keyed;
             ends = e ∙ ap (λ (x : Op structure). ending s trace (leftBy structure s tree ticket tape trace x)) same;
           }
 
@@ -99,11 +104,12 @@ module _ (s : State) (tree ticket tape trace : List ℕ) where
       let size = fit-state s (rs .fit) .size in
       let store = fit-store s tree (rs .fit) (rs .sized) tree-bytes widths in
       let asks = op-fits structure ticket ticket-bytes op asked in
+      let left = key-left op (s .ahead .key) (widths .ahead .0) (rs .keyed) in
       let leaves : (d : ℕ) → drawOf (s .size) tape d < 2 ^ s .size = λ d. mod-lt _ (pow-pos (s .size)) in
       record {
-        comes-to = never-left-wanting (s .size) (size .0) (omega arith) op asks (drawOf (s .size) tape) leaves (storeOf s tree) store;
+        comes-to = never-left-wanting (s .size) (size .0) (omega arith) op asks (drawOf (s .size) tape) leaves (storeOf s tree) store left;
         in-fetch = λ m g e.
-            left-pairs op rs (fetch-closing (s .size) (size .0) (omega arith) op asks (drawOf (s .size) tape) leaves (storeOf s tree) store m g e .2);
+            left-pairs op rs (fetch-closing (s .size) (size .0) (omega arith) op asks (drawOf (s .size) tape) leaves (storeOf s tree) store left m g e .2);
         in-put = λ g o e.
-            left-pairs op rs (put-closing (s .size) (size .0) (omega arith) op asks (drawOf (s .size) tape) leaves (storeOf s tree) store g o e .keeps);
+            left-pairs op rs (put-closing (s .size) (size .0) (omega arith) op asks (drawOf (s .size) tape) leaves (storeOf s tree) store left g o e .keeps);
       }

@@ -6,7 +6,7 @@ use mathlib.Core.List.{List, [], _∷_, _++_, map, map-id, map-map}
 use lib.ListN.{length, length-map, getD, replicate}
 use Rattle.method_spec.specs.Node.{Node}
 use Rattle.method_spec.specs.Answer.{Structure}
-use Rattle.leaf_spec.specs.Convert.{toNode, fromNode, fromLink}
+use Rattle.leaf_spec.specs.Convert.{toNode, fromNode, fromLink, fromAhead}
 use Rattle.bucket_call_spec.specs.Call.{Store}
 use Rattle.state_spec.specs.declared.Place.{Place}
 use Rattle.state_spec.specs.declared.State.{State}
@@ -22,6 +22,7 @@ stateOf st k s =
       size = k;
       entries = s .entries;
       root = fromLink (s .root);
+      ahead = fromAhead (s .ahead);
       count = length (s .waiting);
       places = placed (s .waiting);
     }
@@ -80,4 +81,4 @@ module _ (st : Structure) (k : ℕ) (s : Store) where
   -- The store of the state is the store.
   pub store-back : storeOf (stateOf st k s) (s .tree) ≡ s
   store-back =
-      ap (λ (ws : List (Node ℕ)). record { entries = s .entries; root = s .root; waiting = ws; tree = s .tree }) (placed-back (s .waiting))
+      ap (λ (ws : List (Node ℕ)). record { entries = s .entries; root = s .root; ahead = s .ahead; waiting = ws; tree = s .tree }) (placed-back (s .waiting))

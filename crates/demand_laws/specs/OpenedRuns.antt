@@ -24,7 +24,7 @@ use Rattle.bucket_call_spec.specs.Simulates.{Simulates}
 use Rattle.simulation_laws.specs.Relation.{emptyStore}
 use Rattle.simulation_laws.specs.CallSim.{simulate-start}
 use Rattle.simulation_laws.specs.BucketRun.{BucketRan}
-use Rattle.simulation_laws.specs.ListSim.{tapeRun, answers-plain, leaves-named, RunMatches, RunSimulates, tapes-simulate}
+use Rattle.simulation_laws.specs.ListSim.{tapeRun, TapeKeys, answers-plain, leaves-named, RunMatches, RunSimulates, tapes-simulate}
 use Rattle.state_spec.specs.Fit.{fits}
 use Rattle.call_spec.specs.Store.{replied, replyOf, storeOf}
 use Rattle.demand_spec.specs.History.{Brought, Kept, history, finally, counted, replies, traceOf, opsIn, tapesOf}
@@ -61,30 +61,31 @@ module _ (st : Structure) (k : ℕ) (positive : 1 ≤ k) (small : k ≤ 8) (tree
   ran = tapeRun k tapes ops
 
   -- The list is a run over buckets from the empty store.
-  pub opened-runs : Asking st k (counted start bs) × Runs st k ran (history start bs) (finally start bs)
+  pub opened-runs : Asking st k (counted start bs) × (Runs st k ran (history start bs) (finally start bs) × TapeKeys k tapes ops)
   opened-runs =
       subst⁻¹
       (λ (s : Kept). Asking st k (counted s bs)
-      × Runs st k (tapeRun k (tapesOf (counted s bs)) (opsIn st (counted s bs))) (history s bs) (finally s bs))
+      × (Runs st k (tapeRun k (tapesOf (counted s bs)) (opsIn st (counted s bs))) (history s bs) (finally s bs)
+      × TapeKeys k (tapesOf (counted s bs)) (opsIn st (counted s bs))))
       (opened-empty st k positive small tree sized)
       (let r = list-runs st k positive small bs bytes (emptyStore k) (emptyMemory 0) (simulate-start k) (nothing st) (held-empty 0 st (capacity k)) in
       (r .0, r .1 _ 1 (drawn-tapes st k (counted (keptOf st k (emptyStore k)) bs))))
 
   runs : Runs st k ran (history start bs) (finally start bs)
-  runs = opened-runs .1
+  runs = opened-runs .1 .0
 
   -- The answers are the plain machine's.
   pub answered : finally start bs .state .mark ≡ 0 → replies (history start bs) ≡ map replyOf (plainAnswers (capacity k) ops (nothing st))
   unfolding replied
   answered m =
       runs .answers
-      ∙ ap (map (replied 9)) (answers-plain k positive (omega arith) tapes ops (opened-runs .0 .fit) (sym (runs .mark) ∙ m))
+      ∙ ap (map (replied 9)) (answers-plain k positive (omega arith) tapes ops (opened-runs .0 .fit) (opened-runs .1 .1) (sym (runs .mark) ∙ m))
       ∙ map-map (replied 9) some (plainAnswers (capacity k) ops (nothing st))
 
   -- The trace is the leaves of the named draws.
   pub trace-named : finally start bs .state .mark ≡ 0 → traceOf (history start bs) ≡ map (leafOf k tapes) (names (rounds st k) k ops)
   trace-named m =
-      let n = leaves-named k positive (omega arith) tapes ops (opened-runs .0 .fit) in
+      let n = leaves-named k positive (omega arith) tapes ops (opened-runs .0 .fit) (opened-runs .1 .1) in
       let none : n .0 ≡ [] = n .2 (sym (runs .mark) ∙ m) in
       runs .leaves ∙ sym (append-nil (ran .leaves)) ∙ ap (λ (ls : List ℕ). ran .leaves ++ ls) (sym none) ∙ sym (n .1)
 
@@ -98,7 +99,7 @@ module _ (st : Structure) (k : ℕ) (positive : 1 ≤ k) (small : k ≤ 8) (tree
   -- Until it closes, the list is the method's run, and leaves the open state of that run's store.
   module _ (m : finally start bs .state .mark ≡ 0) where
     pub matches : RunMatches k ran (method st k start bs)
-    matches = go (tapes-simulate k positive (omega arith) tapes ops (opened-runs .0 .fit))
+    matches = go (tapes-simulate k positive (omega arith) tapes ops (opened-runs .0 .fit) (opened-runs .1 .1))
       where
         go : RunSimulates k ran (method st k start bs) → RunMatches k ran (method st k start bs)
         go (inl x) = absurd (not-both (sym (runs .mark) ∙ m) (x .mark))

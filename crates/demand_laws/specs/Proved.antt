@@ -47,7 +47,7 @@ module _ (st : Structure) (k : ℕ) (positive : 1 ≤ k) (small : k ≤ 8) (tree
         follows = follows st k positive small tree sized first first-bytes open-mark;
         ends = ending st k positive small tree sized bs bytes;
         never = λ i within n e.
-            sound-at (history (openedStore st k tree) bs) (opened-runs st k positive small tree sized bs bytes .1 .sound) i n e;
+            sound-at (history (openedStore st k tree) bs) (opened-runs st k positive small tree sized bs bytes .1 .0 .sound) i n e;
       }
 
 same-lists : {A : Type 0} (d : A) (xs ys : List A) → length xs ≡ length ys → ((i : ℕ) → i < length xs → getD xs i d ≡ getD ys i d) → xs ≡ ys

@@ -1,11 +1,12 @@
--- Demand 1 but for the nodes: one reply, refusals 1 to 7 that change nothing, and a store that stays closed.
+-- Demand 1 but for the nodes: one reply, refusals 1 to 7 and 17 that change nothing, and a store that stays closed.
 use Prim.Native.Nat.{ℕ, _≤_}
 use mathlib.Core.Path.{_≡_, refl, sym, _∙_, ap}
+use mathlib.Core.Bool.{true, false}
 use mathlib.Core.Logic.{_⊎_, inl, inr}
 use mathlib.Core.List.{List}
 use native.Mathlib.Omega.{arith}
 use borrow.Author.Tests.{ne-eqb}
-use Rattle.method_spec.specs.Answer.{Answer, found, absent, replaced, new, removed, pushed, popped, added, taken, empty, full}
+use Rattle.method_spec.specs.Answer.{Answer, found, absent, replaced, new, removed, pushed, popped, added, taken, queued, dequeued, empty, full}
 use Rattle.method_spec.specs.Rounds.{rounds}
 use Rattle.bucket_call_spec.specs.Fetch.{Left}
 use Rattle.bucket_call_spec.specs.Call.{drawOf}
@@ -13,9 +14,13 @@ use Rattle.state_spec.specs.declared.State.{State}
 use Rattle.state_spec.specs.Ticket.{structureOf}
 use Rattle.call_spec.specs.declared.Reply.the-variants.{Refused}
 use Rattle.call_spec.specs.Store.{Ended, called, refusing, replied, replyOf, storeOf}
+use Rattle.demand_spec.specs.History.{changesNothing}
 use Rattle.demand_laws.specs.Marks.{Ends, closes, answers, Closing, call-ends}
 use Rattle.demand_laws.specs.Checks.{Verdict, closed, unfit, other-tree, ill-brought, counts, leftBy, verdict}
 use Rattle.demand_spec.specs.Demands.{OneReply, Unchanged, StaysClosed}
+
+false-is-not-true : false ≡ true → ⊥
+false-is-not-true e = let z : _≡_ {A = ℕ} 0 1 = cc in omega arith
 
 pub same-number : {n m : ℕ} → Refused n ≡ Refused m → n ≡ m
 same-number e = cc
@@ -32,6 +37,8 @@ full-number pushed e = cc
 full-number (popped v) e = cc
 full-number added e = cc
 full-number (taken v) e = cc
+full-number queued e = cc
+full-number (dequeued v) e = cc
 full-number empty e = cc
 full-number full e = cc
 
@@ -48,25 +55,26 @@ counted-number l (answers a m e) n q = inr (full-number a (ap (replied (l .mark)
 module _ (s : State) (tree ticket tape trace : List ℕ) where
   -- What a refusal's number says of the call.
   data Says (n : ℕ) : Type 0 where
-    early : 1 ≤ n → n ≤ 7 → called s tree ticket tape trace ≡ refusing n s tree trace → Says n
+    early : ((1 ≤ n) × (n ≤ 7)) ⊎ (n ≡ 17) → called s tree ticket tape trace ≡ refusing n s tree trace → Says n
     late : Closing n → called s tree ticket tape trace .state .mark ≡ n → Says n
     tenth : n ≡ 10 → Says n
 
-  early-says : (m n : ℕ) → 1 ≤ m → m ≤ 7 → called s tree ticket tape trace ≡ refusing m s tree trace
+  early-says : (m n : ℕ) → ((1 ≤ m) × (m ≤ 7)) ⊎ (m ≡ 17) → called s tree ticket tape trace ≡ refusing m s tree trace
       → called s tree ticket tape trace .reply ≡ Refused n → Says n
-  early-says m n low high e r =
+  early-says m n h e r =
       let same : m ≡ n = same-number (ap (λ (x : Ended). x .reply) (sym e) ∙ r) in
-      early (omega arith) (omega arith) (e ∙ ap (λ (x : ℕ). refusing x s tree trace) same)
+      early (rw same at h) (e ∙ ap (λ (x : ℕ). refusing x s tree trace) same)
 
   says : (n : ℕ) → called s tree ticket tape trace .reply ≡ Refused n → Says n
   says n r = go (verdict (structureOf (s .structure)) s tree ticket tape trace refl)
     where
       go : Verdict (structureOf (s .structure)) s tree ticket tape trace (called s tree ticket tape trace) → Says n
-      go (closed h e) = early-says 1 n (omega arith) (omega arith) e r
-      go (unfit h e) = early-says 2 n (omega arith) (omega arith) e r
-      go (other-tree h e) = early-says 3 n (omega arith) (omega arith) e r
-      go (ill-brought m low high e) = early-says m n (omega arith) high e r
-      go (counts fit sized op h e) =
+      go (closed h e) = early-says 1 n (inl (omega arith, omega arith)) e r
+      go (unfit h e) = early-says 2 n (inl (omega arith, omega arith)) e r
+      go (other-tree h e) = early-says 3 n (inl (omega arith, omega arith)) e r
+      go (ill-brought m (inl h) e) = early-says m n (inl (omega arith, h .1)) e r
+      go (ill-brought m (inr h) e) = early-says m n (inr h) e r
+      go (counts fit sized op h keyed e) =
           let l : Left = leftBy (structureOf (s .structure)) s tree ticket tape trace op in
           which (counted-number l (call-ends (s .size) (rounds (structureOf (s .structure)) (s .size)) op (drawOf (s .size) tape) (storeOf s tree)) n
           (ap (λ (x : Ended). x .reply) (sym e) ∙ r))
@@ -80,20 +88,27 @@ module _ (s : State) (tree ticket tape trace : List ℕ) where
   pub one-reply : OneReply s tree ticket tape trace
   one-reply n r = go (says n r)
     where
-      go : Says n → (1 ≤ n) × (n ≤ 10)
-      go (early low high e) = omega arith
-      go (late (inl x) e) = omega arith
-      go (late (inr x) e) = omega arith
-      go (tenth x) = omega arith
+      go : Says n → ((1 ≤ n) × (n ≤ 10)) ⊎ (n ≡ 17)
+      go (early (inl h) e) = inl (h .0, omega arith)
+      go (early (inr h) e) = inr h
+      go (late (inl x) e) = inl (omega arith, omega arith)
+      go (late (inr x) e) = inl (omega arith, omega arith)
+      go (tenth x) = inl (omega arith, omega arith)
+
+  -- 8, 9 and 10 are none of those that change nothing.
+  changing : (n : ℕ) → (n ≡ 8) ⊎ ((n ≡ 9) ⊎ (n ≡ 10)) → changesNothing n ≡ true → ⊥
+  changing n (inl x) h = let f : changesNothing 8 ≡ true = rw x at h in absurd (false-is-not-true f)
+  changing n (inr (inl x)) h = let f : changesNothing 9 ≡ true = rw x at h in absurd (false-is-not-true f)
+  changing n (inr (inr x)) h = let f : changesNothing 10 ≡ true = rw x at h in absurd (false-is-not-true f)
 
   pub unchanged : Unchanged s tree ticket tape trace
   unchanged n r h = go (says n r)
     where
       go : Says n → called s tree ticket tape trace ≡ refusing n s tree trace
-      go (early low high e) = e
-      go (late (inl x) e) = let z : ⊥ = omega arith in absurd z
-      go (late (inr x) e) = let z : ⊥ = omega arith in absurd z
-      go (tenth x) = let z : ⊥ = omega arith in absurd z
+      go (early h e) = e
+      go (late (inl x) e) = absurd (changing n (inl x) h)
+      go (late (inr x) e) = absurd (changing n (inr (inl x)) h)
+      go (tenth x) = absurd (changing n (inr (inr x)) h)
 
 -- A store whose mark is not 0 refuses with 1.
 pub refused-closed : (s : State) (tree ticket tape trace : List ℕ) → (s .mark ≡ 0 → ⊥) → called s tree ticket tape trace ≡ refusing 1 s tree trace
@@ -113,8 +128,10 @@ module _ (s : State) (tree ticket tape trace : List ℕ) where
           × ((tree′ ticket′ tape′ trace′ : List ℕ)
           → called (called s tree ticket tape trace .state) tree′ ticket′ tape′ trace′
           ≡ refusing 1 (called s tree ticket tape trace .state) tree′ trace′)
-      go (early low high e) (inl x) = let z : ⊥ = omega arith in absurd z
-      go (early low high e) (inr x) = let z : ⊥ = omega arith in absurd z
+      go (early (inl h) e) (inl x) = let z : ⊥ = omega arith in absurd z
+      go (early (inl h) e) (inr x) = let z : ⊥ = omega arith in absurd z
+      go (early (inr h) e) (inl x) = let z : ⊥ = omega arith in absurd z
+      go (early (inr h) e) (inr x) = let z : ⊥ = omega arith in absurd z
       go (late y e) x = (e, λ tree′ ticket′ tape′ trace′. refused-closed (called s tree ticket tape trace .state) tree′ ticket′ tape′ trace′ (after e x))
       go (tenth y) (inl x) = let z : ⊥ = omega arith in absurd z
       go (tenth y) (inr x) = let z : ⊥ = omega arith in absurd z

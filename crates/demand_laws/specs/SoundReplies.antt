@@ -12,6 +12,7 @@ use Rattle.call_spec.specs.declared.Reply.the-variants.{Refused}
 use Rattle.call_spec.specs.Store.{Ended, refusing, ending, replied}
 use Rattle.demand_spec.specs.History.{Brought, Kept, history}
 use Rattle.demand_laws.specs.Marks.{Closing, Ends, closes, answers}
+use Rattle.demand_laws.specs.Checks.{IllBrought}
 use Rattle.demand_laws.specs.Refusals.{same-number, counted-number}
 use Rattle.demand_laws.specs.HistorySteps.{early-history, closed-call}
 
@@ -23,10 +24,11 @@ Sound e = (n : ℕ) → e .reply ≡ Refused n → Neither n
 
 -- ---- one call
 
--- Refused with 1, or with 4 to 7.
-pub early-sound : (n : ℕ) → (n ≡ 1) ⊎ (4 ≤ n) × (n ≤ 7) → (s : Kept) (b : Brought) → Sound (refusing n (s .state) (s .tree) (b .trace))
+-- Refused with 1, or for what the call brings.
+pub early-sound : (n : ℕ) → (n ≡ 1) ⊎ IllBrought n → (s : Kept) (b : Brought) → Sound (refusing n (s .state) (s .tree) (b .trace))
 early-sound n (inl h) s b m r = let e = same-number r in omega arith
-early-sound n (inr h) s b m r = let e = same-number r in omega arith
+early-sound n (inr (inl h)) s b m r = let e = same-number r in omega arith
+early-sound n (inr (inr h)) s b m r = let e = same-number r in omega arith
 
 -- The rounds left the store open, or met overflow.
 abbrev pub Undamaged : Left → Type 0
@@ -55,7 +57,7 @@ pub closed-sound : (s : Kept) → (s .state .mark ≡ 0 → ⊥) → (bs : List 
 unfolding history
 closed-sound s shut [] = all-nil Sound
 closed-sound s shut (b ∷ bs) =
-    subst (All Sound) (sym (early-history s b bs 1 (omega arith) (closed-call s shut b)))
+    subst (All Sound) (sym (early-history s b bs 1 refl (closed-call s shut b)))
     (all-cons {P = Sound} (early-sound 1 (inl refl) s b) (closed-sound s shut bs))
 
 pub sound-at : (es : List Ended) → All Sound es → (i n : ℕ) → getD (map (λ (e : Ended). e .reply) es) i (Refused 0) ≡ Refused n → Neither n

@@ -24,7 +24,7 @@ use Rattle.method_spec.specs.Call.{capacity, Memory, Called, call}
 use Rattle.method_laws.specs.Represented.{Held}
 use Rattle.bucket_call_spec.specs.Fetch.{Left, Round}
 use Rattle.bucket_call_spec.specs.Call.{Store, drawOf, fetchedBy}
-use Rattle.leaf_spec.specs.Entries.{OpFits}
+use Rattle.leaf_spec.specs.Entries.{OpFits, KeyLeft}
 use Rattle.simulation_laws.specs.Entries.{held-entries, entries-perm}
 use Rattle.simulation_laws.specs.ProperCall.{call-held}
 use Rattle.bucket_call_spec.specs.Simulates.{Simulates, Remains, as-before, as-after}
@@ -121,6 +121,7 @@ module _ (st : Structure) (k : ℕ) (s : Store) (m : Memory ℕ) (b : Brought) w
     pub op : Op st
     pub asks : opIn st (b .ticket) ≡ some op
     pub fits : OpFits op
+    pub keyed : KeyLeft op (s .ahead .key)
     pub ends : callOn here b ≡ roundsEnd (stateOf st k s) (b .trace) (l op)
     pub overflow : Overflowed k m (came op s) (l op) (r op)
 
@@ -133,16 +134,16 @@ module _ (st : Structure) (k : ℕ) (s : Store) (m : Memory ℕ) (b : Brought) w
     pub overflows : Bytes (b .ticket) → (callOn here b .state .mark ≡ 0 → ⊥) → Overflows
     overflows bytes shut = go (step st k positive small s m sim t held b bytes)
       where
-        in-rounds : (op : Op st) → opIn st (b .ticket) ≡ some op → OpFits op → callOn here b ≡ roundsEnd (stateOf st k s) (b .trace) (l op)
+        in-rounds : (op : Op st) → opIn st (b .ticket) ≡ some op → OpFits op → KeyLeft op (s .ahead .key) → callOn here b ≡ roundsEnd (stateOf st k s) (b .trace) (l op)
             → Overflowed k m (came op s) (l op) (r op) ⊎ Matches k (l op) (r op) → Overflows
-        in-rounds op asks fits e (inl x) = record { op = op; asks = asks; fits = fits; ends = e; overflow = x }
-        in-rounds op asks fits e (inr x) = absurd (shut (ap (λ (y : Ended). y .state .mark) e ∙ x .mark))
+        in-rounds op asks fits keyed e (inl x) = record { op = op; asks = asks; fits = fits; keyed = keyed; ends = e; overflow = x }
+        in-rounds op asks fits keyed e (inr x) = absurd (shut (ap (λ (y : Ended). y .state .mark) e ∙ x .mark))
 
         go : Step st k s b → Overflows
-        go (refused n low high e) = absurd (shut (ap (λ (y : Ended). y .state .mark) e))
-        go (runs op asks fits e) =
-            in-rounds op asks fits e
-            (simulate k positive (omega arith) t m held s sim op fits (drawOf k (b .tape)) (λ d. mod-lt _ (pow-pos k)))
+        go (refused n ill e) = absurd (shut (ap (λ (y : Ended). y .state .mark) e))
+        go (runs op asks fits keyed e) =
+            in-rounds op asks fits keyed e
+            (simulate k positive (omega arith) t m held s sim op fits (rw (← sim .ahead) keyed) (drawOf k (b .tape)) (λ d. mod-lt _ (pow-pos k)))
 
     -- It closed the store as demand 2 says.
     overflow-closes : Overflows → ClosedBy st k here m t b

@@ -134,11 +134,11 @@ module _ (k : ℕ) where
   held-links small heap t m (h, idle) known fit =
       let there = all-perm {P = Fits k} (h .stored) fit in
       (rw (h .linked) (heap-link 1 (h .tree) there), all-perm {P = FitLinks} (perm-sym (h .stored)) (heap-links 1 (h .tree) there))
-
   held-links small queue t m h known fit =
-      let there = all-perm {P = Fits k} (h .there) fit in
-      (rw (h .rooted) (row-link (h .first) (h .cells) (m .ahead .tag) there),
-        all-perm {P = FitLinks} (perm-sym (h .there)) (row-links (h .first) (h .cells) (m .ahead) known (h .in-row) there))
+      let there = all-perm {P = Fits k} (h .there) fit in (
+        rw (h .rooted) (row-link (h .first) (h .cells) (m .ahead .tag) there),
+        all-perm {P = FitLinks} (perm-sym (h .there)) (row-links (h .first) (h .cells) (m .ahead) known (h .in-row) there),
+      )
 
   module _ (small : k ≤ 16) (s : Structure) (t : Contents s) (m : Memory ℕ) (held : Held 0 s (capacity k) t m) (known : AheadFits k (m .ahead))
       (fit : All (Fits k) (m .nodes)) where

@@ -46,7 +46,7 @@ pub plain-ascends : (k : ℕ) (ops : List (Op the-map)) (op : Op the-map)
     × Ascending none none (plain (capacity k) op (plainContents (capacity k) ops (nothing the-map)) .contents)
 plain-ascends k ops op =
     let h = held {T = ℕ} 0 k (λ c d. 0) ops in
-    (holds-ascending h, holds-ascending (represents-call (represents {T = ℕ} 0 the-map k) _ op (λ d. 0) _ h .holds .contents))
+    (holds-ascending (h .0), holds-ascending (represents-call (represents {T = ℕ} 0 the-map k) _ op (λ d. 0) _ h .holds .contents .0))
 
 -- ---- what is read out
 

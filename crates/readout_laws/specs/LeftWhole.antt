@@ -80,8 +80,9 @@ module _ (st : Structure) (k : ℕ) (positive : 1 ≤ k) (small : k ≤ 8) (s : 
         is-tree = sim .kept .is-tree;
         proper = sim .kept .proper;
         few = sim .few;
-        root = rw (sim .root) (held-root k (omega arith) st t m held (simulates-fits sim));
+        root = rw (sim .root) (held-root k (omega arith) st t m held (rw (← sim .ahead) (sim .known)) (simulates-fits sim));
         low = subst (λ (x : Structure). s .root .height ≤ highest x k) (structure-back st) (f .low);
+        ahead-tag = sim .known .tag;
         entries = f .entries;
         rooted = subst (λ (x : Structure). RootFor x (s .entries) (s .root)) (structure-back st) (f .rooted);
       }
@@ -94,7 +95,7 @@ module _ (st : Structure) (k : ℕ) (positive : 1 ≤ k) (small : k ≤ 8) (s : 
     -- The waiting nodes left are proper and have places, and the tree is a tree.
     left-kept : (now : List Pair) × Keeps k now l
     left-kept =
-        ends-kept (call-ends k positive (omega arith) (x .op) (x .fits) (drawOf k (b .tape)) (λ d. mod-lt _ (pow-pos k)) s start-fit)
+        ends-kept (call-ends k positive (omega arith) (x .op) (x .fits) (drawOf k (b .tape)) (λ d. mod-lt _ (pow-pos k)) s start-fit (x .keyed))
 
     -- No key is twice among the pairs left, since none is in the method's memory before the call or after it.
     remains-distinct : {ps : List Pair} {y : Round (Outcome ℕ)}

@@ -16,7 +16,8 @@ use Rattle.method_spec.specs.Prog.{bind}
 use Rattle.method_spec.specs.Answer.{stack, Op, push, pop}
 use Rattle.method_spec.specs.Map.{walk, single, double, turn, raise, climb, unwind, unwound, getStep, getProg, putStep, putProg, lowest, takeOut, removeStep, removeProg, between, mapTest}
 use Rattle.method_spec.specs.Stack.{pushProg, popProg, stackTest}
-use Rattle.method_spec.specs.Call.{program, test, run, call, emptyMemory, takeKey, fetches, drawsFrom, stepped, answered}
+use Rattle.method_spec.specs.Queue.{enqueueProg, enqueueAhead, dequeueProg, dequeueAhead, queueTest}
+use Rattle.method_spec.specs.Call.{program, aheadAfter, test, run, call, emptyMemory, takeKey, fetches, drawsFrom, stepped, answered}
 use Rattle.method_spec.specs.Origin as origin
 use Rattle.method_spec.specs.Origin.{Origin, drawn, origins, names}
 use Rattle.method_spec.specs.Rounds.{rounds, spare}
@@ -28,7 +29,7 @@ use Rattle.slot_spec.specs.declared.Reading.the-variants.{Full}
 use Rattle.state_spec.specs.declared.State.{State}
 use Rattle.call_spec.specs.declared.Reply.the-variants.{Answered, Refused}
 use Rattle.list_spec.specs.Ascending.{ascendingFrom, ascending}
-use Rattle.state_spec.specs.Fit.{allOf, rootGood, fits, placesFrom}
+use Rattle.state_spec.specs.Fit.{allOf, rootGood, aheadGood, fits, placesFrom}
 use Rattle.state_spec.specs.Ticket.{opIn}
 use Rattle.state_spec.specs.Opening.{opened}
 use Rattle.call_spec.specs.Store.{Ended, called, callWith, replied, replyOf}
@@ -49,13 +50,13 @@ callOn room s tree c = called s tree (ticketOf c) (c .tape) (replicate room 0)
 
 -- The calls of a list in order, each on what the last one left: the last one's outcome.
 unfoldable pub lastOf : ℕ → State → List ℕ → Ticketed → List Ticketed → Ended
-unfolding opened called callWith replied replyOf fits allOf ascendingFrom ascending rootGood placesFrom opIn rounds spare greatest tallest shaped least bucketCall afterFetches afterPuts putRounds fetchRounds fetchRound wantRound tookRound idleRound atClose closing movedLink movedNode withBucket noneTwice allGood readBucket readBuckets insert join takeFirst tagged granted joined grantedFrom readHalf choose evict halvings among filled encode fieldsOf pack bytes readSlot bad fieldsIn nodeOf fields value allZero wellFormed readLeaf program test walk single double turn raise climb unwind unwound getStep getProg putStep putProg lowest takeOut removeStep removeProg between mapTest pushProg popProg stackTest bind
+unfolding opened called callWith replied replyOf fits allOf ascendingFrom ascending rootGood aheadGood placesFrom opIn rounds spare greatest tallest shaped least bucketCall afterFetches afterPuts putRounds fetchRounds fetchRound wantRound tookRound idleRound atClose closing movedLink movedNode withBucket noneTwice allGood readBucket readBuckets insert join takeFirst tagged granted joined grantedFrom readHalf choose evict halvings among filled encode fieldsOf pack bytes readSlot bad fieldsIn nodeOf fields value allZero wellFormed readLeaf program aheadAfter test walk single double turn raise climb unwind unwound getStep getProg putStep putProg lowest takeOut removeStep removeProg between mapTest pushProg popProg stackTest enqueueProg enqueueAhead dequeueProg dequeueAhead queueTest bind
 lastOf room s tree c [] = callOn room s tree c
 lastOf room s tree c (d ∷ cs) =
     lastOf room (callOn room s tree c .state) (callOn room s tree c .tree) d cs
 
 -- From a good opening of a tree that held other bytes.
-abbrev from : (structure size room : ℕ) → Ticketed → List Ticketed → Ended
+abbrev pub from : (structure size room : ℕ) → Ticketed → List Ticketed → Ended
 from structure size room c cs =
     lastOf room (opened structure size (replicate (treeLength size) 7) .state)
     (opened structure size (replicate (treeLength size) 7) .tree) c cs

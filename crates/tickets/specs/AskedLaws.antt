@@ -6,11 +6,11 @@ use mathlib.Core.Option.{none, some}
 use mathlib.Core.Logic.{_⊎_, ⊎-elim, inl, inr}
 use borrow.Author.Tests.{eq-eqb, ne-eqb, eqb-true, eqb-false}
 use Rattle.list_spec.specs.Choice.{pick}
-use Rattle.method_spec.specs.Answer.{Structure, map as the-map, stack as the-stack, heap as the-heap, get, put, remove, push, pop, add, take as take-smallest}
+use Rattle.method_spec.specs.Answer.{Structure, map as the-map, stack as the-stack, heap as the-heap, queue as the-queue, get, put, remove, push, pop, add, take as take-smallest, enqueue, dequeue}
 use Rattle.state_spec.specs.Ticket.{kindIn, keyIn, valueIn, opIn, structureOf}
-use Rattle.operation_spec.specs.declared.Op.the-variants.{Get, Put, Remove, Push, Pop, Add, Take}
+use Rattle.operation_spec.specs.declared.Op.the-variants.{Get, Put, Remove, Push, Pop, Add, Take, Enqueue, Dequeue}
 use Rattle.tickets.specs.declared.Asked.the-variants.{Call, Unknown}
-use Rattle.tickets.specs.Asked.{asked, fromOp, fromAsked, mapOp, stackOp, heapOp}
+use Rattle.tickets.specs.Asked.{asked, fromOp, fromAsked, mapOp, stackOp, heapOp, queueOp}
 use Prim.Native.Nat.{ℕ, suc, _+_, _-_, _*_, _≤_, _<_, _^_}
 use native.Mathlib.Nat.{pow-suc, pow-le-pow-right}
 use native.Mathlib.Omega.{arith}
@@ -59,47 +59,23 @@ word-fits n v h p =
     let q : 256 ^ n ≤ 256 ^ 8 = pow-le-pow-right {n = 256} (omega arith) h in
     omega arith
 
--- ---- structures by their numbers
-module _ (structure : ℕ) where
-  by-number : (st : Structure) → structureOf structure ≡ st → (a b : Bool) → eqb structure 1 ≡ a → eqb structure 2 ≡ b
-      → st ≡ pick a the-map (pick b the-stack the-heap)
-  by-number st e a b x y = rw (x, y) at (sym e)
-
-  is-map : structureOf structure ≡ the-map → structure ≡ 1
-  is-map e = go (eqb structure 1) (eqb structure 2) refl refl
-    where
-      go : (a b : Bool) → eqb structure 1 ≡ a → eqb structure 2 ≡ b → structure ≡ 1
-      go true b x y = eqb-true structure 1 x
-      go false true x y = let w = by-number the-map e false true x y in let z : _≡_ {A = ℕ} 0 1 = cc in absurd (omega arith)
-      go false false x y = let w = by-number the-map e false false x y in let z : _≡_ {A = ℕ} 0 1 = cc in absurd (omega arith)
-
-  is-stack : structureOf structure ≡ the-stack → structure ≡ 2
-  is-stack e = go (eqb structure 1) (eqb structure 2) refl refl
-    where
-      go : (a b : Bool) → eqb structure 1 ≡ a → eqb structure 2 ≡ b → structure ≡ 2
-      go true b x y = let w = by-number the-stack e true b x y in let z : _≡_ {A = ℕ} 0 1 = cc in absurd (omega arith)
-      go false true x y = eqb-true structure 2 y
-      go false false x y = let w = by-number the-stack e false false x y in let z : _≡_ {A = ℕ} 0 1 = cc in absurd (omega arith)
-
-  is-heap : structureOf structure ≡ the-heap → (structure ≡ 1 → ⊥) × (structure ≡ 2 → ⊥)
-  is-heap e = go (eqb structure 1) (eqb structure 2) refl refl
-    where
-      go : (a b : Bool) → eqb structure 1 ≡ a → eqb structure 2 ≡ b → (structure ≡ 1 → ⊥) × (structure ≡ 2 → ⊥)
-      go true b x y = let w = by-number the-heap e true b x y in let z : _≡_ {A = ℕ} 0 1 = cc in absurd (omega arith)
-      go false true x y = let w = by-number the-heap e false true x y in let z : _≡_ {A = ℕ} 0 1 = cc in absurd (omega arith)
-      go false false x y = (eqb-false structure 1 x, eqb-false structure 2 y)
-
 -- ---- kinds
 -- The kinds of a structure are those from the first to the last.
 abbrev firstKind : Structure → ℕ
 firstKind the-map = 1
 firstKind the-stack = 4
 firstKind the-heap = 6
+firstKind the-queue = 8
 
 abbrev lastKind : Structure → ℕ
 lastKind the-map = 3
 lastKind the-stack = 5
 lastKind the-heap = 7
+lastKind the-queue = 9
+
+-- A number that is none of those from one to another.
+outside : {x a b : ℕ} → (x < a) ⊎ (b < x) → (k : ℕ) → a ≤ k → k ≤ b → eqb x k ≡ false
+outside {x} h k low high = ne-eqb x k (λ q. ⊎-elim (λ l. omega arith) (λ l. omega arith) h)
 
 module _ (t : List ℕ) where
   -- Each structure's kinds on that structure.
@@ -127,10 +103,9 @@ module _ (t : List ℕ) where
       go true x = refl
       go false x = let n = eqb-false (kindIn t) 4 x in rw (eq-eqb (kindIn t) 5 (omega arith))
 
-  pub heap-kinds : (structure : ℕ) → (structure ≡ 1 → ⊥) → (structure ≡ 2 → ⊥) → 6 ≤ kindIn t → kindIn t ≤ 7
-      → asked structure t ≡ Call (heapOp (kindIn t) (valueIn t))
+  pub heap-kinds : (structure : ℕ) → structure ≡ 3 → 6 ≤ kindIn t → kindIn t ≤ 7 → asked structure t ≡ Call (heapOp (kindIn t) (valueIn t))
   unfolding opIn fromAsked fromOp heapOp
-  heap-kinds structure e f l h = rw (ne-eqb structure 1 e, ne-eqb structure 2 f) (go (eqb (kindIn t) 6) refl)
+  heap-kinds structure e l h = rw e (go (eqb (kindIn t) 6) refl)
     where
       go : (a : Bool) → eqb (kindIn t) 6 ≡ a
           → fromAsked {s = the-heap} (pick a (some (add (valueIn t))) (pick (eqb (kindIn t) 7) (some take-smallest) none))
@@ -138,57 +113,67 @@ module _ (t : List ℕ) where
       go true x = refl
       go false x = let n = eqb-false (kindIn t) 6 x in rw (eq-eqb (kindIn t) 7 (omega arith))
 
+  pub queue-kinds : (structure : ℕ) → (structure < 1) ⊎ (3 < structure) → 8 ≤ kindIn t → kindIn t ≤ 9
+      → asked structure t ≡ Call (queueOp (kindIn t) (valueIn t))
+  unfolding opIn fromAsked fromOp queueOp
+  queue-kinds structure e l h =
+      rw (outside e 1 (omega arith) (omega arith), outside e 2 (omega arith) (omega arith), outside e 3 (omega arith) (omega arith)) (go (eqb (kindIn t) 8) refl)
+    where
+      go : (a : Bool) → eqb (kindIn t) 8 ≡ a
+          → fromAsked {s = the-queue} (pick a (some (enqueue (valueIn t))) (pick (eqb (kindIn t) 9) (some dequeue) none))
+          ≡ Call (pick a (Enqueue (valueIn t)) Dequeue)
+      go true x = refl
+      go false x = let n = eqb-false (kindIn t) 8 x in rw (eq-eqb (kindIn t) 9 (omega arith))
+
   -- ---- another kind than the structure's
   abbrev Foreign : Structure → Type 0
   Foreign st = (kindIn t < firstKind st) ⊎ (lastKind st < kindIn t)
-
-  -- It is none of the kinds from the first to the last.
-  outside : {a b : ℕ} → (kindIn t < a) ⊎ (b < kindIn t) → (k : ℕ) → a ≤ k → k ≤ b → eqb (kindIn t) k ≡ false
-  outside h k low high = ne-eqb (kindIn t) k (λ q. ⊎-elim (λ l. omega arith) (λ l. omega arith) h)
 
   none-asked : (st : Structure) → Foreign st → opIn st t ≡ none
   unfolding opIn
   none-asked the-map h = rw (outside h 1 (omega arith) (omega arith), outside h 2 (omega arith) (omega arith), outside h 3 (omega arith) (omega arith))
   none-asked the-stack h = rw (outside h 4 (omega arith) (omega arith), outside h 5 (omega arith) (omega arith))
   none-asked the-heap h = rw (outside h 6 (omega arith) (omega arith), outside h 7 (omega arith) (omega arith))
+  none-asked the-queue h = rw (outside h 8 (omega arith) (omega arith), outside h 9 (omega arith) (omega arith))
 
-  unknown : (structure : ℕ) → ((st : Structure) → structureOf structure ≡ st → Foreign st) → asked structure t ≡ Unknown
+  -- The kinds of the structure that the number says are others.
+  unknown : (structure : ℕ) → (structure ≡ 1 → Foreign the-map) → (structure ≡ 2 → Foreign the-stack) → (structure ≡ 3 → Foreign the-heap)
+      → ((structure ≡ 1 → ⊥) → (structure ≡ 2 → ⊥) → (structure ≡ 3 → ⊥) → Foreign the-queue) → asked structure t ≡ Unknown
   unfolding fromAsked
-  unknown structure h = ap fromAsked (none-asked (structureOf structure) (h (structureOf structure) refl))
-
-  -- A map's kind, of another structure; a stack's; a heap's.
-  pub no-map : (structure : ℕ) → (structure ≡ 1 → ⊥) → kindIn t ≤ 3 → asked structure t ≡ Unknown
-  no-map structure other high = unknown structure (λ st e. go st e)
+  unknown structure m s p q = go (eqb structure 1) (eqb structure 2) (eqb structure 3) refl refl refl
     where
-      go : (st : Structure) → structureOf structure ≡ st → Foreign st
-      go the-map e = absurd (other (is-map structure e))
-      go the-stack e = inl (omega arith)
-      go the-heap e = inl (omega arith)
+      of : (st : Structure) → structureOf structure ≡ st → Foreign st → asked structure t ≡ Unknown
+      of st e f = ap (λ (x : Structure). fromAsked (opIn x t)) e ∙ ap fromAsked (none-asked st f)
+
+      go : (a b d : Bool) → eqb structure 1 ≡ a → eqb structure 2 ≡ b → eqb structure 3 ≡ d → asked structure t ≡ Unknown
+      go true b d x y z = of the-map (rw x) (m (eqb-true structure 1 x))
+      go false true d x y z = of the-stack (rw (x, y)) (s (eqb-true structure 2 y))
+      go false false true x y z = of the-heap (rw (x, y, z)) (p (eqb-true structure 3 z))
+      go false false false x y z = of the-queue (rw (x, y, z)) (q (eqb-false structure 1 x) (eqb-false structure 2 y) (eqb-false structure 3 z))
+
+  -- A map's kind, of another structure; a stack's; a heap's; a queue's.
+  pub no-map : (structure : ℕ) → (structure ≡ 1 → ⊥) → kindIn t ≤ 3 → asked structure t ≡ Unknown
+  no-map structure other high = unknown structure (λ e. absurd (other e)) (λ e. inl (omega arith)) (λ e. inl (omega arith)) (λ a b d. inl (omega arith))
 
   pub no-stack : (structure : ℕ) → (structure ≡ 2 → ⊥) → 4 ≤ kindIn t → kindIn t ≤ 5 → asked structure t ≡ Unknown
-  no-stack structure other low high = unknown structure (λ st e. go st e)
-    where
-      go : (st : Structure) → structureOf structure ≡ st → Foreign st
-      go the-map e = inr (omega arith)
-      go the-stack e = absurd (other (is-stack structure e))
-      go the-heap e = inl (omega arith)
+  no-stack structure other low high = unknown structure (λ e. inr (omega arith)) (λ e. absurd (other e)) (λ e. inl (omega arith)) (λ a b d. inl (omega arith))
 
-  pub no-heap : (structure : ℕ) → (structure ≡ 1) ⊎ (structure ≡ 2) → 6 ≤ kindIn t → asked structure t ≡ Unknown
-  no-heap structure other low = unknown structure (λ st e. go st e)
-    where
-      go : (st : Structure) → structureOf structure ≡ st → Foreign st
-      go the-map e = inr (omega arith)
-      go the-stack e = inr (omega arith)
-      go the-heap e = absurd (⊎-elim (λ (m : structure ≡ 1). is-heap structure e .0 m) (λ (s : structure ≡ 2). is-heap structure e .1 s) other)
+  pub no-heap : (structure : ℕ) → (structure ≡ 3 → ⊥) → 6 ≤ kindIn t → kindIn t ≤ 7 → asked structure t ≡ Unknown
+  no-heap structure other low high = unknown structure (λ e. inr (omega arith)) (λ e. inr (omega arith)) (λ e. absurd (other e)) (λ a b d. inl (omega arith))
+
+  pub no-queue : (structure : ℕ) → 1 ≤ structure → structure ≤ 3 → 8 ≤ kindIn t → asked structure t ≡ Unknown
+  no-queue structure least most low =
+      unknown structure (λ e. inr (omega arith)) (λ e. inr (omega arith)) (λ e. inr (omega arith)) (λ a b d. absurd (omega arith))
 
   -- A kind of none.
-  pub no-kind : (structure : ℕ) → (kindIn t < 1) ⊎ (7 < kindIn t) → asked structure t ≡ Unknown
-  no-kind structure h = unknown structure (λ st e. go st)
+  pub no-kind : (structure : ℕ) → (kindIn t < 1) ⊎ (9 < kindIn t) → asked structure t ≡ Unknown
+  no-kind structure h = unknown structure (λ e. go the-map) (λ e. go the-stack) (λ e. go the-heap) (λ a b d. go the-queue)
     where
       go : (st : Structure) → Foreign st
       go the-map = ⊎-elim (λ l. inl l) (λ l. inr (omega arith)) h
       go the-stack = ⊎-elim (λ l. inl (omega arith)) (λ l. inr (omega arith)) h
-      go the-heap = ⊎-elim (λ l. inl (omega arith)) (λ l. inr l) h
+      go the-heap = ⊎-elim (λ l. inl (omega arith)) (λ l. inr (omega arith)) h
+      go the-queue = ⊎-elim (λ l. inl (omega arith)) (λ l. inr l) h
 
 -- The kind is the first byte.
 pub first-byte : (t : List ℕ) → 0 < length t → getD t 0 0 ≡ kindIn t

@@ -5,11 +5,15 @@ ghost use Prim.Native.Nat.{_+_, _≤_, _^_, _<_};
 ghost use lib.Dec.{eqb};
 ghost use lib.ListN.{length, take, drop};
 ghost use Rattle.slot_spec.specs.LittleEndian.{value};
-ghost use Rattle.state_spec.specs.Ticket.{ticketLength};
-ghost use Rattle.tickets.specs.Asked.{asked, mapOp, stackOp, heapOp};
+ghost use Rattle.state_spec.specs.Ticket.{ticketLength, outOfKeys};
+ghost use Rattle.operation_spec.specs.Method.{toOp};
+ghost use Rattle.tickets.specs.Asked.{asked, mapOp, stackOp, heapOp, queueOp};
 
 // A ticket's length in bytes: kind, key (4), value (8).
 pub const TICKET_LENGTH: usize = 13;
+
+// The next unused key of a queue that has used all its keys.
+const LAST_KEY: u32 = 4294967295;
 
 // What a ticket asks, or that its kind is not one of the structure's.
 pub enum Asked {
@@ -77,7 +81,17 @@ fn heap_op(kind: u8, value: u64) -> Op
     Op::Take
 }
 
-// What a ticket of 13 bytes asks of a map (1), a stack (2) or a heap.
+// Kinds 8 in, 9 out of a queue.
+fn queue_op(kind: u8, value: u64) -> Op
+    ensures { λ r. ⌜ r ≡ queueOp kind value ⌝ }
+{
+    if kind == 8 {
+        return Op::Enqueue(value);
+    }
+    Op::Dequeue
+}
+
+// What a ticket of 13 bytes asks of a map (1), a stack (2), a heap (3) or a queue.
 pub fn read_ticket(structure: u8, ticket: &[u8]) -> Asked
     requires { ⌜ length (now ticket) ≡ 13 ⌝ }
     ensures { λ r. ⌜ r ≡ asked structure (now (ticket .entry)) ⌝ }
@@ -99,14 +113,32 @@ pub fn read_ticket(structure: u8, ticket: &[u8]) -> Asked
             Asked::Unknown
         }
         6..=7 => {
-            if structure == 1 {
-                return Asked::Unknown;
+            if structure == 3 {
+                return Asked::Call(heap_op(kind, value));
             }
-            if structure == 2 {
-                return Asked::Unknown;
-            }
-            Asked::Call(heap_op(kind, value))
+            Asked::Unknown
         }
+        8..=9 => match structure {
+            1..=3 => Asked::Unknown,
+            _ => Asked::Call(queue_op(kind, value)),
+        },
         _ => Asked::Unknown,
+    }
+}
+
+// Whether there is no key for a node that comes in, where the next unused key is that.
+pub fn out_of_keys(op: Op, next: u32) -> bool
+    ensures { λ r. ⌜ r ≡ outOfKeys (toOp op) next ⌝ }
+{
+    match op {
+        Op::Get(_) => false,
+        Op::Put(_, _) => false,
+        Op::Remove(_) => false,
+        Op::Push(_) => false,
+        Op::Pop => false,
+        Op::Add(_) => false,
+        Op::Take => false,
+        Op::Enqueue(_) => next == LAST_KEY,
+        Op::Dequeue => false,
     }
 }

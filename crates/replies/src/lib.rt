@@ -21,6 +21,8 @@ fn reply_of(answer: Answer) -> Reply
         Answer::Popped(v) => Reply::Answered(Answer::Popped(v)),
         Answer::Added => Reply::Answered(Answer::Added),
         Answer::Taken(v) => Reply::Answered(Answer::Taken(v)),
+        Answer::Queued => Reply::Answered(Answer::Queued),
+        Answer::Dequeued(v) => Reply::Answered(Answer::Dequeued(v)),
         Answer::Empty => Reply::Answered(Answer::Empty),
     }
 }

@@ -40,6 +40,12 @@ enum-known-answer-5 c = search needs
 enum-told-6 : tie.Need-enum-told-6
 enum-told-6 c = search needs
 
+enum-known-answer-6 : tie.Need-enum-known-answer-6
+enum-known-answer-6 c = search needs
+
+enum-told-7 : tie.Need-enum-told-7
+enum-told-7 c = search needs
+
 returns : tie.Need-returns
 unfolding replyOf
 returns c = sym (ap (λ (a : Answer). replyOf (toAnswer a)) (c .enum-told .given .1))
@@ -84,6 +90,14 @@ returns-11 : tie.Need-returns-11
 unfolding replyOf
 returns-11 c = sym (ap (λ (a : Answer). replyOf (toAnswer a)) (c .enum-told6 .given .1))
 
+returns-12 : tie.Need-returns-12
+unfolding replyOf
+returns-12 c = sym (ap (λ (a : Answer). replyOf (toAnswer a)) (c .before .answer6 .given .1))
+
+returns-13 : tie.Need-returns-13
+unfolding replyOf
+returns-13 c = sym (ap (λ (a : Answer). replyOf (toAnswer a)) (c .enum-told7 .given .1))
+
 pub reply-of-spec : {M : Type 1} → statement M
 reply-of-spec =
     tie.close
@@ -99,6 +113,8 @@ reply-of-spec =
     enum-told-5
     enum-known-answer-5
     enum-told-6
+    enum-known-answer-6
+    enum-told-7
     returns
     returns-2
     returns-3
@@ -109,4 +125,6 @@ reply-of-spec =
     returns-8
     returns-9
     returns-10
-    returns-11)
+    returns-11
+    returns-12
+    returns-13)

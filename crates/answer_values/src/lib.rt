@@ -17,6 +17,8 @@ fn answer_value(answer: Answer) -> u64
         Answer::Popped(v) => v,
         Answer::Added => 0,
         Answer::Taken(v) => v,
+        Answer::Queued => 0,
+        Answer::Dequeued(v) => v,
         Answer::Empty => 0,
         Answer::Full => 10,
     }

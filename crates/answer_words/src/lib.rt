@@ -20,6 +20,8 @@ fn answer_word(answer: Answer, out: &mut [u8]) -> usize
         Answer::Popped(_) => put_text(b"popped", out, 0),
         Answer::Added => put_text(b"added", out, 0),
         Answer::Taken(_) => put_text(b"taken", out, 0),
+        Answer::Queued => put_text(b"queued", out, 0),
+        Answer::Dequeued(_) => put_text(b"dequeued", out, 0),
         Answer::Empty => put_text(b"empty", out, 0),
         Answer::Full => put_text(b"refused", out, 0),
     }

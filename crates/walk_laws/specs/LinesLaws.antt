@@ -12,7 +12,7 @@ use lib.Seq.{take-suc, take-all, take-length, drop-drop, sets-eq, length-sets}
 use Rattle.io.specs.Counts.{Counts}
 use Rattle.io.specs.Digits.{digits, glyph, Fewest}
 use Rattle.slot_laws.specs.WordLaws.{sets-append}
-use Rattle.operation_spec.specs.declared.Answer.the-variants.{Found, Absent, Replaced, New, Removed, Pushed, Popped, Added, Taken, Empty, Full}
+use Rattle.operation_spec.specs.declared.Answer.the-variants.{Found, Absent, Replaced, New, Removed, Pushed, Popped, Added, Taken, Queued, Dequeued, Empty, Full}
 use Rattle.call_spec.specs.declared.Reply.{Reply}
 use Rattle.call_spec.specs.declared.Reply.the-variants.{Answered, Refused}
 use Rattle.walk_spec.specs.Lines.{blank, newline, digit, leading, decimal, numbers, replyWord, replyValue, lineOf, longestLine, mostLeaves, Put}
@@ -191,6 +191,8 @@ word-length (Answered Pushed) = omega arith
 word-length (Answered (Popped v)) = omega arith
 word-length (Answered Added) = omega arith
 word-length (Answered (Taken v)) = omega arith
+word-length (Answered Queued) = omega arith
+word-length (Answered (Dequeued v)) = omega arith
 word-length (Answered Empty) = omega arith
 word-length (Answered Full) = omega arith
 word-length (Refused n) = omega arith

@@ -17,7 +17,7 @@ use Rattle.bucket_call_spec.specs.Fetch.{Left}
 use Rattle.bucket_call_spec.specs.Call.{drawOf, bucketCall}
 use Rattle.state_spec.specs.declared.State.{State}
 use Rattle.state_spec.specs.Fit.{fits}
-use Rattle.state_spec.specs.Ticket.{ticketLength, opIn, structureOf}
+use Rattle.state_spec.specs.Ticket.{ticketLength, opIn, structureOf, outOfKeys}
 use Rattle.call_spec.specs.declared.Reply.{Reply}
 use Rattle.call_spec.specs.Store.{Ended, storeOf, refusing, ending, called, callWith}
 use Rattle.walk_spec.specs.Lines.{lineOf, mostLeaves}
@@ -44,9 +44,10 @@ kept-with : (st : Structure) (s : State) (tree tape trace : List ℕ) (op : Opti
 unfolding callWith
 kept-with st s tree tape trace none = refused
 kept-with st s tree tape trace (some op) =
-    kept-either (ltb (length tape) (draws st (s .size))) refused
+    kept-either (outOfKeys op (s .ahead .key)) refused
+    (kept-either (ltb (length tape) (draws st (s .size))) refused
     (kept-either (ltb (length trace) (2 * rounds st (s .size))) refused
-    (ended s trace (bucketCall (s .size) (rounds st (s .size)) op (drawOf (s .size) tape) (storeOf s tree))))
+    (ended s trace (bucketCall (s .size) (rounds st (s .size)) op (drawOf (s .size) tape) (storeOf s tree)))))
 
 pub call-keeps : (s : State) (tree ticket tape trace : List ℕ) → Kept s (called s tree ticket tape trace)
 unfolding called

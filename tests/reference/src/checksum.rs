@@ -43,5 +43,7 @@ fn word_number(answer: Answer) -> u64 {
         Answer::Empty => 8,
         Answer::Added => 9,
         Answer::Taken(_) => 10,
+        Answer::Queued => 11,
+        Answer::Dequeued(_) => 12,
     }
 }

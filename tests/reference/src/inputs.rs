@@ -10,7 +10,7 @@ pub enum Plan {
     Uniform,
     /// Tapes of few leaves, so that stores of size 7 and 8 overflow.
     FewLeaves,
-    /// Few leaves for most rounds, and any tag for a new node: nodes wait that
+    /// Few leaves for most rounds, and other tags for new nodes: nodes wait that
     /// find no room on those paths.
     SkewedLeaves,
     Zeros,
@@ -41,6 +41,10 @@ enum Tape {
     Zeros,
     FewLeaves,
     SkewedLeaves,
+    /// One leaf for all rounds. New nodes' tags are that leaf, or lie in the
+    /// other half of the tree, where its path has only the root bucket.
+    Near,
+    Far,
     /// Another of the first three for each call.
     Changing,
 }
@@ -96,7 +100,7 @@ struct Input {
 }
 
 pub fn plan(seed: u64) -> Plan {
-    PLANS[(seed / 24) as usize % PLANS.len()]
+    PLANS[(seed / 32) as usize % PLANS.len()]
 }
 
 /// A call as the walk program reads it.
@@ -111,7 +115,10 @@ pub fn input(seed: u64) -> Vec<u8> {
     match plan(seed) {
         Plan::Uniform => input.some_calls(Tape::Uniform),
         Plan::FewLeaves => input.growing_calls(Tape::FewLeaves),
-        Plan::SkewedLeaves => input.growing_calls(Tape::SkewedLeaves),
+        Plan::SkewedLeaves => match input.random.below(2) {
+            0 => input.growing_calls(Tape::SkewedLeaves),
+            _ => input.crowd(),
+        },
         Plan::Zeros => input.growing_calls(Tape::Zeros),
         Plan::FillAndEmpty => input.fill_and_empty(),
         Plan::HotKeys => {
@@ -130,8 +137,8 @@ impl Input {
     /// The opening.
     fn new(seed: u64) -> Input {
         let mut random = Random::new(seed);
-        let structure = [MAP, STACK, HEAP][(seed % 3) as usize];
-        let size = 1 + (seed / 3 % 8) as u8;
+        let structure = [MAP, STACK, HEAP, QUEUE][(seed % 4) as usize];
+        let size = 1 + (seed / 4 % 8) as u8;
         let leaves = (0..=random.below(4))
             .map(|_| random.next() as u16)
             .collect();
@@ -183,16 +190,36 @@ impl Input {
     /// Fills the store and goes on, then empties it and goes on, with keys in
     /// order or not, and other calls between.
     fn fill_and_empty(&mut self) {
-        let (add, take) = match self.structure {
-            MAP => (PUT, REMOVE),
-            STACK => (PUSH, POP),
-            _ => (ADD, TAKE),
-        };
+        let (add, take) = self.add_and_take();
         for _ in 0..=self.random.below(2) {
             self.call_on_each_key(add);
             self.add_when_full(add);
             self.call_on_each_key(take);
         }
+    }
+
+    /// About as many nodes wait as may, and calls fetch what lies in the tree, so
+    /// that they overflow in fetch rounds too.
+    fn crowd(&mut self) {
+        let (add, take) = self.add_and_take();
+        let far = self.random.pick(&[67, 68, 68, 69]);
+        let near = [1 + self.random.below(4), self.random.below(5)];
+        for (tape, calls) in [
+            (Tape::Near, near[0]),
+            (Tape::Far, far),
+            (Tape::Near, near[1]),
+        ] {
+            self.tape = tape;
+            for small in 0..calls.min(self.capacity() + 1) {
+                let (key, value) = (self.key_of(small), self.value());
+                self.call(add, key, value);
+            }
+        }
+        for _ in 0..=self.random.below(12) {
+            let (key, value) = (self.key(), self.value());
+            self.call(take, key, value);
+        }
+        self.some_calls(Tape::Near);
     }
 
     fn call_on_each_key(&mut self, kind: u8) {
@@ -236,7 +263,9 @@ impl Input {
             if self.random.one_in(3) {
                 let structure = self.structure;
                 let any = self.random.next() as u8;
-                let kind = self.random.pick(&[0, 1, 2, 3, 4, 5, 6, 7, 8, 255, any]);
+                let kind = self
+                    .random
+                    .pick(&[0, 1, 2, 3, 4, 5, 6, 7, 8, 9, 10, 255, any]);
                 if !kind_fits(structure, kind) {
                     let (key, value) = (self.key(), self.value());
                     self.call(kind, key, value);
@@ -272,7 +301,7 @@ impl Input {
     fn refused_opening(&mut self) {
         let any = self.random.next() as u8;
         let bad_size = self.random.pick(&[0, 9, 10, 16, 255, any | 16]);
-        let bad_structure = self.random.pick(&[0, 4, 5, 255, any | 4]);
+        let bad_structure = self.random.pick(&[0, 5, 6, 255, any | 8]);
         let (structure, size) = match self.random.below(3) {
             0 => (self.structure, bad_size),
             1 => (bad_structure, self.size),
@@ -286,16 +315,23 @@ impl Input {
 
     // ---- calls
 
+    fn add_and_take(&self) -> (u8, u8) {
+        match self.structure {
+            MAP => (PUT, REMOVE),
+            STACK => (PUSH, POP),
+            HEAP => (ADD, TAKE),
+            _ => (IN, OUT),
+        }
+    }
+
     /// A call of the structure's own.
     fn any_call(&mut self) {
         let adds = self.random.below(10) < self.growth;
+        let (add, take) = self.add_and_take();
         let kind = match (self.structure, adds) {
-            (MAP, true) => PUT,
+            (_, true) => add,
             (MAP, false) => self.random.pick(&[GET, GET, REMOVE]),
-            (STACK, true) => PUSH,
-            (STACK, false) => POP,
-            (_, true) => ADD,
-            (_, false) => TAKE,
+            (_, false) => take,
         };
         let (key, value) = (self.key(), self.value());
         self.call(kind, key, value);
@@ -316,20 +352,34 @@ impl Input {
             tape => tape,
         };
         let rounds = fetch_rounds(self.structure, self.size);
-        (0..=2 * rounds)
-            .map(|position| {
-                let few = match tape {
-                    Tape::FewLeaves => true,
-                    Tape::SkewedLeaves => position != rounds && self.random.below(8) < self.skew,
-                    Tape::Zeros => return 0,
-                    Tape::Uniform | Tape::Changing => false,
-                };
-                match few {
-                    true => self.random.pick(&self.leaves),
-                    false => self.random.next() as u16,
-                }
-            })
+        let spare = rounds..first_put_draw(self.structure, self.size);
+        (0..tape_length(self.structure, self.size))
+            .map(|position| self.tape_number(tape, spare.contains(&position)))
             .collect()
+    }
+
+    /// A number of a tape; a spare draw is no round's.
+    fn tape_number(&mut self, tape: Tape, spare: bool) -> u16 {
+        let few = match tape {
+            Tape::Zeros => return 0,
+            Tape::Near => return self.leaves[0],
+            Tape::Far if spare => return self.far_leaf(),
+            Tape::Far => return self.leaves[0],
+            Tape::FewLeaves => true,
+            Tape::SkewedLeaves => !spare && self.random.below(8) < self.skew,
+            Tape::Uniform | Tape::Changing => false,
+        };
+        match few {
+            true => self.random.pick(&self.leaves),
+            false => self.random.next() as u16,
+        }
+    }
+
+    /// A leaf in the half of the tree that does not have the first of the few.
+    fn far_leaf(&mut self) -> u16 {
+        let half = 1 << (self.size - 1);
+        let lower = self.random.below(u64::from(half)) as u16;
+        (self.leaves[0] & half ^ half) | lower
     }
 
     /// Some more keys than there is room for.

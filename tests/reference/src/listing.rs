@@ -36,6 +36,10 @@ pub fn state_lines(state: &State) -> Vec<String> {
         link_text(state.root),
         state.count,
     )];
+    if state.structure == QUEUE {
+        let Ahead { key, tag } = state.ahead;
+        lines[0] += &format!(", next key {key}, tag drawn ahead {tag}");
+    }
     // A size out of range has no leaves to hold tags against.
     let size = state.size.min(GREATEST_SIZE);
     for place in state.places.iter().take(state.count) {

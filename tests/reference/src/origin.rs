@@ -34,6 +34,9 @@ pub struct Machine {
     size: u8,
     entries: u32,
     root: OriginLink,
+    /// Of a queue: the next unused key, and the origin of the tag drawn ahead.
+    next_key: u32,
+    ahead: Origin,
     nodes: BTreeMap<u32, OriginNode>,
     calls: usize,
     /// Of the call under way: the origins named, and the keys that need no
@@ -49,6 +52,8 @@ impl Machine {
             size,
             entries: 0,
             root: NO_LINK,
+            next_key: 0,
+            ahead: (0, 0),
             nodes: BTreeMap::new(),
             calls: 0,
             named: vec![],
@@ -70,6 +75,8 @@ impl Machine {
             POP if self.entries > 0 => self.pop(),
             ADD if !full => self.add_number(ticket.value),
             TAKE if self.entries > 0 => self.take_smallest(),
+            IN if !full => self.enqueue(ticket.value),
+            OUT if self.entries > 0 => self.dequeue(),
             _ => {}
         }
         self.name_own_draws();
@@ -87,7 +94,8 @@ impl Machine {
     fn name_own_draws(&mut self) {
         let rounds = self.rounds();
         let fetches = self.named.len()..rounds;
-        let puts = rounds + 1..2 * rounds + 1;
+        let first = first_put_draw(self.structure, self.size);
+        let puts = first..first + rounds;
         self.named
             .extend(fetches.chain(puts).map(|draw| (self.calls, draw)));
     }
@@ -147,6 +155,45 @@ impl Machine {
         self.nodes.remove(&top.key);
         self.entries -= 1;
         self.root = top.left;
+    }
+
+    fn enqueue(&mut self, value: u64) {
+        if self.entries == 0 {
+            self.ahead = (self.calls, 1);
+            self.root = self.link_ahead();
+        }
+        let (key, origin) = (self.next_key, self.ahead);
+        self.next_key += 1;
+        self.ahead = (self.calls, 2);
+        let node = OriginNode {
+            key,
+            origin,
+            value,
+            left: self.link_ahead(),
+            right: NO_LINK,
+        };
+        self.nodes.insert(key, node);
+        self.entries += 1;
+    }
+
+    fn dequeue(&mut self) {
+        let mut root = self.root;
+        let oldest = self.fetch(&mut root);
+        self.nodes.remove(&oldest.key);
+        self.entries -= 1;
+        self.root = match self.entries {
+            0 => NO_LINK,
+            _ => oldest.left,
+        };
+    }
+
+    /// The link to a queue's next node.
+    fn link_ahead(&self) -> OriginLink {
+        OriginLink {
+            height: 1,
+            key: self.next_key,
+            origin: self.ahead,
+        }
     }
 
     fn add_number(&mut self, value: u64) {

@@ -3,8 +3,9 @@
 pub const MAP: u8 = 1;
 pub const STACK: u8 = 2;
 pub const HEAP: u8 = 3;
+pub const QUEUE: u8 = 4;
 /// The structures' names, from number 1 on.
-pub const STRUCTURES: [&str; 3] = ["map", "stack", "heap"];
+pub const STRUCTURES: [&str; 4] = ["map", "stack", "heap", "queue"];
 pub const GREATEST_SIZE: u8 = 8;
 
 pub const GET: u8 = 1;
@@ -14,6 +15,8 @@ pub const PUSH: u8 = 4;
 pub const POP: u8 = 5;
 pub const ADD: u8 = 6;
 pub const TAKE: u8 = 7;
+pub const IN: u8 = 8;
+pub const OUT: u8 = 9;
 
 pub const TICKET_BYTES: usize = 13;
 pub const SLOT_BYTES: usize = 32;
@@ -42,6 +45,8 @@ pub const BAD_SIZE: u8 = 12;
 pub const NOT_CLOSED: u8 = 14;
 /// Of a read-out: the output buffer is too short.
 pub const OUTPUT_SHORT: u8 = 15;
+/// Of a queue's in: its next unused key is the greatest.
+pub const KEYS_USED_UP: u8 = 17;
 
 /// A read-out's reasons to leave a node or slot out.
 pub const BAD: u8 = 1;
@@ -63,6 +68,27 @@ impl Link {
         key: 0,
         tag: 0,
     };
+}
+
+/// What a queue's state keeps for its next node: the next unused key, and the
+/// tag drawn ahead. Other structures have zeros.
+#[derive(Clone, Copy, Debug, Default, PartialEq, Eq)]
+pub struct Ahead {
+    pub key: u32,
+    pub tag: u16,
+}
+
+impl Ahead {
+    pub const NONE: Ahead = Ahead { key: 0, tag: 0 };
+
+    /// The link to a queue's next node.
+    pub fn link(self) -> Link {
+        Link {
+            height: 1,
+            key: self.key,
+            tag: self.tag,
+        }
+    }
 }
 
 #[derive(Clone, Copy, Debug, PartialEq, Eq)]
@@ -107,6 +133,8 @@ pub enum Answer {
     Empty,
     Added,
     Taken(u64),
+    Queued,
+    Dequeued(u64),
     Refused(u8),
 }
 
@@ -123,6 +151,8 @@ impl Answer {
             Answer::Empty => "empty",
             Answer::Added => "added",
             Answer::Taken(_) => "taken",
+            Answer::Queued => "queued",
+            Answer::Dequeued(_) => "dequeued",
             Answer::Refused(_) => "refused",
         }
     }
@@ -134,9 +164,15 @@ impl Answer {
             | Answer::Replaced(value)
             | Answer::Removed(value)
             | Answer::Popped(value)
-            | Answer::Taken(value) => value,
+            | Answer::Taken(value)
+            | Answer::Dequeued(value) => value,
             Answer::Refused(cause) => u64::from(cause),
-            Answer::Absent | Answer::New | Answer::Pushed | Answer::Empty | Answer::Added => 0,
+            Answer::Absent
+            | Answer::New
+            | Answer::Pushed
+            | Answer::Empty
+            | Answer::Added
+            | Answer::Queued => 0,
         }
     }
 }
@@ -173,13 +209,31 @@ pub fn tree_bytes(size: u8) -> usize {
 pub fn fetch_rounds(structure: u8, size: u8) -> usize {
     match structure {
         MAP => 3 * GREATEST_HEIGHT[usize::from(size) - 1],
-        STACK => 1,
+        STACK | QUEUE => 1,
         _ => 3 * usize::from(size),
     }
 }
 
+/// How many draws lie between those of the fetch and of the put rounds.
+pub fn spare_draws(structure: u8) -> usize {
+    match structure {
+        QUEUE => 2,
+        _ => 1,
+    }
+}
+
+/// The draw of put round 0.
+pub fn first_put_draw(structure: u8, size: u8) -> usize {
+    fetch_rounds(structure, size) + spare_draws(structure)
+}
+
+/// How many tape numbers a call takes.
+pub fn tape_length(structure: u8, size: u8) -> usize {
+    first_put_draw(structure, size) + fetch_rounds(structure, size)
+}
+
 pub fn structure_is_known(structure: u8) -> bool {
-    (MAP..=HEAP).contains(&structure)
+    (MAP..=QUEUE).contains(&structure)
 }
 
 pub fn size_is_known(size: u8) -> bool {
@@ -191,6 +245,7 @@ pub fn kind_fits(structure: u8, kind: u8) -> bool {
         MAP => (GET..=REMOVE).contains(&kind),
         STACK => (PUSH..=POP).contains(&kind),
         HEAP => (ADD..=TAKE).contains(&kind),
+        QUEUE => (IN..=OUT).contains(&kind),
         _ => false,
     }
 }

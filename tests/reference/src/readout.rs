@@ -38,14 +38,14 @@ fn closing_file<S: Store>(mut input: Input<impl Read>) -> io::Result<(Option<Vec
     if store.to_plain().mark != 0 {
         return Ok((None, false));
     }
-    let rounds = fetch_rounds(structure, size);
+    let numbers = tape_length(structure, size);
     loop {
-        let (ticket, tape) = match input.call(rounds)? {
+        let (ticket, tape) = match input.call(numbers)? {
             Next::Call(ticket, tape) => (ticket, tape),
             Next::Short => return Ok((None, true)),
             Next::End => return Ok((None, false)),
         };
-        let mut trace = vec![0; 2 * rounds];
+        let mut trace = vec![0; 2 * fetch_rounds(structure, size)];
         let outcome = store.call(&mut tree, &ticket, &tape, &mut trace);
         if let Answer::Refused(DAMAGE | OVERFLOW) = outcome.answer {
             return Ok((Some(file(&store, &tree)), false));

@@ -1,14 +1,15 @@
 //! A closed store and an output buffer as bytes, for the test and benchmark
-//! programs of the read-out: a head of 24 bytes, 101 waiting places, the tree.
+//! programs of the read-out: a head of 30 bytes, 101 waiting places, the tree.
 //!
 //! Head: mark, structure, size, root height (1 byte each); entries, waiting
-//! count (2 each); root key (4); root tag (2); two zero bytes; the tree's length
-//! (4); the output buffer's length (4).
+//! count (2 each); root key (4); root tag (2); next unused key (4); tag drawn
+//! ahead (2); two zero bytes; the tree's length (4); the output buffer's length
+//! (4).
 
 use crate::paper::*;
 use crate::plain::State;
 
-pub const HEAD_BYTES: usize = 24;
+pub const HEAD_BYTES: usize = 30;
 /// A waiting place in a record has flag 0 or 1, and its zero bytes are zero.
 pub const ZERO_BYTES: [usize; 3] = [3, 22, 23];
 
@@ -28,6 +29,8 @@ impl Record {
         bytes.extend((state.count as u16).to_le_bytes());
         bytes.extend(root.key.to_le_bytes());
         bytes.extend(root.tag.to_le_bytes());
+        bytes.extend(state.ahead.key.to_le_bytes());
+        bytes.extend(state.ahead.tag.to_le_bytes());
         bytes.extend([0; 2]);
         bytes.extend((self.tree.len() as u32).to_le_bytes());
         bytes.extend((self.room as u32).to_le_bytes());
@@ -42,7 +45,7 @@ impl Record {
         let (places, rest) = rest.split_at_checked(PLACES * SLOT_BYTES)?;
         let short = |at: usize| u16::from_le_bytes(head[at..at + 2].try_into().unwrap());
         let long = |at: usize| u32::from_le_bytes(head[at..at + 4].try_into().unwrap());
-        let (tree, rest) = rest.split_at_checked(long(16) as usize)?;
+        let (tree, rest) = rest.split_at_checked(long(22) as usize)?;
         let state = State {
             mark: head[0],
             structure: head[1],
@@ -53,13 +56,17 @@ impl Record {
                 key: long(8),
                 tag: short(12),
             },
+            ahead: Ahead {
+                key: long(14),
+                tag: short(18),
+            },
             count: usize::from(short(6)),
             places: slots(places),
         };
         let record = Record {
             state,
             tree: tree.to_vec(),
-            room: long(20) as usize,
+            room: long(26) as usize,
         };
         Some((record, rest))
     }

@@ -1,5 +1,5 @@
 //! The walk program: a structure byte, a size byte, then for each call a
-//! ticket and its 2F + 1 tape numbers; a line a call.
+//! ticket and its tape numbers, 2F + 1 or for a queue four; a line a call.
 
 use crate::paper::*;
 use crate::Store;
@@ -24,14 +24,14 @@ pub fn run_with<S: Store>(
     if mark != 0 {
         return print(&mut output, &format!("refused {mark}"));
     }
-    let rounds = fetch_rounds(structure, size);
+    let numbers = tape_length(structure, size);
     loop {
-        let (ticket, tape) = match input.call(rounds)? {
+        let (ticket, tape) = match input.call(numbers)? {
             Next::Call(ticket, tape) => (ticket, tape),
             Next::Short => return print(&mut output, "short"),
             Next::End => return Ok(()),
         };
-        let mut trace = vec![0; 2 * rounds];
+        let mut trace = vec![0; 2 * fetch_rounds(structure, size)];
         let outcome = make(&mut store, &mut tree, &ticket, &tape, &mut trace);
         print(&mut output, &line(outcome, &trace))?;
     }
@@ -61,13 +61,15 @@ impl<R: Read> Input<R> {
         Ok((got == opening.len()).then_some(opening))
     }
 
-    pub fn call(&mut self, rounds: usize) -> io::Result<Next> {
-        let mut call = vec![0; TICKET_BYTES + 2 * (2 * rounds + 1)];
+    /// A call with so many tape numbers.
+    pub fn call(&mut self, numbers: usize) -> io::Result<Next> {
+        let length = TICKET_BYTES + 2 * numbers;
+        let mut call = vec![0; length];
         let got = read_some(&mut self.0, &mut call)?;
         let tape = tape_numbers(&call.split_off(TICKET_BYTES));
         Ok(match got {
             0 => Next::End,
-            _ if got < TICKET_BYTES + 2 * tape.len() => Next::Short,
+            _ if got < length => Next::Short,
             _ => Next::Call(call, tape),
         })
     }

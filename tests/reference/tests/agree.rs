@@ -67,7 +67,7 @@ fn grown(random: &mut Random, structure: u8, size: u8) -> Pair {
 fn random_call(random: &mut Random, pair: &mut Pair, tape: Tape) -> Outcome {
     let (structure, size) = (pair.plain.structure, pair.plain.size);
     let ticket = random_ticket(random, structure, size);
-    let numbers = tape.numbers(random, 2 * fetch_rounds(structure, size) + 1);
+    let numbers = tape.numbers(random, tape_length(structure, size));
     pair.call(ticket, &numbers).0
 }
 
@@ -166,6 +166,7 @@ fn add_stray(random: &mut Random, state: &mut State) {
     }
     let key = match state.structure {
         STACK | HEAP => state.entries.wrapping_add(random.below(3) as u32),
+        QUEUE => state.ahead.key.wrapping_add(random.below(3) as u32),
         _ => random.below(u64::from(capacity(state.size)) * 3 / 2 + 1) as u32,
     };
     let tag = random.below(1 << state.size) as u16;
@@ -174,13 +175,31 @@ fn add_stray(random: &mut Random, state: &mut State) {
     state.set_waiting(&waiting);
 }
 
+/// Another next unused key, with or without the root's, or tag drawn ahead.
+fn damage_ahead(random: &mut Random, state: &mut State) {
+    let Ahead { key, tag } = &mut state.ahead;
+    match random.below(5) {
+        0 => *key = key.wrapping_add(1),
+        1 => *key = key.wrapping_sub(1),
+        2 => *tag = random.below((1 << state.size) + 1) as u16,
+        3 => {
+            *key = key.wrapping_add(1);
+            state.root.key = state.root.key.wrapping_add(1);
+        }
+        _ => {
+            *key = u32::MAX - random.below(2) as u32;
+            state.root.key = key.wrapping_sub(state.entries);
+        }
+    }
+}
+
 fn damage_state(random: &mut Random, state: &mut State, tree: &mut [u8]) {
     let keys: Vec<u32> = used(tree, state.size)
         .iter()
         .map(|(_, node)| node.key)
         .collect();
     let keys = if keys.is_empty() { vec![0] } else { keys };
-    match random.below(14) {
+    match random.below(16) {
         0 => state.entries = random.below(1 << state.size) as u32,
         1 => state.entries = state.entries.wrapping_sub(1),
         2 => state.entries = state.entries.wrapping_add(1),
@@ -203,6 +222,7 @@ fn damage_state(random: &mut Random, state: &mut State, tree: &mut [u8]) {
             }
         }
         9 | 10 => add_stray(random, state),
+        11 | 12 if state.structure == QUEUE || random.one_in(4) => damage_ahead(random, state),
         _ => move_to_waiting(random, state, tree),
     }
 }
@@ -390,6 +410,54 @@ fn damaged_heaps() {
     damaged_runs(30, HEAP, 2000, &names);
 }
 
+/// Some keys are used up, with nodes left or with none.
+#[test]
+fn damaged_queues() {
+    let names = [
+        "queued",
+        "dequeued",
+        "empty",
+        "refused 1",
+        "refused 2",
+        "refused 8 fetch",
+        "refused 8 put",
+        "refused 10",
+        "refused 17",
+    ];
+    damaged_runs(40, QUEUE, 4000, &names);
+}
+
+/// A queue whose keys are moved up does what it did, but for the keys, until
+/// they are used up: then every in is refused, and outs go on.
+#[test]
+fn queues_near_the_greatest_key() {
+    let mut random = seeded(41);
+    let (mut refused, mut outs) = (0, 0);
+    for run in 0..160 {
+        let size = 1 + run % GREATEST_SIZE;
+        let mut low = grown(&mut random, QUEUE, size);
+        let mut high = low.clone();
+        move_keys(&mut high, u32::MAX - random.below(12) as u32);
+        while high.plain.mark == 0 && !random.one_in(60) {
+            let ticket = random_ticket(&mut random, QUEUE, size);
+            let tape = Tape::Uniform.numbers(&mut random, 4);
+            let used_up = high.plain.ahead.key == u32::MAX;
+            let (outcome, trace) = high.call(ticket, &tape);
+            if used_up && ticket.kind == IN {
+                assert_eq!(outcome, Outcome::refused(KEYS_USED_UP));
+                refused += 1;
+                continue;
+            }
+            assert_eq!((outcome, trace), low.call(ticket, &tape));
+            let mut moved = low.clone();
+            move_keys(&mut moved, high.plain.ahead.key);
+            assert!((&moved.plain, &moved.tree) == (&high.plain, &high.tree));
+            outs += usize::from(used_up);
+        }
+    }
+    assert!(refused > 500 && outs > 200, "{refused} {outs}");
+}
+
 /// Numbers in any order are no damage, and both builds move them alike.
 #[test]
 fn disordered_heaps() {
@@ -518,9 +586,10 @@ fn crowded_run(random: &mut Random, structure: u8, size: u8, tally: &mut Tally) 
 fn crowded_stores() {
     let mut random = seeded(23);
     let mut tally = Tally::default();
-    for structure in [MAP, STACK, HEAP] {
+    for structure in [MAP, STACK, HEAP, QUEUE] {
+        let one_round = fetch_rounds(structure, 1) == 1;
         for size in 2..=GREATEST_SIZE {
-            for _ in 0..if structure == STACK { 150 } else { 40 } {
+            for _ in 0..if one_round { 150 } else { 40 } {
                 crowded_run(&mut random, structure, size, &mut tally);
             }
         }
@@ -533,14 +602,14 @@ fn crowded_stores() {
 fn odd_calls() {
     let mut random = seeded(24);
     let mut tally = Tally::default();
-    for structure in [MAP, STACK, HEAP] {
+    for structure in [MAP, STACK, HEAP, QUEUE] {
         for size in 1..=GREATEST_SIZE {
             let mut pair = Pair::open(structure, size);
             let rounds = fetch_rounds(structure, size);
             for _ in 0..300 {
                 let mut ticket = random_ticket(&mut random, structure, size);
                 if random.one_in(5) {
-                    ticket.kind = random.next() as u8 % 10;
+                    ticket.kind = random.next() as u8 % 12;
                 }
                 let ticket = ticket.bytes();
                 let ticket = &ticket[..if random.one_in(8) {
@@ -548,7 +617,8 @@ fn odd_calls() {
                 } else {
                     13
                 }];
-                let length = 2 * rounds + 1 + random.index(3) - usize::from(random.one_in(5));
+                let length =
+                    tape_length(structure, size) + random.index(3) - usize::from(random.one_in(5));
                 let tape = Tape::Uniform.numbers(&mut random, length);
                 let mut trace =
                     vec![0xabcd; 2 * rounds + random.index(4) - usize::from(random.one_in(3))];

@@ -27,7 +27,7 @@ static COUNTING: Counting = Counting;
 
 #[test]
 fn calls_allocate_nothing() {
-    for structure in [MAP, STACK, HEAP] {
+    for structure in [MAP, STACK, HEAP, QUEUE] {
         let mut tree = vec![0; tree_bytes(8)];
         let mut state = fast::open(structure, 8, &mut tree);
         let tape: Vec<u16> = (0..67).map(|number| number * 31).collect();
@@ -37,7 +37,8 @@ fn calls_allocate_nothing() {
             let kind = match structure {
                 MAP => [PUT, PUT, GET, REMOVE][number as usize % 4],
                 STACK => [PUSH, PUSH, POP][number as usize % 3],
-                _ => [ADD, ADD, TAKE][number as usize % 3],
+                HEAP => [ADD, ADD, TAKE][number as usize % 3],
+                _ => [IN, IN, OUT][number as usize % 3],
             };
             let ticket = Ticket::new(kind, number * 7 % 300, 1).bytes();
             fast::call(&mut state, &mut tree, &ticket, &tape, &mut trace);

@@ -5,60 +5,7 @@ mod common;
 use common::*;
 use reference::listing;
 use reference::paper::*;
-use reference::plain::{write_slot, Node, Reading, State};
-
-fn link(height: u8, key: u32, tag: u16) -> Link {
-    Link { height, key, tag }
-}
-
-fn node(key: u32, tag: u16, left: Link, right: Link) -> Node {
-    Node {
-        key,
-        tag,
-        value: u64::from(key) * 10,
-        left,
-        right,
-    }
-}
-
-fn leaf_node(key: u32, tag: u16) -> Node {
-    node(key, tag, Link::NONE, Link::NONE)
-}
-
-/// Writes a node into a slot of a bucket.
-fn place(tree: &mut [u8], bucket: usize, slot: usize, node: Node) {
-    let start = BUCKET_BYTES * (bucket - 1) + SLOT_BYTES * slot;
-    tree[start..start + SLOT_BYTES].copy_from_slice(&write_slot(&node));
-}
-
-/// A store with this root and entries, and nodes as (bucket, slot, node).
-fn store(
-    structure: u8,
-    size: u8,
-    entries: u32,
-    root: Link,
-    nodes: &[(usize, usize, Node)],
-) -> Pair {
-    let mut pair = Pair::open(structure, size);
-    pair.edit(|state, tree| {
-        state.entries = entries;
-        state.root = root;
-        for &(bucket, slot, node) in nodes {
-            place(tree, bucket, slot, node);
-        }
-    });
-    pair
-}
-
-fn used_nodes(pair: &Pair) -> Vec<(usize, Node)> {
-    listing::used_slots(&pair.tree, pair.plain.size)
-        .into_iter()
-        .map(|(offset, reading)| match reading {
-            Reading::Node(node) => (offset, node),
-            _ => panic!("bad slot at {offset}"),
-        })
-        .collect()
-}
+use reference::plain::{Node, Reading, State};
 
 /// Size 2, keys 1, 2, 3 with root 2, all with tag 0 in leaf bucket 4.
 fn three() -> Pair {

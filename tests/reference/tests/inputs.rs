@@ -9,7 +9,7 @@ use reference::{fast, plain, walk, Store};
 use std::collections::{BTreeMap, BTreeSet};
 
 /// Each structure, size and plan twice.
-const SEEDS: std::ops::Range<u64> = 0..432;
+const SEEDS: std::ops::Range<u64> = 0..576;
 
 fn output<S: Store>(input: &[u8]) -> String {
     let mut output = vec![];
@@ -42,11 +42,13 @@ fn every_line_is_reached() {
     let expected = [
         "absent",
         "added",
+        "dequeued",
         "empty",
         "found",
         "new",
         "popped",
         "pushed",
+        "queued",
         "refused 1",
         "refused 10",
         "refused 11",
@@ -70,21 +72,27 @@ fn every_structure_size_and_plan_is_reached() {
             reached.insert((structure, size, plan(seed) as u8));
         }
     }
-    assert_eq!(reached.len(), 3 * 8 * (PLANS.len() - 1));
+    assert_eq!(reached.len(), 4 * 8 * (PLANS.len() - 1));
 }
 
 #[test]
 fn every_structure_overflows() {
-    for structure in [MAP, STACK, HEAP] {
+    for structure in [MAP, STACK, HEAP, QUEUE] {
         let seeds = SEEDS.filter(|&seed| input(seed).first() == Some(&structure));
         assert!(tally(seeds)["refused 9"] > 0);
     }
 }
 
+/// More seeds of the queues that overflow in fetch rounds too, which is rare.
+fn crowded_queues() -> impl Iterator<Item = u64> {
+    let skewed = (SEEDS.end..9216).filter(|&seed| plan(seed) == Plan::SkewedLeaves);
+    skewed.filter(|&seed| matches!(input(seed)[..], [QUEUE, 7 | 8, ..]))
+}
+
 #[test]
 fn every_branch_is_met() {
     let mut met = vec![];
-    for seed in SEEDS {
+    for seed in SEEDS.chain(crowded_queues()) {
         walk::run_with(
             &input(seed)[..],
             std::io::sink(),

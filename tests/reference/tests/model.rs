@@ -1,23 +1,35 @@
 //! Random runs without damage against a plain table, a plain list, a plain
-//! collection and the origin rule, with a whole-store check.
+//! collection, a plain queue and the origin rule, with a whole-store check.
 
 mod common;
 
 use common::*;
 use reference::origin::{Machine, Origin};
 use reference::paper::*;
-use std::collections::BTreeMap;
+use std::collections::{BTreeMap, VecDeque};
 
-/// The plain table, the plain stack and the plain heap.
+/// The plain table, stack, heap and queue.
 struct Model {
     size: u8,
     table: BTreeMap<u32, u64>,
     list: Vec<u64>,
     /// Numbers with repeats, ascending.
     collection: Vec<u64>,
+    /// The oldest value first.
+    queue: VecDeque<u64>,
 }
 
 impl Model {
+    fn new(size: u8) -> Model {
+        Model {
+            size,
+            table: BTreeMap::new(),
+            list: vec![],
+            collection: vec![],
+            queue: VecDeque::new(),
+        }
+    }
+
     fn answer(&mut self, ticket: Ticket) -> Answer {
         let capacity = capacity(self.size) as usize;
         let Ticket { kind, key, value } = ticket;
@@ -49,8 +61,24 @@ impl Model {
                 self.collection.sort();
                 Answer::Added
             }
-            _ if self.collection.is_empty() => Answer::Empty,
-            _ => Answer::Taken(self.collection.remove(0)),
+            TAKE if self.collection.is_empty() => Answer::Empty,
+            TAKE => Answer::Taken(self.collection.remove(0)),
+            _ => self.queue_answer(ticket),
+        }
+    }
+
+    fn queue_answer(&mut self, ticket: Ticket) -> Answer {
+        let full = self.queue.len() == capacity(self.size) as usize;
+        match ticket.kind {
+            IN if full => Answer::Refused(FULL),
+            IN => {
+                self.queue.push_back(ticket.value);
+                Answer::Queued
+            }
+            _ => self
+                .queue
+                .pop_front()
+                .map_or(Answer::Empty, Answer::Dequeued),
         }
     }
 
@@ -59,6 +87,7 @@ impl Model {
         match structure {
             MAP => self.table.values().eq(&values),
             STACK => self.list == values,
+            QUEUE => self.queue == values,
             _ => {
                 values.sort();
                 self.collection == values
@@ -78,21 +107,16 @@ fn named_leaves(named: &[Origin], tapes: &[Vec<u16>], size: u8) -> Vec<u16> {
 /// One run; returns how many calls closed the store (0 or 1).
 fn run(random: &mut Random, structure: u8, size: u8, tape: Tape, calls: usize) -> usize {
     let mut pair = Pair::open(structure, size);
-    let mut model = Model {
-        size,
-        table: BTreeMap::new(),
-        list: vec![],
-        collection: vec![],
-    };
+    let mut model = Model::new(size);
     let mut machine = Machine::new(structure, size);
     let mut tapes = vec![];
     let filling = 1 + random.below(4) as usize;
     for number in 0..calls {
         let mut ticket = random_ticket(random, structure, size);
         if number % (calls / filling + 1) < calls / 8 {
-            ticket.kind = [PUT, PUSH, ADD][usize::from(structure) - 1];
+            ticket.kind = adding_kind(structure);
         }
-        let length = 2 * fetch_rounds(structure, size) + 1 + random.index(2);
+        let length = tape_length(structure, size) + random.index(2);
         tapes.push(tape.numbers(random, length));
         let (outcome, trace) = pair.call(ticket, &tapes[number]);
         let leaves = named_leaves(&machine.feed(ticket), &tapes, size);
@@ -143,6 +167,11 @@ fn uniform_heaps() {
 }
 
 #[test]
+fn uniform_queues() {
+    assert_eq!(runs(35, QUEUE, Tape::Uniform, 40), 0);
+}
+
+#[test]
 fn zero_maps() {
     assert!(runs(13, MAP, Tape::Zero, 4) > 0);
 }
@@ -155,6 +184,11 @@ fn zero_stacks() {
 #[test]
 fn zero_heaps() {
     assert!(runs(26, HEAP, Tape::Zero, 6) > 0);
+}
+
+#[test]
+fn zero_queues() {
+    assert!(runs(36, QUEUE, Tape::Zero, 20) > 0);
 }
 
 #[test]
@@ -173,6 +207,12 @@ fn few_leaf_stacks() {
 fn few_leaf_heaps() {
     assert!(runs(27, HEAP, Tape::Few(2), 6) > 0);
     runs(28, HEAP, Tape::Few(5), 4);
+}
+
+#[test]
+fn few_leaf_queues() {
+    assert!(runs(37, QUEUE, Tape::Few(2), 20) > 0);
+    runs(38, QUEUE, Tape::Few(5), 20);
 }
 
 /// A full heap's add answers 10 and moves nothing but places.
@@ -195,6 +235,28 @@ fn full_heaps() {
             tape.remove(rounds);
             let draws: Vec<u16> = tape.iter().map(|number| number % (1 << size)).collect();
             assert_eq!(trace, draws);
+        }
+    }
+}
+
+/// A full queue's in answers 10, moves nothing but places, and keeps the next
+/// unused key and the tag drawn ahead.
+#[test]
+fn full_queues() {
+    let mut random = seeded(39);
+    for size in 1..=6 {
+        let mut pair = Pair::open(QUEUE, size);
+        for _ in 0..capacity(size) {
+            let tape = Tape::Uniform.numbers(&mut random, 4);
+            assert_eq!(pair.answer(queue_in(random.next()), &tape), Answer::Queued);
+        }
+        for _ in 0..20 {
+            let before = (pair.nodes(), pair.plain.root, pair.plain.ahead);
+            let tape = Tape::Uniform.numbers(&mut random, 4);
+            let (outcome, trace) = pair.call(queue_in(0), &tape);
+            assert_eq!(outcome.answer, Answer::Refused(FULL));
+            assert_eq!((pair.nodes(), pair.plain.root, pair.plain.ahead), before);
+            assert_eq!(trace, [tape[0], tape[3]].map(|number| number % (1 << size)));
         }
     }
 }

@@ -343,7 +343,7 @@ fn every_mark_structure_size_and_count() {
         let mut state = good.clone();
         state.structure = number;
         let ok = read_out_within(&state, &tree, 2);
-        assert_eq!(ok.err(), (!matches!(number, 1..=3)).then_some(2));
+        assert_eq!(ok.err(), (!matches!(number, 1..=4)).then_some(2));
         let mut state = good.clone();
         state.size = number;
         let ok = read_out_within(&state, &tree, 2);
@@ -370,6 +370,10 @@ fn an_unfit_state_is_read_out() {
         key: 3,
         tag: 700,
     };
+    state.ahead = Ahead {
+        key: u32::MAX,
+        tag: 65535,
+    };
     let nodes: Vec<Node> = (0..101).rev().map(|key| leaf_node(key, 1, 7)).collect();
     state.set_waiting(&nodes);
     let (entries, report) = parts(&read_out(&state, &tree));
@@ -379,8 +383,8 @@ fn an_unfit_state_is_read_out() {
 
 // ---- what a 9 leaves
 
-/// The plain machines: a table by key, a list with keys from 1 on, or a
-/// collection, sorted, with keys from 1 on.
+/// The plain machines: a table by key, a list with keys from 1 on, a collection,
+/// sorted, with keys from 1 on, or a queue, the oldest first.
 fn after(contents: &BTreeMap<u32, u64>, ticket: Ticket, size: u8) -> BTreeMap<u32, u64> {
     let mut table = contents.clone();
     let last = table.len() as u32;
@@ -399,6 +403,13 @@ fn after(contents: &BTreeMap<u32, u64>, ticket: Ticket, size: u8) -> BTreeMap<u3
             table.remove(&last);
         }
         TAKE => return sorted(table.into_values().collect::<Vec<_>>(), 1),
+        IN if has_room => {
+            let next = table.keys().next_back().map_or(0, |key| key + 1);
+            table.insert(next, ticket.value);
+        }
+        OUT => {
+            table.pop_first();
+        }
         _ => {}
     }
     table
@@ -413,9 +424,9 @@ fn sorted(mut values: Vec<u64>, skipped: usize) -> BTreeMap<u32, u64> {
 fn after_a_9_the_contents_are_those_before_or_after_the_call() {
     let mut random = seeded(31);
     let (mut before_met, mut after_met) = (HashSet::new(), HashSet::new());
-    for run in 0..90 {
-        let structure = [MAP, STACK, HEAP][run % 3];
-        let size = 7 + (run / 3 % 2) as u8;
+    for run in 0..120 {
+        let structure = [MAP, STACK, HEAP, QUEUE][run % 4];
+        let size = 7 + (run / 4 % 2) as u8;
         let Some((store, contents, ticket)) = overflow(&mut random, structure, size) else {
             continue;
         };
@@ -423,11 +434,10 @@ fn after_a_9_the_contents_are_those_before_or_after_the_call() {
         assert_eq!(report, []);
         let canonical = |table: BTreeMap<u32, u64>| match structure {
             HEAP => sorted(table.into_values().collect(), 0),
+            QUEUE => (0..).zip(table.into_values()).collect(),
             _ => table,
         };
-        if structure != MAP {
-            assert!(entries.keys().copied().eq(1..=entries.len() as u32));
-        }
+        assert!(keys_are_right(&entries, &store.plain));
         let found = canonical(entries);
         let was = canonical(contents.clone());
         let is = canonical(after(&was, ticket, size));
@@ -442,8 +452,19 @@ fn after_a_9_the_contents_are_those_before_or_after_the_call() {
         }
     }
     println!("before {before_met:?}, after {after_met:?}");
-    assert_eq!(after_met.len(), 3);
+    assert_eq!(after_met.len(), 4);
     assert!(!before_met.is_empty());
+}
+
+/// A stack's and a heap's keys run from 1 on, a queue's up to the next unused one.
+fn keys_are_right(entries: &BTreeMap<u32, u64>, state: &State) -> bool {
+    let (count, next) = (entries.len() as u32, state.ahead.key);
+    let keys = entries.keys().copied();
+    match state.structure {
+        MAP => true,
+        QUEUE => keys.eq(next - count..next),
+        _ => keys.eq(1..=count),
+    }
 }
 
 /// A store that its own calls closed with 9, its contents before the last of
@@ -455,16 +476,16 @@ fn overflow(
 ) -> Option<(Pair, BTreeMap<u32, u64>, Ticket)> {
     let mut pair = Pair::open(structure, size);
     let mut contents = BTreeMap::new();
-    let numbers = 2 * fetch_rounds(structure, size) + 1;
+    let spare = fetch_rounds(structure, size)..first_put_draw(structure, size);
     let other_tags = random.one_in(2);
     for _ in 0..3 * leaf_count(size) {
         let mut ticket = random_ticket(random, structure, size);
         if random.one_in(2) {
-            ticket.kind = [PUT, PUSH, ADD][usize::from(structure) - 1];
+            ticket.kind = adding_kind(structure);
         }
-        let mut tape = Tape::Few(1).numbers(random, numbers);
+        let mut tape = Tape::Few(1).numbers(random, tape_length(structure, size));
         if other_tags {
-            tape[numbers / 2] = random.next() as u16;
+            tape[spare.clone()].fill_with(|| random.next() as u16);
         }
         match pair.answer(ticket, &tape) {
             Answer::Refused(OVERFLOW) => return Some((pair, contents, ticket)),
@@ -478,7 +499,7 @@ fn overflow(
 
 #[test]
 fn plain_and_fast_agree_on_random_stores() {
-    for seed in 0..1440 {
+    for seed in 0..1920 {
         let Record { state, tree, room } = trial(seed).record;
         let _ = read_out_within(&state, &tree, room);
     }
@@ -487,7 +508,7 @@ fn plain_and_fast_agree_on_random_stores() {
 #[test]
 fn random_stores_meet_every_branch() {
     let mut met = HashSet::new();
-    for seed in 0..2880 {
+    for seed in 0..3840 {
         let trial = trial(seed);
         let Record { state, tree, room } = &trial.record;
         let result = plain::read_out(state, tree, &mut vec![0; *room]);
@@ -503,7 +524,7 @@ fn random_stores_meet_every_branch() {
 /// What the test program's states can hold, and its limits.
 #[test]
 fn random_stores_keep_the_records_form() {
-    for seed in 0..1440 {
+    for seed in 0..1920 {
         let Record { state, tree, room } = trial(seed).record;
         assert!(tree.len() <= 65536 && room <= 65536 && state.places.len() == PLACES);
         for place in state.places {
@@ -512,9 +533,36 @@ fn random_stores_keep_the_records_form() {
     }
 }
 
+/// Every field of a record's head, with two zero bytes before the lengths.
+#[test]
+fn the_head_of_a_record() {
+    let (mut state, tree) = closed(1);
+    (state.mark, state.structure, state.entries, state.count) = (9, QUEUE, 0x0201, 3);
+    state.root = link(4, 0x0807_0605, 0x0a09);
+    state.ahead = Ahead {
+        key: 0x0e0d_0c0b,
+        tag: 0x100f,
+    };
+    let record = Record {
+        state,
+        tree,
+        room: 0x1211,
+    };
+    let head = hex(
+        "09 04 01 04  01 02  03 00       # mark to root height, entries, waiting count
+         05 06 07 08  09 0a                  # root key, root tag
+         0b 0c 0d 0e  0f 10                  # next unused key, tag drawn ahead
+         00 00  80 01 00 00  11 12 00 00     # the lengths: a tree of 384 bytes",
+    );
+    assert_eq!(head.len(), 30);
+    let bytes = record.bytes();
+    assert_eq!(bytes[..30], head);
+    assert_eq!(bytes.len(), 30 + 101 * 32 + 384);
+}
+
 #[test]
 fn records_read_back() {
-    let records: Vec<Record> = (0..48).map(|seed| trial(seed).record).collect();
+    let records: Vec<Record> = (0..64).map(|seed| trial(seed).record).collect();
     let bytes: Vec<u8> = records.iter().flat_map(Record::bytes).collect();
     let mut rest = &bytes[..];
     for record in &records {
@@ -553,7 +601,7 @@ fn the_readout_program() {
             _ => assert_eq!((file.len(), errors.as_str()), (0, NO_FILE)),
         }
     }
-    for opening in [[0, 1], [4, 1], [1, 0], [3, 9]] {
+    for opening in [[0, 1], [5, 1], [1, 0], [3, 9], [4, 0]] {
         assert_eq!(
             readout_of::<plain::State>(&opening),
             (vec![], NO_FILE.to_string())
@@ -564,7 +612,7 @@ fn the_readout_program() {
 #[test]
 fn the_readout_program_on_random_inputs() {
     let mut files = 0;
-    for seed in 0..432 {
+    for seed in 0..576 {
         let input = reference::inputs::input(seed);
         let read = readout_of::<plain::State>(&input);
         assert!(read == readout_of::<fast::State>(&input), "seed {seed}");

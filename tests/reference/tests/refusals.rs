@@ -1,4 +1,4 @@
-//! The causes 1 to 7: each alone, and the order of check.
+//! The causes 1 to 7 and 17: each alone, and the order of check.
 
 mod common;
 
@@ -8,12 +8,13 @@ use reference::plain::{write_slot, Node, State};
 
 fn grown(structure: u8, size: u8, calls: u64) -> Pair {
     let mut pair = Pair::open(structure, size);
-    let tape = vec![0; 2 * fetch_rounds(structure, size) + 1];
+    let tape = vec![0; tape_length(structure, size)];
     for number in 0..calls {
         let ticket = match structure {
             MAP => put(number as u32, number),
             STACK => push(number),
-            _ => add(number),
+            HEAP => add(number),
+            _ => queue_in(number),
         };
         assert!(!matches!(pair.answer(ticket, &tape), Answer::Refused(_)));
     }
@@ -28,7 +29,8 @@ fn is_unfit(pair: &Pair, change: impl Fn(&mut State)) -> bool {
     let ticket = match pair.plain.structure {
         MAP => get(5),
         STACK => pop(),
-        _ => take(),
+        HEAP => take(),
+        _ => queue_out(),
     };
     let mut trace = vec![0; 200];
     pair.call_with(&ticket.bytes(), &tape, &mut trace) == Outcome::refused(2)
@@ -38,7 +40,7 @@ fn is_unfit(pair: &Pair, change: impl Fn(&mut State)) -> bool {
 fn unfit_fields() {
     let pair = grown(STACK, 8, 40);
     assert!(!is_unfit(&pair, |_| {}));
-    for structure in [0, 4, 255] {
+    for structure in [0, 5, 255] {
         assert!(is_unfit(&pair, |state| state.structure = structure));
     }
     for size in [0, 9, 64, 255] {
@@ -64,7 +66,7 @@ fn unfit_fields() {
 
 #[test]
 fn unfit_empty_roots() {
-    for structure in [MAP, STACK, HEAP] {
+    for structure in [MAP, STACK, HEAP, QUEUE] {
         let pair = Pair::open(structure, 3);
         assert!(!is_unfit(&pair, |_| {}));
         assert!(is_unfit(&pair, |state| state.root.tag = 1));
@@ -92,6 +94,73 @@ fn heap_roots() {
     }
     for entries in [0, 256, u32::MAX] {
         assert!(is_unfit(&pair, |state| state.entries = entries));
+    }
+}
+
+/// With entries, height 1 and the next unused key less the entries.
+#[test]
+fn queue_roots() {
+    let pair = grown(QUEUE, 8, 40);
+    assert!(!is_unfit(&pair, |_| {}));
+    for (height, key) in [(0, 0), (2, 0), (1, 1), (1, 40), (1, u32::MAX)] {
+        assert!(is_unfit(&pair, |state| state.root = link(height, key, 0)));
+    }
+    assert!(is_unfit(&pair, |state| state.root.tag = 256));
+    assert!(!is_unfit(&pair, |state| state.root.tag = 255));
+    let unfit = |entries: u32, root: u32, next: u32| {
+        is_unfit(&pair, |state| {
+            (state.entries, state.root.key, state.ahead.key) = (entries, root, next);
+        })
+    };
+    for (entries, root, next) in [
+        (255, 0, 255),
+        (1, 0, 1),
+        (1, 39, 40),
+        (40, 1, 41),
+        (40, u32::MAX - 40, u32::MAX),
+        (1, u32::MAX - 1, u32::MAX),
+    ] {
+        assert!(!unfit(entries, root, next));
+        assert!(unfit(entries, root + 1, next));
+        assert!(unfit(entries, root, next - 1));
+    }
+    assert!(unfit(256, 0, 256), "too many entries");
+    assert!(unfit(0, 0, 40), "no entries, and a root");
+    // The next unused key less the entries is below 0.
+    assert!(unfit(40, 0, 39));
+    assert!(unfit(40, u32::MAX, 39));
+    assert!(unfit(40, u32::MAX - 39, 0));
+}
+
+/// Below 2^k, and 0 without entries; the next unused key is any then.
+#[test]
+fn tags_drawn_ahead() {
+    for size in 1..=GREATEST_SIZE {
+        let leaves = 1u16 << size;
+        let (some, none) = (grown(QUEUE, size, 1), Pair::open(QUEUE, size));
+        for tag in [0, 1, leaves - 1, leaves, leaves + 1, 65535] {
+            let unfit = |pair| is_unfit(pair, |state| state.ahead.tag = tag);
+            assert_eq!(unfit(&some), tag >= leaves);
+            assert_eq!(unfit(&none), tag != 0);
+        }
+        for key in [1, 255, 256, u32::MAX - 1, u32::MAX] {
+            assert!(!is_unfit(&none, |state| state.ahead.key = key));
+        }
+    }
+}
+
+/// Only a queue has a next unused key or a tag drawn ahead.
+#[test]
+fn nothing_ahead_of_other_structures() {
+    for structure in [MAP, STACK, HEAP] {
+        for calls in [0, 1, 3] {
+            let pair = grown(structure, 3, calls);
+            assert!(!is_unfit(&pair, |_| {}));
+            assert!(is_unfit(&pair, |state| state.ahead.tag = 1));
+            for key in [1, 3, u32::MAX] {
+                assert!(is_unfit(&pair, |state| state.ahead.key = key));
+            }
+        }
     }
 }
 
@@ -173,55 +242,80 @@ fn sixty_four_may_wait() {
     assert!(is_unfit(&pair, |state| state.places = all.clone()));
 }
 
+/// The order of check.
+const ORDER: [u8; 8] = [1, 2, 3, 4, 5, 17, 6, 7];
+
 /// Any of the causes at once: the first in order is returned.
 #[test]
 fn order_of_causes() {
     let mut random = seeded(31);
-    for _ in 0..4000 {
-        let structure = 1 + random.below(3) as u8;
+    for _ in 0..6000 {
+        let structure = 1 + random.below(4) as u8;
         let size = 1 + random.below(3) as u8;
-        let mut pair = grown(structure, size, 1);
-        let faults: Vec<bool> = (0..8).map(|_| random.one_in(4)).collect();
-        let rounds = fetch_rounds(structure, size);
-        if faults[1] {
-            let mark = [1, 3, 8, 9, 12, 255][random.index(6)];
-            pair.edit(|state, _| state.mark = mark);
+        let mut causes: Vec<u8> = ORDER.into_iter().filter(|_| random.one_in(4)).collect();
+        causes.retain(|&cause| cause != 17 || structure == QUEUE);
+        let mut pair = faulty_store(&mut random, structure, size, &causes);
+        let ticket = faulty_ticket(&mut random, structure, &causes);
+        let (mut numbers, leaves) = (
+            tape_length(structure, size),
+            2 * fetch_rounds(structure, size),
+        );
+        if causes.contains(&6) {
+            numbers = random.index(numbers);
         }
-        if faults[2] {
-            pair.edit(|state, _| state.places[100][0] = 1);
-        }
-        if faults[3] {
-            let lengths = [0, 128, tree_bytes(size) - 1, tree_bytes(size) + 1];
-            let length = lengths[random.index(4)];
-            pair.edit(|_, tree| tree.resize(length, 0));
-        }
-        let kind = match (structure, faults[5]) {
-            (MAP, false) => GET + random.below(3) as u8,
-            (STACK, false) => PUSH + random.below(2) as u8,
-            (_, false) => ADD + random.below(2) as u8,
-            (MAP, true) => [0, 4, 5, 6, 7, 255][random.index(6)],
-            (STACK, true) => [0, 1, 2, 3, 6, 7, 255][random.index(7)],
-            _ => [0, 1, 2, 3, 4, 5, 8, 255][random.index(8)],
+        let places = match causes.contains(&7) {
+            true => random.index(leaves),
+            false => leaves + 3,
         };
-        let mut ticket = Ticket::new(kind, 7, 8).bytes().to_vec();
-        if faults[4] {
-            ticket.resize([0, 1, 12, 14, 30][random.index(5)], 0);
-        }
-        let tape_length = if faults[6] {
-            random.index(2 * rounds + 1)
-        } else {
-            2 * rounds + 1
-        };
-        let trace_length = if faults[7] {
-            random.index(2 * rounds)
-        } else {
-            2 * rounds
-        };
-        let mut trace = vec![0xbeef; trace_length + 3 * usize::from(!faults[7])];
-        let outcome = pair.call_with(&ticket, &vec![1; tape_length], &mut trace);
-        match faults[1..].iter().position(|&fault| fault) {
-            Some(at) => assert_eq!(outcome, Outcome::refused(at as u8 + 1)),
-            None => assert_eq!(outcome.leaves, 2 * rounds),
+        let outcome = pair.call_with(&ticket, &vec![1; numbers], &mut vec![0xbeef; places]);
+        match causes.first() {
+            Some(&cause) => assert_eq!(outcome, Outcome::refused(cause)),
+            None => assert_eq!(outcome.leaves, leaves),
         }
     }
+}
+
+/// A store for the causes 1, 2, 3 and 17; its queue is empty, full or between.
+fn faulty_store(random: &mut Random, structure: u8, size: u8, causes: &[u8]) -> Pair {
+    let calls = match structure {
+        QUEUE => random.pick(&[0, 1, capacity(size)]),
+        _ => 1,
+    };
+    let mut pair = grown(structure, size, u64::from(calls));
+    if causes.contains(&17) {
+        move_keys(&mut pair, u32::MAX);
+    }
+    let mark = random.pick(&[1, 3, 8, 9, 12, 17, 255]);
+    let lengths = [0, 128, tree_bytes(size) - 1, tree_bytes(size) + 1];
+    let length = random.pick(&lengths);
+    pair.edit(|state, tree| {
+        if causes.contains(&1) {
+            state.mark = mark;
+        }
+        if causes.contains(&2) {
+            state.places[100][0] = 1;
+        }
+        if causes.contains(&3) {
+            tree.resize(length, 0);
+        }
+    });
+    pair
+}
+
+/// A ticket for the causes 4, 5 and 17.
+fn faulty_ticket(random: &mut Random, structure: u8, causes: &[u8]) -> Vec<u8> {
+    let kinds = [0, 1, 2, 3, 4, 5, 6, 7, 8, 9, 10, 255].into_iter();
+    let foreign = causes.contains(&5);
+    let kinds: Vec<u8> = kinds
+        .filter(|&kind| kind_fits(structure, kind) != foreign)
+        .collect();
+    let kind = match causes.contains(&17) && !foreign {
+        true => IN,
+        false => random.pick(&kinds),
+    };
+    let mut ticket = Ticket::new(kind, 7, 8).bytes().to_vec();
+    if causes.contains(&4) {
+        ticket.resize(random.pick(&[0, 1, 12, 14, 30]), 0);
+    }
+    ticket
 }

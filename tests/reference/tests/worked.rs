@@ -13,7 +13,7 @@ use std::io::Write;
 use std::process::{Command, Stdio};
 
 fn zero_tape(structure: u8, size: u8) -> Vec<u16> {
-    vec![0; 2 * fetch_rounds(structure, size) + 1]
+    vec![0; tape_length(structure, size)]
 }
 
 fn root_after(size: u8, tickets: &[Ticket]) -> (Pair, u32) {
@@ -476,16 +476,18 @@ fn openings() {
         assert_eq!(closed(MAP, size, 0), 12);
         assert_eq!(closed(STACK, size, 128 * 1023), 12);
         assert_eq!(closed(HEAP, size, 128), 12);
-        assert_eq!(closed(4, size, 128), 11);
+        assert_eq!(closed(QUEUE, size, 128 * 511), 12);
+        assert_eq!(closed(5, size, 128), 11);
     }
-    for structure in [0, 4, 255] {
+    for structure in [0, 5, 255] {
         assert_eq!(closed(structure, 2, tree_bytes(2)), 11);
     }
     assert_eq!(closed(MAP, 1, 0), 3);
     assert_eq!(closed(MAP, 1, 128 * 3 - 1), 3);
     assert_eq!(closed(STACK, 8, 128 * 511 + 1), 3);
     assert_eq!(closed(HEAP, 2, 128 * 8), 3);
-    for structure in [MAP, STACK, HEAP] {
+    assert_eq!(closed(QUEUE, 2, 128 * 3), 3);
+    for structure in [MAP, STACK, HEAP, QUEUE] {
         let good = Pair::open(structure, 8);
         assert_eq!(good.tree, vec![0; 128 * 511]);
         assert_eq!(
@@ -538,7 +540,8 @@ fn walk_program() {
 #[test]
 fn walk_program_refusals() {
     assert_eq!(walk_output(&[0, 2, 1, 2, 3]), "refused 11\n");
-    assert_eq!(walk_output(&[4, 0]), "refused 11\n");
+    assert_eq!(walk_output(&[5, 0]), "refused 11\n");
+    assert_eq!(walk_output(&[4, 0]), "refused 12\n");
     assert_eq!(walk_output(&[3, 0]), "refused 12\n");
     assert_eq!(walk_output(&[1, 0]), "refused 12\n");
     assert_eq!(walk_output(&[2, 9, 0]), "refused 12\n");

@@ -29,21 +29,22 @@ fn main() -> io::Result<()> {
     let mut state = fast::open(structure, size, &mut tree);
     assert_eq!(state.mark, 0, "a good opening");
     let leaves = 2 * fetch_rounds(structure, size);
+    let numbers = tape_length(structure, size);
     let mut trace = [0; MOST_LEAVES];
     let mut path = [0; LEVELS * BUCKET_BYTES];
     let mut sum = Checksum::START;
     match mode.as_deref() {
-        None => each_call(input, leaves, |ticket, tape| {
+        None => each_call(input, numbers, |ticket, tape| {
             let outcome = fast::call(&mut state, &mut tree, ticket, tape, &mut trace);
             sum.join_call(outcome, &trace);
         })?,
-        Some("floor") => each_call(input, leaves, |ticket, tape| {
+        Some("floor") => each_call(input, numbers, |ticket, tape| {
             for &leaf in &tape[..leaves] {
                 copy_path(&mut tree, &mut path, size, leaf);
             }
             join_read(&mut sum, ticket, &tape[..leaves]);
         })?,
-        Some("parse") => each_call(input, leaves, |ticket, tape| {
+        Some("parse") => each_call(input, numbers, |ticket, tape| {
             join_read(&mut sum, ticket, &tape[..leaves]);
         })?,
         Some(_) => panic!("floor, parse or nothing"),
@@ -55,10 +56,10 @@ fn main() -> io::Result<()> {
 /// Hands each call's ticket and tape on; the input is read in blocks.
 fn each_call(
     mut input: impl Read,
-    leaves: usize,
+    numbers: usize,
     mut make: impl FnMut(&[u8], &[u16]),
 ) -> io::Result<()> {
-    let length = TICKET_BYTES + 2 * (leaves + 1);
+    let length = TICKET_BYTES + 2 * numbers;
     let mut tape = [0; MOST_LEAVES + 1];
     let mut block = vec![0; BLOCK];
     let mut held = 0;
@@ -71,11 +72,11 @@ fn each_call(
         held += got;
         let whole = held - held % length;
         for call in block[..whole].chunks_exact(length) {
-            let (ticket, numbers) = call.split_at(TICKET_BYTES);
-            for (number, bytes) in tape.iter_mut().zip(numbers.chunks_exact(2)) {
+            let (ticket, rest) = call.split_at(TICKET_BYTES);
+            for (number, bytes) in tape.iter_mut().zip(rest.chunks_exact(2)) {
                 *number = u16::from_le_bytes([bytes[0], bytes[1]]);
             }
-            make(ticket, &tape[..=leaves]);
+            make(ticket, &tape[..numbers]);
         }
         block.copy_within(whole..held, 0);
         held -= whole;

@@ -5,8 +5,8 @@
 //!
 //! Tapes are uniform. The map's calls are get, put and remove alike, of half
 //! as many keys again as there is room for, so that it is three quarters full
-//! in the long run; the stack's are push and pop alike, so that it is half full.
-//! The heap's are the more often add the emptier it is, so that it is about five
+//! in the long run; the stack's are push and pop alike, and the queue's in and
+//! out, so that they are half full. The heap's are the more often add the emptier it is, so that it is about five
 //! eighths full. With `full` for STRUCTURE a map is filled, and from then on all
 //! calls put keys that it holds.
 
@@ -44,18 +44,21 @@ fn generate(
     calls: u64,
     next: Next,
 ) -> (Vec<u8>, Vec<u8>) {
-    let rounds = fetch_rounds(structure, size);
+    let (leaves, numbers) = (
+        2 * fetch_rounds(structure, size),
+        tape_length(structure, size),
+    );
     let mut tree = vec![0; tree_bytes(size)];
     let mut state = fast::open(structure, size, &mut tree);
-    assert_eq!(state.mark, 0, "structure 1 to 3, size 1 to 8");
+    assert_eq!(state.mark, 0, "structure 1 to 4, size 1 to 8");
     let (mut with_tapes, mut with_leaves) = (vec![structure, size], vec![structure, size]);
-    // A tape, and a trace with room for one more number, so that both have 2F + 1.
-    let (mut tape, mut trace) = (vec![0; 2 * rounds + 1], vec![0; 2 * rounds + 1]);
+    // A tape, and a trace with room for as many numbers, more than it needs.
+    let (mut tape, mut trace) = (vec![0; numbers], vec![0; numbers]);
     for _ in 0..calls {
         let ticket = next(random, structure, size, state.entries);
         tape.fill_with(|| random.next() as u16);
         let outcome = fast::call(&mut state, &mut tree, &ticket.bytes(), &tape, &mut trace);
-        assert_eq!(outcome.leaves, 2 * rounds, "an overflow: take another seed");
+        assert_eq!(outcome.leaves, leaves, "an overflow: take another seed");
         with_tapes.extend(call_bytes(ticket, &tape));
         with_leaves.extend(call_bytes(ticket, &trace));
     }
@@ -77,6 +80,7 @@ fn any_call(random: &mut Random, structure: u8, size: u8, entries: u32) -> Ticke
     let kind = match structure {
         MAP => random.pick(&[GET, PUT, REMOVE]),
         STACK => random.pick(&[PUSH, POP]),
+        QUEUE => random.pick(&[IN, OUT]),
         _ if 4 * u64::from(entries) <= random.below(5 * room) => ADD,
         _ => TAKE,
     };

@@ -1,11 +1,11 @@
 //! Random inputs for the walk program: `inputs DIRECTORY SEED COUNT` writes,
 //! for each of COUNT seeds from SEED on, the input to DIRECTORY/SEED.input and
-//! what the walk program over `plain` prints for it to DIRECTORY/SEED.output.
-//! Then it prints how often the calls met each branch, a line a branch: the
+//! what the walk program over `plain` prints for it to DIRECTORY/SEED.output;
+//! `fast` must print the same. Then it prints how often the calls met each branch, a line a branch: the
 //! count, the group, a colon and the name.
 
 use reference::plain::BRANCHES;
-use reference::{inputs, plain, walk};
+use reference::{fast, inputs, plain, walk};
 use std::{env, fs, io};
 
 fn main() -> io::Result<()> {
@@ -30,6 +30,9 @@ fn main() -> io::Result<()> {
                 outcome
             },
         )?;
+        let mut again = vec![];
+        walk::run::<fast::State>(&input[..], &mut again)?;
+        assert!(again == output, "the builds differ: seed {seed}");
         fs::write(format!("{directory}/{seed}.input"), input)?;
         fs::write(format!("{directory}/{seed}.output"), output)?;
     }

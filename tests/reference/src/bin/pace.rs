@@ -25,20 +25,19 @@ fn main() {
 const BATCH: usize = 256;
 
 fn pace<S: Store>(structure: u8, size: u8) -> f64 {
-    let rounds = fetch_rounds(structure, size);
+    let numbers = tape_length(structure, size);
     let mut tree = vec![0; tree_bytes(size)];
     let mut store = S::open(structure, size, &mut tree);
-    let mut trace = vec![0; 2 * rounds];
+    let mut trace = vec![0; 2 * fetch_rounds(structure, size)];
     let mut random = Random::new(1);
     let (mut batches, mut spent) = (0, Duration::ZERO);
     while spent < Duration::from_millis(200) {
-        let numbers = BATCH * (2 * rounds + 1);
-        let tapes: Vec<u16> = (0..numbers).map(|_| random.next() as u16).collect();
+        let tapes: Vec<u16> = (0..BATCH * numbers).map(|_| random.next() as u16).collect();
         let tickets: Vec<_> = (0..BATCH)
             .map(|_| ticket(&mut random, structure, size).bytes())
             .collect();
         let start = Instant::now();
-        for (ticket, tape) in tickets.iter().zip(tapes.chunks(2 * rounds + 1)) {
+        for (ticket, tape) in tickets.iter().zip(tapes.chunks(numbers)) {
             let outcome = store.call(&mut tree, ticket, tape, &mut trace);
             assert!(!matches!(outcome.answer, Answer::Refused(1..=9)));
         }
@@ -53,7 +52,8 @@ fn ticket(random: &mut Random, structure: u8, size: u8) -> Ticket {
     let kind = match structure {
         MAP => GET + (draw % 3) as u8,
         STACK => PUSH + (draw % 2) as u8,
-        _ => ADD + (draw % 2) as u8,
+        HEAP => ADD + (draw % 2) as u8,
+        _ => IN + (draw % 2) as u8,
     };
     Ticket::new(kind, (draw >> 8) as u32 % (2 << size), draw)
 }

@@ -4,7 +4,7 @@
 //! `rounds stack 2 'push 50 : 1 2 3' 'pop : 0 1 1'`
 //!
 //! The map's calls are `get K`, `put K V` and `remove K`, the heap's `add V`
-//! and `take`. After the colon comes the tape; one with too few numbers is
+//! and `take`, the queue's `in V` and `out`. After the colon comes the tape; one with too few numbers is
 //! repeated from its start, and none at all is all 0. A first word `last`
 //! prints the slots only at the end.
 
@@ -18,19 +18,18 @@ fn main() {
         words.remove(0);
     }
     let [structure, size, calls @ ..] = words.as_slice() else {
-        eprintln!("usage: rounds [last] map|stack|heap SIZE 'CALL : TAPE' ...");
+        eprintln!("usage: rounds [last] map|stack|heap|queue SIZE 'CALL : TAPE' ...");
         std::process::exit(2);
     };
     let known = STRUCTURES.iter().position(|name| name == structure);
-    let structure = 1 + known.expect("map, stack or heap") as u8;
+    let structure = 1 + known.expect("map, stack, heap or queue") as u8;
     let size: u8 = size.parse().expect("a size");
     assert!((1..=GREATEST_SIZE).contains(&size), "a size from 1 to 8");
     let mut tree = vec![0; tree_bytes(size)];
     let mut state = plain::open(structure, size, &mut tree);
     for (at, call) in calls.iter().enumerate() {
-        let rounds = fetch_rounds(structure, size);
-        let (ticket, tape) = read_call(call, 2 * rounds + 1);
-        let mut trace = vec![0; 2 * rounds];
+        let (ticket, tape) = read_call(call, tape_length(structure, size));
+        let mut trace = vec![0; 2 * fetch_rounds(structure, size)];
         let outcome = plain::call(&mut state, &mut tree, &ticket, &tape, &mut trace);
         println!("{call}\n  {}", walk::line(outcome, &trace));
         if !only_last || at + 1 == calls.len() {
@@ -76,6 +75,8 @@ fn read_ticket(words: &str) -> Ticket {
         ["pop"] => Ticket::new(POP, 0, 0),
         ["add", value] => Ticket::new(ADD, 0, number(value)),
         ["take"] => Ticket::new(TAKE, 0, 0),
+        ["in", value] => Ticket::new(IN, 0, number(value)),
+        ["out"] => Ticket::new(OUT, 0, 0),
         _ => panic!("no such call: {words:?}"),
     }
 }

@@ -22,7 +22,7 @@ pub fn call(rounds: &mut Rounds, ticket: Ticket) -> Result<Answer, u8> {
         ADD => add(rounds, fetches, ticket.value)?,
         _ => take(rounds, fetches)?,
     };
-    rounds.put_rounds(fetches)?;
+    rounds.put_rounds(fetches + 1, fetches)?;
     Ok(answer)
 }
 

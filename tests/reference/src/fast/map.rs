@@ -74,7 +74,8 @@ pub fn call(rounds: &mut Rounds, ticket: Ticket) -> Result<Answer, u8> {
             }
         }
     };
-    rounds.put_rounds(walk.rounds(rounds))?;
+    let fetches = walk.rounds(rounds);
+    rounds.put_rounds(fetches + 1, fetches)?;
     Ok(answer)
 }
 

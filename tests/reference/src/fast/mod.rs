@@ -4,6 +4,7 @@ mod heap;
 mod map;
 mod node;
 mod path;
+mod queue;
 mod read_out;
 mod rounds;
 mod stack;
@@ -34,7 +35,8 @@ pub fn call(
     let result = match structure {
         MAP => map::call(&mut rounds, ticket),
         STACK => stack::call(&mut rounds, ticket),
-        _ => heap::call(&mut rounds, ticket),
+        HEAP => heap::call(&mut rounds, ticket),
+        _ => queue::call(&mut rounds, ticket),
     };
     rounds.end();
     let leaves = rounds.leaves;
@@ -45,7 +47,7 @@ pub fn call(
     Outcome { answer, leaves }
 }
 
-/// The causes 1 to 7, in order.
+/// The causes 1 to 5, 17, 6 and 7, in order.
 fn check(state: &State, tree: usize, ticket: &[u8], tape: usize, trace: usize) -> Result<(), u8> {
     let unless = |holds: bool, cause: u8| if holds { Ok(()) } else { Err(cause) };
     unless(state.mark == 0, CLOSED)?;
@@ -53,8 +55,13 @@ fn check(state: &State, tree: usize, ticket: &[u8], tape: usize, trace: usize) -
     unless(tree == tree_bytes(state.size), TREE_LENGTH)?;
     unless(ticket.len() == TICKET_BYTES, TICKET_LENGTH)?;
     unless(kind_fits(state.structure, ticket[0]), FOREIGN_KIND)?;
+    let keys_used_up = ticket[0] == IN && state.ahead.key == u32::MAX;
+    unless(!keys_used_up, KEYS_USED_UP)?;
     let rounds = fetch_rounds(state.structure, state.size);
-    unless(tape > 2 * rounds, TAPE_SHORT)?;
+    unless(
+        tape >= 2 * rounds + spare_draws(state.structure),
+        TAPE_SHORT,
+    )?;
     unless(trace >= 2 * rounds, TRACE_SHORT)
 }
 
@@ -78,6 +85,7 @@ impl Store for State {
             size: self.size,
             entries: self.entries,
             root: self.root,
+            ahead: self.ahead,
             count: self.count,
             places: self.places.iter().map(Node::slot).collect(),
         }
@@ -94,6 +102,7 @@ impl Store for State {
             size: state.size,
             entries: state.entries,
             root: state.root,
+            ahead: state.ahead,
             count: state.count,
             places,
         }

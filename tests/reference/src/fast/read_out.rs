@@ -25,7 +25,7 @@ pub fn read_out(state: &State, tree: &[u8], output: &mut [u8]) -> Result<usize, 
 fn check(state: &State, tree: usize) -> Result<(), u8> {
     let unless = |holds: bool, cause: u8| if holds { Ok(()) } else { Err(cause) };
     unless(matches!(state.mark, DAMAGE | OVERFLOW), NOT_CLOSED)?;
-    let known = matches!(state.structure, MAP..=HEAP) && matches!(state.size, 1..=GREATEST_SIZE);
+    let known = matches!(state.structure, MAP..=QUEUE) && matches!(state.size, 1..=GREATEST_SIZE);
     unless(known && state.count <= PLACES, STATE_UNFIT)?;
     unless(tree == tree_bytes(state.size), TREE_LENGTH)
 }

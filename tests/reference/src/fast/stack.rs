@@ -11,7 +11,7 @@ pub fn call(rounds: &mut Rounds, ticket: Ticket) -> Result<Answer, u8> {
         PUSH => push(rounds, ticket.value)?,
         _ => pop(rounds)?,
     };
-    rounds.put_rounds(ROUNDS)?;
+    rounds.put_rounds(ROUNDS + 1, ROUNDS)?;
     Ok(answer)
 }
 

@@ -10,6 +10,7 @@ pub struct State {
     pub size: u8,
     pub entries: u32,
     pub root: Link,
+    pub ahead: Ahead,
     pub count: usize,
     pub places: [Node; PLACES],
 }
@@ -21,16 +22,18 @@ impl State {
         size: 0,
         entries: 0,
         root: Link::NONE,
+        ahead: Ahead::NONE,
         count: 0,
         places: [Node::EMPTY; PLACES],
     };
 
     pub fn is_fit(&self) -> bool {
-        matches!(self.structure, MAP..=HEAP)
+        matches!(self.structure, MAP..=QUEUE)
             && matches!(self.size, 1..=GREATEST_SIZE)
             && self.entries < 1 << self.size
             && self.count <= WAITING_LIMIT
             && self.root_is_fit()
+            && self.ahead_is_fit()
             && self.waiting_is_fit()
     }
 
@@ -56,9 +59,21 @@ impl State {
                 LEAST_ENTRIES[usize::from(height)] <= self.entries && self.entries < 1 << height
             }
             STACK => self.root.height == 1 && self.root.key == self.entries,
-            _ => self.root.height == 1 && self.root.key == 1,
+            HEAP => self.root.height == 1 && self.root.key == 1,
+            _ => {
+                let next = u64::from(self.root.key) + u64::from(self.entries);
+                self.root.height == 1 && next == u64::from(self.ahead.key)
+            }
         };
         shape_is_fit && self.root.tag >> self.size == 0
+    }
+
+    fn ahead_is_fit(&self) -> bool {
+        let leaf_bits = match (self.structure, self.entries) {
+            (QUEUE, 1..) => self.size,
+            _ => 0,
+        };
+        self.ahead.tag >> leaf_bits == 0 && (self.structure == QUEUE || self.ahead.key == 0)
     }
 }
 
@@ -67,9 +82,9 @@ const LEAST_ENTRIES: [u32; 14] = [0, 1, 2, 4, 7, 12, 20, 33, 54, 88, 143, 232, 3
 
 pub fn open(structure: u8, size: u8, tree: &mut [u8]) -> State {
     let mark = match (structure, size) {
-        (MAP..=HEAP, 1..=GREATEST_SIZE) if tree.len() == tree_bytes(size) => 0,
-        (MAP..=HEAP, 1..=GREATEST_SIZE) => TREE_LENGTH,
-        (MAP..=HEAP, _) => BAD_SIZE,
+        (MAP..=QUEUE, 1..=GREATEST_SIZE) if tree.len() == tree_bytes(size) => 0,
+        (MAP..=QUEUE, 1..=GREATEST_SIZE) => TREE_LENGTH,
+        (MAP..=QUEUE, _) => BAD_SIZE,
         _ => BAD_STRUCTURE,
     };
     if mark != 0 {

@@ -1,5 +1,5 @@
-//! What the steps of a heap and of a put can meet, for the random runs to
-//! count.
+//! What the steps of a heap and of a put and the calls of a queue can meet, for
+//! the random runs to count.
 
 use Branch::*;
 
@@ -34,12 +34,23 @@ pub enum Branch {
     FullReplacesRoot,
     FullReplacesBelow,
     FullReplacesInSizeOne,
+    InToFresh,
+    InAfterEmptied,
+    InBehindOthers,
+    InToFull,
+    OutOfFresh,
+    OutOfEmptied,
+    OutOfLast,
+    OutBeforeOthers,
+    OverflowInFetch,
+    OverflowInPut,
 }
 
 /// The branches in groups, all with their names.
-pub const BRANCHES: [(&str, &[(Branch, &str)]); 2] = [
+pub const BRANCHES: [(&str, &[(Branch, &str)]); 3] = [
     ("branches of the heap", &OF_THE_HEAP),
     ("branches of a put", &OF_A_PUT),
+    ("branches of the queue", &OF_THE_QUEUE),
 ];
 
 const OF_THE_HEAP: [(Branch, &str); 20] = [
@@ -75,4 +86,17 @@ const OF_A_PUT: [(Branch, &str); 9] = [
     (FullReplacesRoot, "replaced on a full map at the root"),
     (FullReplacesBelow, "replaced on a full map below the root"),
     (FullReplacesInSizeOne, "replaced on a full map of size 1"),
+];
+
+const OF_THE_QUEUE: [(Branch, &str); 10] = [
+    (InToFresh, "in on a fresh queue"),
+    (InAfterEmptied, "in on an emptied queue"),
+    (InBehindOthers, "in behind others"),
+    (InToFull, "in on a full queue"),
+    (OutOfFresh, "out on a fresh queue"),
+    (OutOfEmptied, "out on an emptied queue"),
+    (OutOfLast, "out of the last one"),
+    (OutBeforeOthers, "out with others left"),
+    (OverflowInFetch, "overflow in a fetch round"),
+    (OverflowInPut, "overflow in a put round"),
 ];

@@ -87,6 +87,7 @@ impl<'a> Heap<'a> {
         Done {
             entries: self.entries,
             root: self.root,
+            ahead: Ahead::NONE,
             nodes: self.nodes.into_values().collect(),
             answer,
             branches: self.branches,

@@ -45,6 +45,7 @@ pub fn step(run: &Run, ticket: Ticket) -> Result<Done, Way> {
     Ok(Done {
         entries,
         root,
+        ahead: Ahead::NONE,
         nodes: walk.nodes,
         answer: walk.answer,
         branches,

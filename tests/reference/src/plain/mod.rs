@@ -3,6 +3,7 @@
 mod branch;
 mod heap;
 mod map;
+mod queue;
 mod read_out;
 mod round;
 mod slot;
@@ -28,7 +29,7 @@ pub fn call(
     call_with_branches(state, tree, ticket, tape, trace).0
 }
 
-/// A call, and what a put's or a heap's step met in it.
+/// A call, and what a put, a heap or a queue met in it.
 pub fn call_with_branches(
     state: &mut State,
     tree: &mut [u8],
@@ -44,6 +45,7 @@ pub fn call_with_branches(
         size: state.size,
         entries: state.entries,
         root: state.root,
+        ahead: state.ahead,
         waiting: state.waiting(),
         held: vec![],
         tree,
@@ -57,6 +59,7 @@ pub fn call_with_branches(
     run.wait(held);
     state.entries = run.entries;
     state.root = run.root;
+    state.ahead = run.ahead;
     state.set_waiting(&run.waiting);
     let answer = result.unwrap_or_else(|cause| {
         state.mark = cause;
@@ -66,7 +69,7 @@ pub fn call_with_branches(
     (Outcome { answer, leaves }, run.branches)
 }
 
-/// The first of the causes 1 to 7 that holds.
+/// The first of the causes 1 to 5, 17, 6 and 7 that holds.
 fn refusal(state: &State, tree: &[u8], ticket: &[u8], tape: &[u16], trace: &[u16]) -> Option<u8> {
     if state.mark != 0 {
         return Some(CLOSED);
@@ -83,11 +86,13 @@ fn refusal(state: &State, tree: &[u8], ticket: &[u8], tape: &[u16], trace: &[u16
     if !kind_fits(state.structure, ticket[0]) {
         return Some(FOREIGN_KIND);
     }
-    let rounds = fetch_rounds(state.structure, state.size);
-    if tape.len() < 2 * rounds + 1 {
+    if ticket[0] == IN && state.ahead.key == u32::MAX {
+        return Some(KEYS_USED_UP);
+    }
+    if tape.len() < tape_length(state.structure, state.size) {
         return Some(TAPE_SHORT);
     }
-    if trace.len() < 2 * rounds {
+    if trace.len() < 2 * fetch_rounds(state.structure, state.size) {
         return Some(TRACE_SHORT);
     }
     None

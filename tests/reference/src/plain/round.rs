@@ -1,7 +1,7 @@
 //! Rounds over the tree and the waiting nodes.
 
 use super::slot::{passes, path, read_slot, write_slot, Node, Reading, Side};
-use super::{heap, map, stack, Branch};
+use super::{heap, map, queue, stack, Branch};
 use crate::paper::*;
 
 /// The turns from the root to a node, as the store stood before the step.
@@ -18,10 +18,11 @@ pub struct Held {
 pub struct Done {
     pub entries: u32,
     pub root: Link,
+    pub ahead: Ahead,
     /// The held nodes as changed, a new one among them, a removed one not.
     pub nodes: Vec<Node>,
     pub answer: Answer,
-    /// Of a put and of a heap alone.
+    /// Of a put, a heap and a queue alone.
     pub branches: Vec<Branch>,
 }
 
@@ -31,6 +32,7 @@ impl Done {
         Done {
             entries: run.entries,
             root: run.root,
+            ahead: run.ahead,
             nodes: run.held.iter().map(|held| held.node).collect(),
             answer,
             branches: vec![],
@@ -44,13 +46,14 @@ pub struct Run<'a> {
     pub size: u8,
     pub entries: u32,
     pub root: Link,
+    pub ahead: Ahead,
     pub waiting: Vec<Node>,
     pub held: Vec<Held>,
     pub tree: &'a mut [u8],
     pub tape: &'a [u16],
     pub trace: &'a mut [u16],
     pub leaves: usize,
-    /// What the step met.
+    /// What the step met, and a queue's overflow.
     pub branches: Vec<Branch>,
 }
 
@@ -67,11 +70,13 @@ impl Run<'_> {
             .unwrap_or_else(|_| panic!("F fetch rounds are enough"));
         self.entries = done.entries;
         self.root = done.root;
+        self.ahead = done.ahead;
         self.branches = done.branches;
         self.held.clear();
         self.wait(done.nodes);
+        let first = first_put_draw(self.structure, self.size);
         for round in 0..rounds {
-            self.put_round(rounds + 1 + round)?;
+            self.put_round(first + round)?;
         }
         Ok(done.answer)
     }
@@ -81,7 +86,8 @@ impl Run<'_> {
         match self.structure {
             MAP => map::step(self, ticket),
             STACK => stack::step(self, ticket),
-            _ => heap::step(self, ticket),
+            HEAP => heap::step(self, ticket),
+            _ => queue::step(self, ticket),
         }
     }
 
@@ -156,7 +162,8 @@ impl Run<'_> {
             && match self.structure {
                 MAP => map::is_sound(node, link) && self.is_between(way, node.key),
                 STACK => stack::is_sound(node),
-                _ => heap::is_sound(node, self.entries),
+                HEAP => heap::is_sound(node, self.entries),
+                _ => queue::is_sound(node),
             }
     }
 
@@ -212,11 +219,17 @@ impl Run<'_> {
         self.waiting = pool;
     }
 
-    fn close_round(&self) -> Result<(), u8> {
-        if self.waiting.len() + self.held.len() > WAITING_LIMIT {
-            return Err(OVERFLOW);
+    fn close_round(&mut self) -> Result<(), u8> {
+        if self.waiting.len() + self.held.len() <= WAITING_LIMIT {
+            return Ok(());
         }
-        Ok(())
+        if self.structure == QUEUE {
+            self.branches.push(match self.leaves {
+                1 => Branch::OverflowInFetch,
+                _ => Branch::OverflowInPut,
+            });
+        }
+        Err(OVERFLOW)
     }
 
     /// More nodes wait; one whose key waits already stands second.

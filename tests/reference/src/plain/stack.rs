@@ -36,6 +36,7 @@ fn push(run: &Run, value: u64) -> Done {
     Done {
         entries: key,
         root: top.link_here_in_stack(),
+        ahead: Ahead::NONE,
         nodes: vec![top],
         answer: Answer::Pushed,
         branches: vec![],
@@ -50,6 +51,7 @@ fn pop(run: &Run) -> Result<Done, Way> {
     Ok(Done {
         entries: run.entries - 1,
         root: top.left,
+        ahead: Ahead::NONE,
         nodes: vec![],
         answer: Answer::Popped(top.value),
         branches: vec![],

@@ -11,6 +11,7 @@ pub struct State {
     pub size: u8,
     pub entries: u32,
     pub root: Link,
+    pub ahead: Ahead,
     /// How many of the places are in use.
     pub count: usize,
     pub places: Vec<Slot>,
@@ -24,6 +25,7 @@ impl State {
             size: 0,
             entries: 0,
             root: Link::NONE,
+            ahead: Ahead::NONE,
             count: 0,
             places: vec![[0; SLOT_BYTES]; PLACES],
         }
@@ -52,6 +54,7 @@ impl State {
             && self.entries <= capacity(self.size)
             && self.places_are_fit()
             && self.root_is_fit()
+            && self.ahead_is_fit()
     }
 
     fn places_are_fit(&self) -> bool {
@@ -74,8 +77,20 @@ impl State {
             && match self.structure {
                 MAP => height_possible(self.root.height, self.entries),
                 STACK => self.root.height == 1 && self.root.key == self.entries,
-                _ => self.root.height == 1 && self.root.key == 1,
+                HEAP => self.root.height == 1 && self.root.key == 1,
+                _ => {
+                    let oldest = self.ahead.key.checked_sub(self.entries);
+                    self.root.height == 1 && Some(self.root.key) == oldest
+                }
             }
+    }
+
+    fn ahead_is_fit(&self) -> bool {
+        match self.structure {
+            QUEUE if self.entries == 0 => self.ahead.tag == 0,
+            QUEUE => usize::from(self.ahead.tag) < leaf_count(self.size),
+            _ => self.ahead == Ahead::NONE,
+        }
     }
 }
 

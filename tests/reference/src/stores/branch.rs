@@ -45,7 +45,7 @@ const OF_CAUSES: [&str; 25] = [
     "mark 12",
     "mark 255",
     "structure 0",
-    "structure 4",
+    "structure 5",
     "structure 255",
     "size 0",
     "size 9",
@@ -63,13 +63,15 @@ const OF_CAUSES: [&str; 25] = [
     "no buffer",
 ];
 
-const OF_STORES: [&str; 25] = [
+const OF_STORES: [&str; 29] = [
     "map closed by 8",
     "map closed by 9",
     "stack closed by 8",
     "stack closed by 9",
     "heap closed by 8",
     "heap closed by 9",
+    "queue closed by 8",
+    "queue closed by 9",
     "size 1",
     "size 2",
     "size 3",
@@ -86,6 +88,8 @@ const OF_STORES: [&str; 25] = [
     "every place full",
     "entries beyond the size",
     "root link unfit",
+    "tag drawn ahead unfit",
+    "next unused key of no queue",
     "waiting keys not ascending",
     "nonzero place beyond the count",
     "good node beyond the count",
@@ -362,11 +366,6 @@ fn of_store(trial: &Trial, spots: &[Spot]) -> impl Iterator<Item = String> {
             beyond.is_empty() && spots.iter().all(Spot::is_node),
             "every place full",
         ),
-        (
-            state.entries > capacity(state.size),
-            "entries beyond the size",
-        ),
-        (state.root.tag >> state.size != 0, "root link unfit"),
         (!keys.is_sorted(), "waiting keys not ascending"),
         (
             beyond.concat().iter().any(|&byte| byte != 0),
@@ -374,10 +373,28 @@ fn of_store(trial: &Trial, spots: &[Spot]) -> impl Iterator<Item = String> {
         ),
         (beyond.iter().any(is_node), "good node beyond the count"),
     ];
-    let facts = facts.into_iter().filter(|(holds, _)| *holds);
+    let facts = facts.into_iter().chain(head_facts(state));
+    let facts = facts.filter(|(holds, _)| *holds);
     names
         .into_iter()
         .chain(facts.map(|(_, name)| name.to_string()))
+}
+
+/// What a call would find unfit, and a read-out does not ask about.
+fn head_facts(state: &State) -> [(bool, &'static str); 4] {
+    let State { root, ahead, .. } = state;
+    [
+        (
+            state.entries > capacity(state.size),
+            "entries beyond the size",
+        ),
+        (root.tag >> state.size != 0, "root link unfit"),
+        (ahead.tag >> state.size != 0, "tag drawn ahead unfit"),
+        (
+            state.structure != QUEUE && ahead.key != 0,
+            "next unused key of no queue",
+        ),
+    ]
 }
 
 fn of_file(record: &Record, spots: &[Spot], length: usize) -> impl Iterator<Item = &'static str> {

@@ -27,7 +27,7 @@ const OF_TREE: [Spoil; 5] = [
     spoil_tag,
 ];
 
-const EDITS: [Edit; 16] = [
+const EDITS: [Edit; 17] = [
     |random, store| tree(random, &store.state, &mut store.tree),
     |random, store| tree(random, &store.state, &mut store.tree),
     off_path,
@@ -42,8 +42,9 @@ const EDITS: [Edit; 16] = [
     swap_waiting,
     entries,
     root,
+    ahead,
     resize,
-    |random, store| store.state.structure = random.pick(&[MAP, STACK, HEAP]),
+    |random, store| store.state.structure = random.pick(&[MAP, STACK, HEAP, QUEUE]),
 ];
 
 const REFUSALS: [Edit; 7] = [
@@ -307,6 +308,14 @@ fn root(random: &mut Random, store: &mut Closed) {
     };
 }
 
+/// Also of a structure that has none.
+fn ahead(random: &mut Random, store: &mut Closed) {
+    store.state.ahead = Ahead {
+        key: key(random),
+        tag: random.next() as u16 >> random.below(17).min(15),
+    };
+}
+
 /// Another size, with the start of the same tree.
 fn resize(random: &mut Random, store: &mut Closed) {
     store.state.size = 1 + random.below(8) as u8;
@@ -322,7 +331,7 @@ fn mark(random: &mut Random, store: &mut Closed) {
 
 fn structure(random: &mut Random, store: &mut Closed) {
     let any = random.next() as u8;
-    store.state.structure = random.pick(&[0, 4, 255, any]);
+    store.state.structure = random.pick(&[0, 5, 255, any]);
 }
 
 fn size(random: &mut Random, store: &mut Closed) {

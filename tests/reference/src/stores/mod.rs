@@ -32,9 +32,9 @@ pub struct Trial {
 /// The store of a seed, and an output buffer for it.
 pub fn trial(seed: u64) -> Trial {
     let mut random = Random::new(seed);
-    let structure = [MAP, STACK, HEAP][(seed % 3) as usize];
-    let size = 1 + (seed / 3 % 8) as u8;
-    let (mut store, mut as_left) = match seed / 24 % 6 {
+    let structure = [MAP, STACK, HEAP, QUEUE][(seed % 4) as usize];
+    let size = 1 + (seed / 4 % 8) as u8;
+    let (mut store, mut as_left) = match seed / 32 % 6 {
         0 => (
             origin::overflowed(&mut random, structure, 7 + size % 2),
             true,

@@ -39,19 +39,22 @@ impl Calls<'_> {
             structure, size, ..
         } = self.state;
         let rounds = fetch_rounds(structure, size);
+        let spare = rounds..first_put_draw(structure, size);
         let adds = self.random.below(10) < self.growth;
         let kind = match (structure, adds) {
             (MAP, true) => PUT,
             (MAP, false) => self.random.pick(&[GET, REMOVE]),
             (STACK, true) => PUSH,
             (STACK, false) => POP,
-            (_, true) => ADD,
-            (_, false) => TAKE,
+            (HEAP, true) => ADD,
+            (HEAP, false) => TAKE,
+            (_, true) => IN,
+            (_, false) => OUT,
         };
         let key = self.random.below(u64::from(capacity(size)) * 3 / 2 + 2) as u32;
         let ticket = Ticket::new(kind, key, self.random.next() >> self.random.below(64));
-        let tape: Vec<u16> = (0..=2 * rounds)
-            .map(|at| self.number(at == rounds))
+        let tape: Vec<u16> = (0..tape_length(structure, size))
+            .map(|at| self.number(spare.contains(&at)))
             .collect();
         let mut trace = vec![0; 2 * rounds];
         fast::call(

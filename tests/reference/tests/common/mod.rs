@@ -1,8 +1,9 @@
-//! What the tests share: a generator, and both stores side by side.
+//! What the tests share: a generator, both stores side by side, and stores put
+//! together by hand.
 #![allow(dead_code)]
 
 use reference::paper::*;
-use reference::plain::{self, Node, Reading};
+use reference::plain::{self, write_slot, Node, Reading};
 pub use reference::random::Random;
 use reference::{fast, listing, Store};
 use std::collections::BTreeMap;
@@ -124,7 +125,7 @@ impl Pair {
     ) {
         assert!(trace[outcome.leaves..] == before.2[outcome.leaves..]);
         match outcome.answer {
-            Answer::Refused(cause @ 1..=7) => {
+            Answer::Refused(cause @ (1..=7 | 17)) => {
                 assert_eq!(outcome.leaves, 0, "{cause}");
                 assert!(
                     (&self.plain, &self.tree) == (&before.0, &before.1),
@@ -194,7 +195,8 @@ impl Pair {
                 nodes.len()
             ),
             STACK => audit_stack(&nodes, self.plain.root),
-            _ => audit_heap(&nodes, self.plain.root),
+            HEAP => audit_heap(&nodes, self.plain.root),
+            _ => audit_queue(&nodes, self.plain.root, self.plain.ahead),
         }
     }
 }
@@ -246,6 +248,97 @@ fn audit_heap(nodes: &BTreeMap<u32, Node>, root: Link) {
     }
 }
 
+/// The keys run up to the next unused one, and the newest one's left link is the
+/// link to the next node.
+fn audit_queue(nodes: &BTreeMap<u32, Node>, mut link: Link, ahead: Ahead) {
+    if nodes.is_empty() {
+        assert_eq!((link, ahead.tag), (Link::NONE, 0));
+        return;
+    }
+    for key in ahead.key - nodes.len() as u32..ahead.key {
+        let node = nodes[&key];
+        assert_eq!(link, self::link(1, key, node.tag));
+        assert_eq!(node.right, Link::NONE);
+        link = node.left;
+    }
+    assert_eq!(link, ahead.link());
+}
+
+pub fn link(height: u8, key: u32, tag: u16) -> Link {
+    Link { height, key, tag }
+}
+
+pub fn node(key: u32, tag: u16, left: Link, right: Link) -> Node {
+    Node {
+        key,
+        tag,
+        value: u64::from(key) * 10,
+        left,
+        right,
+    }
+}
+
+pub fn leaf_node(key: u32, tag: u16) -> Node {
+    node(key, tag, Link::NONE, Link::NONE)
+}
+
+/// Writes a node into a slot of a bucket.
+pub fn place(tree: &mut [u8], bucket: usize, slot: usize, node: Node) {
+    let start = BUCKET_BYTES * (bucket - 1) + SLOT_BYTES * slot;
+    tree[start..start + SLOT_BYTES].copy_from_slice(&write_slot(&node));
+}
+
+/// A store with this root and entries, and nodes as (bucket, slot, node).
+pub fn store(
+    structure: u8,
+    size: u8,
+    entries: u32,
+    root: Link,
+    nodes: &[(usize, usize, Node)],
+) -> Pair {
+    let mut pair = Pair::open(structure, size);
+    pair.edit(|state, tree| {
+        state.entries = entries;
+        state.root = root;
+        for &(bucket, slot, node) in nodes {
+            place(tree, bucket, slot, node);
+        }
+    });
+    pair
+}
+
+pub fn used_nodes(pair: &Pair) -> Vec<(usize, Node)> {
+    listing::used_slots(&pair.tree, pair.plain.size)
+        .into_iter()
+        .map(|(offset, reading)| match reading {
+            Reading::Node(node) => (offset, node),
+            _ => panic!("bad slot at {offset}"),
+        })
+        .collect()
+}
+
+/// Moves the keys of a queue's nodes, so that this is the next unused one.
+pub fn move_keys(pair: &mut Pair, next: u32) {
+    let by = next.wrapping_sub(pair.plain.ahead.key);
+    let moved = |key: &mut [u8]| {
+        let old = u32::from_le_bytes(key.try_into().unwrap());
+        key.copy_from_slice(&old.wrapping_add(by).to_le_bytes());
+    };
+    pair.edit(|state, tree| {
+        let places = state.places.iter_mut().map(|place| &mut place[..]);
+        for slot in places.chain(tree.chunks_mut(SLOT_BYTES)) {
+            if slot[0] == 1 {
+                moved(&mut slot[4..8]);
+                moved(&mut slot[8..12]);
+            }
+        }
+        state.ahead.key = next;
+        if state.entries > 0 {
+            state.root.key = state.root.key.wrapping_add(by);
+        }
+    });
+}
+
 pub fn get(key: u32) -> Ticket {
     Ticket::new(GET, key, 0)
 }
@@ -274,13 +367,27 @@ pub fn take() -> Ticket {
     Ticket::new(TAKE, 0, 0)
 }
 
+pub fn queue_in(value: u64) -> Ticket {
+    Ticket::new(IN, 0, value)
+}
+
+pub fn queue_out() -> Ticket {
+    Ticket::new(OUT, 0, 0)
+}
+
+/// The kind that adds an entry.
+pub fn adding_kind(structure: u8) -> u8 {
+    [PUT, PUSH, ADD, IN][usize::from(structure) - 1]
+}
+
 /// A random call of the structure; keys lie somewhat beyond the capacity, and
 /// half of the values are small, so that equal ones meet.
 pub fn random_ticket(random: &mut Random, structure: u8, size: u8) -> Ticket {
     let kind = match structure {
         MAP => [GET, PUT, PUT, PUT, REMOVE][random.index(5)],
         STACK => [PUSH, PUSH, PUSH, POP, POP][random.index(5)],
-        _ => [ADD, ADD, ADD, TAKE, TAKE][random.index(5)],
+        HEAP => [ADD, ADD, ADD, TAKE, TAKE][random.index(5)],
+        _ => [IN, IN, IN, OUT, OUT][random.index(5)],
     };
     let spread = u64::from(capacity(size)) * 3 / 2 + 1;
     let key = match random.below(40) {

@@ -1,6 +1,7 @@
 // A line of the input: a label, a colon, and numbers, each right after its letter. A letter that a line leaves out has the number
 // of the last line without a label: there the input's parts start. So a case is added by a line, and by its answer in stdout.
-// A state: m mark, s structure, z size, e entries, h k t the root link's height, key and tag, w how many nodes wait;
+// A state: m mark, s structure, z size, e entries, h k t the root link's height, key and tag, u d the next unused key and the tag
+//   drawn ahead, w how many nodes wait;
 //   p a place, f 1 if it is full, n g its node's key and tag, a l and b r the heights and keys of its left and right link;
 //   q the key of a node that fills place 1 (0: none).
 // A tree: B its length, F the byte that fills it, S where a slot with a node starts (past the end: none), V G its key and tag.
@@ -47,7 +48,7 @@ pub fn row_of(usual: [usize; 128], text: &[u8]) -> [usize; 128] {
         let b = text[i];
         let d = digit(b);
         if d < 10 {
-            row[letter] = row[letter] % 65536 * 10 + d;
+            row[letter] = row[letter] % 4294967296 * 10 + d;
         } else {
             letter = (b % 128) as usize;
             row[letter] = 0;
@@ -74,5 +75,6 @@ pub fn short(row: &[usize; 128], letter: u8) -> u16 {
 }
 
 pub fn key(row: &[usize; 128], letter: u8) -> u32 {
-    number(row, letter) as u32
+    let at = (letter % 128) as usize;
+    (row[at] % 4294967296) as u32
 }

@@ -3,6 +3,7 @@ use super::rows::byte;
 use super::rows::key;
 use super::rows::number;
 use super::rows::short;
+use slot_spec::Ahead;
 use slot_spec::Link;
 use slot_spec::Node;
 use state_places::no_place;
@@ -51,6 +52,10 @@ pub fn state_of(row: &[usize; 128]) -> State {
         key: key(row, b'k'),
         tag: short(row, b't'),
     };
+    let ahead = Ahead {
+        key: key(row, b'u'),
+        tag: short(row, b'd'),
+    };
     let places = places_of(row);
     State {
         mark: byte(row, b'm'),
@@ -58,6 +63,7 @@ pub fn state_of(row: &[usize; 128]) -> State {
         size: byte(row, b'z'),
         entries: short(row, b'e'),
         root,
+        ahead,
         count: short(row, b'w'),
         places,
     }

@@ -13,7 +13,7 @@ use Rattle.list_spec.specs.Distinct.{All}
 use Rattle.list_laws.specs.DistinctLaws.{all-right}
 use Rattle.slot_spec.specs.LittleEndian.{Bytes}
 use Rattle.slot_spec.specs.Tree.{treeLength}
-use Rattle.method_spec.specs.Answer.{Structure, map as the-map, Op}
+use Rattle.method_spec.specs.Answer.{Structure, map as the-map, queue as the-queue, Op}
 use Rattle.method_spec.specs.Plain.{Contents, Entries, plain, plainContents, nothing}
 use Rattle.method_spec.specs.Call.{capacity}
 use Rattle.bucket_call_spec.specs.Simulates.{Remains}
@@ -31,7 +31,7 @@ use Rattle.readout_spec.specs.Taken.{Omitted, pairOfEntry, entries, report}
 use Rattle.readout_spec.specs.ReadOut.{Left, fileOf, writing, readOut}
 use Rattle.readout_spec.specs.ReadBack.{readBack}
 use Rattle.readout_laws.specs.Whole.{whole-entries, whole-report}
-use Rattle.readout_laws.specs.InOrder.{keysOf, plain-ascends, entries-ascend, in-order-once}
+use Rattle.readout_laws.specs.InOrder.{valuesOf, oldest-first, keysOf, plain-ascends, entries-ascend, in-order-once}
 use Rattle.readout_laws.specs.BackLaws.{ranged-read-back}
 use Rattle.readout_laws.specs.LeftWhole.{Readable, left-readable}
 
@@ -161,3 +161,14 @@ map-exact k tree bs r =
     let file : ascending (keysOf (map pairOfEntry (entries (closed the-map k tree bs .state) (closed the-map k tree bs .tree)))) ≡ true =
     entries-ascend (closed the-map k tree bs .state) (closed the-map k tree bs .tree) in
     remains-of (in-order-once (tables .0) file) (in-order-once (tables .1) file) (r .contents)
+
+-- ---- the queue
+
+-- A queue's values stand in the file oldest first.
+pub queue-exact : (k : ℕ) (tree : List ℕ) (bs : List Brought) (r : ReadsOut the-queue k tree bs)
+    → Remains (λ ps. valuesOf ps ≡ plainBefore the-queue k tree bs) (λ ps. valuesOf ps ≡ plain (capacity k) (r .op) (plainBefore the-queue k tree bs) .contents)
+    (map pairOfEntry (entries (closed the-queue k tree bs .state) (closed the-queue k tree bs .tree)))
+    (fetching (left the-queue k tree bs .state) (left the-queue k tree bs .tree) (r .b .ticket) (r .b .tape) (r .b .trace) the-queue (r .op))
+queue-exact k tree bs r =
+    let file = entries-ascend (closed the-queue k tree bs .state) (closed the-queue k tree bs .tree) in
+    remains-of (oldest-first file) (oldest-first file) (r .contents)

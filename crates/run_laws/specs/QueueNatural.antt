@@ -1,10 +1,9 @@
 -- The queue's programs are natural in the tags.
 use mathlib.Core.Path.{_≡_, refl}
 use mathlib.Core.Bool.{Bool, true, false}
-use Prim.Native.Nat.{ℕ}
 use lib.Dec.{eqb, ltb}
 use Rattle.list_spec.specs.Choice.{pick}
-use Rattle.method_spec.specs.Node.{Link, Node, Ahead, absent}
+use Rattle.method_spec.specs.Node.{Link, absent}
 use Rattle.method_spec.specs.Answer.{queue, enqueue, dequeue}
 use Rattle.method_spec.specs.Queue.{enqueueProg, dequeueProg}
 use Rattle.method_spec.specs.Call.{program}

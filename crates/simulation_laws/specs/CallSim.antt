@@ -11,7 +11,6 @@ use Rattle.list_spec.specs.Distinct.{Distinct, All}
 use Rattle.method_spec.specs.Node.{Node, Ahead}
 use Rattle.method_spec.specs.Prog.{Prog, done, want}
 use Rattle.method_spec.specs.Answer.{Structure, Op, Answer}
-use Rattle.method_spec.specs.Answer as answer
 use Rattle.method_spec.specs.Plain.{Contents}
 use Rattle.method_spec.specs.Map.{Outcome}
 use Rattle.method_spec.specs.Rounds.{rounds, spareDraw}

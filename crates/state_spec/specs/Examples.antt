@@ -5,8 +5,6 @@ use mathlib.Core.List.{[], _∷_, map}
 use Rattle.balance_spec.specs.Least.{least}
 use Rattle.balance_spec.specs.Shape.{shaped}
 use Rattle.method_spec.specs.Answer.{push, enqueue, dequeue}
-use Rattle.slot_spec.specs.declared.Link.{Link}
-use Rattle.slot_spec.specs.declared.Ahead.{Ahead}
 use Rattle.state_spec.specs.Fit.{rootGood, aheadGood}
 use Rattle.state_spec.specs.Ticket.{outOfKeys}
 

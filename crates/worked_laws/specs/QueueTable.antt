@@ -2,10 +2,7 @@
 use mathlib.Core.Path.{_≡_, refl}
 use mathlib.Core.List.{[], _∷_, _++_}
 use lib.ListN.{replicate}
-use Rattle.slot_spec.specs.LittleEndian.{bytes}
-use Rattle.slot_spec.specs.Layout.{pack}
-use Rattle.slot_spec.specs.Slot.{noLink, fieldsOf, encode}
-use Rattle.state_spec.specs.Opening.{opened}
+use Rattle.slot_spec.specs.Slot.{noLink, encode}
 use Rattle.operation_spec.specs.declared.Answer.the-variants.{Queued, Dequeued}
 use Rattle.call_spec.specs.declared.Reply.the-variants.{Answered, Refused}
 use Rattle.worked_laws.specs.Table.{Ticketed, from, lastOf}

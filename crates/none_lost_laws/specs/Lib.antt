@@ -16,7 +16,6 @@ pub mod Sound
 pub mod Fetching
 pub mod Putting
 pub mod Moved
-pub mod KnownAhead
 pub mod Ends
 pub mod Leaving
 pub mod Lost

@@ -1,7 +1,6 @@
 -- A call of the method at leaf tags keeps all nodes proper: the keys and values are those of the plain machine's entries, and the tags are
 -- those from before and draws.
 use mathlib.Core.Path.{subst}
-use mathlib.Core.Bool.{Bool, true, false}
 use mathlib.Core.List.{List, _++_, map-append, Memᴰ·map, Memᴰ·of-map}
 use mathlib.Core.List as list
 use Prim.Native.Nat.{ℕ, zero, suc, _^_, _≤_, _<_}
@@ -9,7 +8,7 @@ use native.Mathlib.Omega.{arith}
 use lib.Dec.{eqb, ltb}
 use lib.ListN.{length}
 use lib.Pow.{pow-pos}
-use Rattle.list_spec.specs.Choice.{pick}
+use Rattle.list_laws.specs.ChoiceLaws.{either}
 use Rattle.list_laws.specs.PermLaws.{perm-sym}
 use Rattle.list_spec.specs.Distinct.{All}
 use Rattle.list_laws.specs.DistinctLaws.{all-nil, all-cons, all-append, all-left, all-right, all-perm}
@@ -50,10 +49,6 @@ ahead-leaves heap entries k a h = all-nil (Leaf k)
 ahead-leaves queue zero k a h = all-nil (Leaf k)
 ahead-leaves queue (suc n) k a h = all-cons {P = Leaf k} h (all-nil (Leaf k))
 
-known-pick : {k : ℕ} (b : Bool) (x y : Ahead ℕ) → AheadFits k x → AheadFits k y → AheadFits k (pick b x y)
-known-pick true x y f g = f
-known-pick false x y f g = g
-
 -- After a step: a draw, or none.
 pub ahead-after : {s : Structure} (k : ℕ) (op : Op s) (spares : ℕ → ℕ) → ((i : ℕ) → spares i < 2 ^ k) → (limit entries : ℕ) (a : Ahead ℕ)
     → KeyLeft op (a .key) → AheadFits k a → AheadFits k (aheadAfter 0 op spares limit entries a)
@@ -66,9 +61,9 @@ ahead-after k pop spares leaves limit entries a left f = f
 ahead-after k (add value) spares leaves limit entries a left f = f
 ahead-after k take spares leaves limit entries a left f = f
 ahead-after k (enqueue value) spares leaves limit entries a left f =
-    known-pick (ltb entries limit) (nextAhead (spares 1) a) a (record { key = left; tag = leaves 1 }) f
+    either (AheadFits k) (ltb entries limit) {a = nextAhead (spares 1) a} {b = a} (record { key = left; tag = leaves 1 }) f
 ahead-after k dequeue spares leaves limit entries a left f =
-    known-pick (eqb entries 1) (record { key = a .key; tag = 0 }) a (record { key = f .key; tag = pow-pos k }) f
+    either (AheadFits k) (eqb entries 1) {a = record { key = a .key; tag = 0 }} {b = a} (record { key = f .key; tag = pow-pos k }) f
 
 -- ---- a memory's own numbers
 

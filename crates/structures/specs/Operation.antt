@@ -6,10 +6,10 @@ use lib.ListN.{length}
 use Rattle.slot_spec.specs.declared.Link.{Link}
 use Rattle.method_spec.specs.Prog.{Prog, after}
 use Rattle.method_spec.specs.Map.{Outcome}
-use Rattle.method_spec.specs.Call.{program}
 use Rattle.leaf_spec.specs.Convert.{toLink}
 use Rattle.operation_spec.specs.declared.Op.{Op}
-use Rattle.operation_spec.specs.Method.{toOp}
+use Rattle.operation_spec.specs.declared.Spares.{Spares}
+use Rattle.operation_spec.specs.Method.{programFor}
 use Rattle.node_rows.specs.Row.{words, fetches}
 use Rattle.node_rows.specs.Heights.{Lows}
 use Rattle.node_rows.specs.Held.{Held, heldIn, nodesOf}
@@ -21,6 +21,6 @@ pub record LowHeld (root : Link) (row : List ℕ) (count : ℕ) : Type 0 where
   pub low : Lows 100 (nodesOf (heldIn row count))
   pub root-low : root .height ≤ 100
 
--- The program of an operation, where `tag` is the first spare draw, after the held nodes.
-abbrev pub afterHeld : Op → (tag limit entries : ℕ) → Link → Held → Prog ℕ (Outcome ℕ)
-afterHeld op tag limit entries root h = after (program 0 (toOp op) (λ i. tag) limit entries (toLink root)) (nodesOf h)
+-- The program of an operation, after the held nodes.
+abbrev pub afterHeld : Op → Spares → (limit entries : ℕ) → Link → Held → Prog ℕ (Outcome ℕ)
+afterHeld op spares limit entries root h = after (programFor op spares limit entries (toLink root)) (nodesOf h)

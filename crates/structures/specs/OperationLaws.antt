@@ -1,20 +1,24 @@
 -- The operations by their programs.
-use Prim.Native.Nat.{ℕ, _<_}
-use mathlib.Core.Path.{_≡_, sym, _∙_, ap}
+use Prim.Native.Nat.{ℕ, suc, _^_, _<_}
+use mathlib.Core.Path.{_≡_, refl, sym, _∙_, ap, subst}
 use mathlib.Core.List.{List}
 use mathlib.Core.Option.{Option, none}
 use native.Mathlib.Omega.{arith}
 use native.Mathlib.Decide.{decLt}
-use Rattle.method_spec.specs.Node.{Link}
+use Rattle.method_spec.specs.Node.{Link, Ahead}
 use Rattle.method_spec.specs.Prog.{Want, Prog, after}
 use Rattle.method_spec.specs.Map.{Outcome, getProg, putProg, removeProg}
 use Rattle.method_spec.specs.Stack.{pushProg, popProg}
 use Rattle.method_spec.specs.Heap.{addProg, takeProg}
-use Rattle.method_spec.specs.Call.{program}
+use Rattle.method_spec.specs.Queue.{enqueueProg, enqueueAhead, dequeueProg, dequeueAhead}
+use Rattle.method_spec.specs.Call.{program, aheadAfter}
 use Rattle.slot_spec.specs.declared.Link as link
+use Rattle.leaf_spec.specs.Convert.{toAhead}
+use Rattle.leaf_spec.specs.Entries.{KeyLeft}
 use Rattle.operation_spec.specs.declared.Op.{Op}
-use Rattle.operation_spec.specs.declared.Op.the-variants.{Get, Put, Remove, Push, Pop, Add, Take}
-use Rattle.operation_spec.specs.Method.{toOp, wantedIn, outcomeIn}
+use Rattle.operation_spec.specs.declared.Op.the-variants.{Get, Put, Remove, Push, Pop, Add, Take, Enqueue, Dequeue}
+use Rattle.operation_spec.specs.declared.Spares.{Spares}
+use Rattle.operation_spec.specs.Method.{toOp, programFor, aheadFor, wantedIn, outcomeIn}
 use Rattle.operation_spec.specs.Resume.{resume, wantedOf, outcomeOf}
 use Rattle.operations.specs.ResumeLaws.{wanted-after, outcome-after}
 use Rattle.node_rows.specs.Held.{Held, heldIn, nodesOf}
@@ -24,6 +28,7 @@ use Rattle.map_descent.specs.Walk.{Walks}
 use Rattle.map_changes.specs.Bottom.{StartsUp}
 use Rattle.map_steps.specs.Outcome.{fromBottom}
 use Rattle.stack_steps.specs.StackLaws.{push-full, push-one}
+use Rattle.queue_steps.specs.QueueLaws.{enqueue-full, enqueue-one}
 use Rattle.structures.specs.Operation.{LowHeld}
 
 -- What the map's ways down and up ask.
@@ -34,18 +39,18 @@ walks-of {row = row} low =
       root-low = low .root-low;
     }
 
-module _ (op : Op) (tag limit entries : ℕ) (l : Link ℕ) where
+module _ (op : Op) (spares : Spares) (limit entries : ℕ) (l : Link ℕ) where
   abbrev pub programOf : Prog ℕ (Outcome ℕ)
-  programOf = program 0 (toOp op) (λ i. tag) limit entries l
+  programOf = programFor op spares limit entries l
 
   abbrev at : Op → Prog ℕ (Outcome ℕ)
-  at o = program 0 (toOp o) (λ i. tag) limit entries l
+  at o = programFor o spares limit entries l
 
   pub program-get : {key : ℕ} → op ≡ Get key → programOf ≡ getProg key entries l
   unfolding program
   program-get e = ap at e
 
-  pub program-put : {key value : ℕ} → op ≡ Put key value → programOf ≡ putProg 0 key value tag entries limit l
+  pub program-put : {key value : ℕ} → op ≡ Put key value → programOf ≡ putProg 0 key value (spares .first) entries limit l
   unfolding program
   program-put e = ap at e
 
@@ -53,7 +58,7 @@ module _ (op : Op) (tag limit entries : ℕ) (l : Link ℕ) where
   unfolding program
   program-remove e = ap at e
 
-  pub program-push : {value : ℕ} → op ≡ Push value → programOf ≡ pushProg 0 value tag entries limit l
+  pub program-push : {value : ℕ} → op ≡ Push value → programOf ≡ pushProg 0 value (spares .first) entries limit l
   unfolding program
   program-push e = ap at e
 
@@ -61,13 +66,36 @@ module _ (op : Op) (tag limit entries : ℕ) (l : Link ℕ) where
   unfolding program
   program-pop e = ap at e
 
-  pub program-add : {value : ℕ} → op ≡ Add value → programOf ≡ addProg 0 value tag entries limit l
+  pub program-add : {value : ℕ} → op ≡ Add value → programOf ≡ addProg 0 value (spares .first) entries limit l
   unfolding program
   program-add e = ap at e
 
   pub program-take : op ≡ Take → programOf ≡ takeProg 0 entries l
   unfolding program
   program-take e = ap at e
+
+  pub program-enqueue : {value : ℕ} → op ≡ Enqueue value
+      → programOf ≡ enqueueProg 0 value (spares .first) (spares .second) entries limit (toAhead (spares .ahead)) l
+  unfolding program
+  program-enqueue e = ap at e
+
+  pub program-dequeue : op ≡ Dequeue → programOf ≡ dequeueProg 0 entries l
+  unfolding program
+  program-dequeue e = ap at e
+
+-- An in has a key for the node that comes next.
+pub in-has-key : {op : Op} {value next : ℕ} → op ≡ Enqueue value → KeyLeft (toOp op) next → suc next < 2 ^ 32
+in-has-key {next = next} e k = subst (λ (o : Op). KeyLeft (toOp o) next) e k
+
+-- What is known ahead after the step.
+module _ {op : Op} (spares : Spares) (limit entries : ℕ) where
+  pub ahead-enqueue : {value : ℕ} → op ≡ Enqueue value → aheadFor op spares limit entries ≡ enqueueAhead (spares .second) entries limit (toAhead (spares .ahead))
+  unfolding aheadAfter
+  ahead-enqueue e = ap (λ (o : Op). aheadFor o spares limit entries) e
+
+  pub ahead-dequeue : op ≡ Dequeue → aheadFor op spares limit entries ≡ dequeueAhead 0 entries (toAhead (spares .ahead))
+  unfolding aheadAfter
+  ahead-dequeue e = ap (λ (o : Op). aheadFor o spares limit entries) e
 
 -- The next wanted node and the outcome of a program, by any other that is the same.
 module _ {p q : Prog ℕ (Outcome ℕ)} (e : p ≡ q) (h : Held) where
@@ -93,3 +121,11 @@ push-wants-none value tag entries limit l h = go (decLt entries limit)
     go : Dec (entries < limit) → none ≡ wantedOf (resume (pushProg 0 value tag entries limit l) (nodesOf h))
     go (yes k) = sym (ap wantedOf (push-one value tag entries limit l (nodesOf h) k))
     go (no k) = sym (ap wantedOf (push-full value tag entries limit l (nodesOf h) (omega arith)))
+
+pub enqueue-wants-none : (value draw1 draw2 entries limit : ℕ) (a : Ahead ℕ) (l : Link ℕ) (h : Held)
+    → none ≡ wantedOf (resume (enqueueProg 0 value draw1 draw2 entries limit a l) (nodesOf h))
+enqueue-wants-none value draw1 draw2 entries limit a l h = go (decLt entries limit)
+  where
+    go : Dec (entries < limit) → none ≡ wantedOf (resume (enqueueProg 0 value draw1 draw2 entries limit a l) (nodesOf h))
+    go (yes k) = sym (ap wantedOf (enqueue-one value draw1 draw2 entries limit a l (nodesOf h) refl k))
+    go (no k) = sym (ap wantedOf (enqueue-full value draw1 draw2 entries limit a l (nodesOf h) (omega arith)))

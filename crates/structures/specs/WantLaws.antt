@@ -3,7 +3,7 @@
 use Prim.Native.Nat.{ℕ, zero, suc, _≤_}
 use native.Mathlib.Omega.{arith}
 use mathlib.Core.Path.{_≡_}
-use mathlib.Core.Bool.{Bool, true, false, not, Bool·beq}
+use mathlib.Core.Bool.{Bool, true, false, not, Bool·beq, and-eq-true-iff}
 use mathlib.Core.List.{List, [], _∷_, _++_}
 use mathlib.Core.Option.{Option, none, some}
 use lib.Dec.{eqb, leb, ltb}
@@ -11,12 +11,13 @@ use lib.ListN.{length}
 use borrow.Author.Tests.{eqb-true}
 use Rattle.list_spec.specs.Choice.{pick}
 use Rattle.list_laws.specs.ChoiceLaws.{pick-both, pick-neither}
-use Rattle.method_spec.specs.Node.{Link, Node, child, withChild, heightOf, absent, linkOne}
+use Rattle.method_spec.specs.Node.{Link, Node, Ahead, child, withChild, heightOf, absent, linkOne}
 use Rattle.method_spec.specs.Prog.{Want, Prog, done, want, bind, after}
 use Rattle.method_spec.specs.Answer as method
 use Rattle.method_spec.specs.Map.{Outcome, Step, Sub, stub, top, Built, Spot, gap, hit, Lowest, linkOf, topOf, kid, seat, start, stepAt, beside, below, walk, tall, rotate, single, double, opened, turn, placed, rest, nearOn, othersOf, raise, climb, getStep, getProg, putStep, putProg, lowest, swapped, takeOut, removeStep, removeProg, mapTest}
 use Rattle.method_spec.specs.Stack.{pushProg, popProg, stackTest}
 use Rattle.method_spec.specs.Heap.{Pass, Reached, lower, wayTo, beneath, descend, addProg, downward, childOf, smaller, above, sunk, sink, replaceRoot, takeProg, heapTest}
+use Rattle.method_spec.specs.Queue.{enqueueProg, dequeueProg, queueTest}
 use Rattle.run_laws.specs.HeapWithin.{heap-tested}
 use Rattle.method_spec.specs.Call.{program, test}
 use Rattle.node_rows.specs.Heights.{Low, Lows}
@@ -273,11 +274,11 @@ module _ {T : Type 0} (most : ℕ) where
     low-remove entries (gap k path) h = ends-low tt
     low-remove entries (hit w n path) h = low-bind _ (asks-more (λ b u. ends-low tt) (low-takeOut w n path (h .0) (h .1)))
 
-    low-heap : (op : method.Op method.heap) (spares : ℕ → T) (limit entries : ℕ) → AsksLow (λ (o : Outcome T). Unit {0}) (program nil op spares limit entries l)
+    low-heap : (op : method.Op method.heap) (spares : ℕ → T) (limit entries : ℕ) (a : Ahead T) → AsksLow (λ (o : Outcome T). Unit {0}) (program nil op spares limit entries a l)
     unfolding program addProg takeProg
-    low-heap (method.add value) spares limit entries =
+    low-heap (method.add value) spares limit entries a =
         low-pick (ltb entries limit) (low-bind _ (asks-more (λ r h. ends-low tt) (low-descend (wayTo (suc entries)) (start l) [] low tt))) (ends-low tt)
-    low-heap method.take spares limit entries =
+    low-heap method.take spares limit entries a =
         low-pick (eqb entries 0) (ends-low tt)
         (low-bind _
         (asks-more
@@ -285,18 +286,21 @@ module _ {T : Type 0} (most : ℕ) where
         (low-descend (wayTo entries) (start l) [] low tt)))
 
     -- The program of any ticket.
-    pub low-program : {s : method.Structure} (op : method.Op s) (spares : ℕ → T) (limit entries : ℕ)
-        → AsksLow (λ (o : Outcome T). Unit {0}) (program nil op spares limit entries l)
-    unfolding program getProg putProg removeProg pushProg popProg
-    low-program (method.get key) spares limit entries = walking key (λ s. done (getStep entries s)) (λ s h. ends-low tt)
-    low-program (method.put key value) spares limit entries =
+    pub low-program : {s : method.Structure} (op : method.Op s) (spares : ℕ → T) (limit entries : ℕ) (a : Ahead T)
+        → AsksLow (λ (o : Outcome T). Unit {0}) (program nil op spares limit entries a l)
+    unfolding program getProg putProg removeProg pushProg popProg enqueueProg dequeueProg
+    low-program (method.get key) spares limit entries a = walking key (λ s. done (getStep entries s)) (λ s h. ends-low tt)
+    low-program (method.put key value) spares limit entries a =
         walking key (putStep nil key value (spares 0) entries limit) (low-put key value (spares 0) entries limit)
-    low-program (method.remove key) spares limit entries = walking key (removeStep entries) (low-remove entries)
-    low-program (method.push value) spares limit entries = low-pick (ltb entries limit) (ends-low tt) (ends-low tt)
-    low-program method.pop spares limit entries =
+    low-program (method.remove key) spares limit entries a = walking key (removeStep entries) (low-remove entries)
+    low-program (method.push value) spares limit entries a = low-pick (ltb entries limit) (ends-low tt) (ends-low tt)
+    low-program method.pop spares limit entries a =
         low-pick (eqb (l .height) 0) (ends-low tt) (asks-low low (λ n h. ends-low tt))
-    low-program (method.add value) spares limit entries = low-heap (method.add value) spares limit entries
-    low-program method.take spares limit entries = low-heap method.take spares limit entries
+    low-program (method.add value) spares limit entries a = low-heap (method.add value) spares limit entries a
+    low-program method.take spares limit entries a = low-heap method.take spares limit entries a
+    low-program (method.enqueue value) spares limit entries a = low-pick (ltb entries limit) (ends-low tt) (ends-low tt)
+    low-program method.dequeue spares limit entries a =
+        low-pick (eqb entries 0) (ends-low tt) (asks-low low (λ n h. ends-low tt))
 
   -- ---- what is wanted after some nodes
 
@@ -309,11 +313,11 @@ module _ {T : Type 0} (most : ℕ) where
 -- ---- for the caller
 
 -- The next wanted link is low where the root link and the held nodes are.
-pub wanted-low : {s : method.Structure} (op : method.Op s) (spares : ℕ → ℕ) (limit entries : ℕ) (l : Link ℕ) (ns : List (Node ℕ)) (most : ℕ) {w : Want ℕ}
-    → 1 ≤ most → l .height ≤ most → Lows most ns → wantedIn (after (program 0 op spares limit entries l) ns) ≡ some w → w .link .height ≤ most
-wanted-low op spares limit entries l ns most {w} one h k e =
-    go (after (program 0 op spares limit entries l) ns)
-    (low-after most (program 0 op spares limit entries l) ns (low-program most 0 l one h op spares limit entries) k) e
+pub wanted-low : {s : method.Structure} (op : method.Op s) (spares : ℕ → ℕ) (limit entries : ℕ) (a : Ahead ℕ) (l : Link ℕ) (ns : List (Node ℕ)) (most : ℕ) {w : Want ℕ}
+    → 1 ≤ most → l .height ≤ most → Lows most ns → wantedIn (after (program 0 op spares limit entries a l) ns) ≡ some w → w .link .height ≤ most
+wanted-low op spares limit entries a l ns most {w} one h k e =
+    go (after (program 0 op spares limit entries a l) ns)
+    (low-after most (program 0 op spares limit entries a l) ns (low-program most 0 l one h op spares limit entries a) k) e
   where
     go : (p : Prog ℕ (Outcome ℕ)) → AsksLow most (λ (o : Outcome ℕ). Unit {0}) p → wantedIn p ≡ some w → w .link .height ≤ most
     go (done o) a e = let z : _≡_ {A = ℕ} 0 1 = cc in absurd (omega arith)
@@ -346,8 +350,17 @@ heap-tested-low entries w n most e h =
     let right = heap-tested entries w n e false .1 in
     (omega arith, omega arith)
 
+queue-tested-low : (w : Want ℕ) (n : Node ℕ) (most : ℕ) → queueTest w n ≡ true → 1 ≤ most → Low most n
+unfolding queueTest
+queue-tested-low w n most e h =
+    let both = and-eq-true-iff (eqb (n .left .height) 1) _ .0 e in
+    let left = eqb-true (n .left .height) 1 (both .0) in
+    let right = eqb-true (n .right .height) 0 (and-eq-true-iff (eqb (n .left .key) (suc (n .key))) _ .0 (both .1) .1) in
+    (omega arith, omega arith)
+
 pub tested-low : (s : method.Structure) (entries : ℕ) (w : Want ℕ) (n : Node ℕ) (most : ℕ) → test s entries w n ≡ true → 1 ≤ most → w .link .height ≤ most → Low most n
 unfolding test
 tested-low method.map entries w n most e k h = map-tested-low w n most e h
 tested-low method.stack entries w n most e k h = stack-tested-low w n most e k
 tested-low method.heap entries w n most e k h = heap-tested-low entries w n most e k
+tested-low method.queue entries w n most e k h = queue-tested-low w n most e k

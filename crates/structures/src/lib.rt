@@ -11,7 +11,14 @@ use map_steps::map_wanted;
 use node_rows::ROW;
 use operation_spec::Op;
 use operation_spec::Outcome;
+use operation_spec::Spares;
 use operation_spec::Wanted;
+use queue_steps::dequeue;
+use queue_steps::dequeue_ahead;
+use queue_steps::dequeue_wanted;
+use queue_steps::enqueue;
+use queue_steps::enqueue_ahead;
+use slot_spec::Ahead;
 use slot_spec::Link;
 use stack_steps::pop;
 use stack_steps::pop_wanted;
@@ -19,26 +26,27 @@ use stack_steps::push;
 ghost use mathlib.Core.Path.{_≡_};
 ghost use Prim.Native.Nat.{_≤_};
 ghost use lib.ListN.{length};
-ghost use Rattle.leaf_spec.specs.Convert.{toLink};
-ghost use Rattle.operation_spec.specs.Method.{toOutcome, toWanted, wantedIn, outcomeIn};
+ghost use Rattle.leaf_spec.specs.Convert.{toLink, toAhead};
+ghost use Rattle.leaf_spec.specs.Entries.{KeyLeft};
+ghost use Rattle.operation_spec.specs.Method.{toOp, toOutcome, toWanted, wantedIn, outcomeIn, aheadFor};
 ghost use Rattle.node_rows.specs.Row.{places, words};
 ghost use Rattle.node_rows.specs.Held.{heldIn, nodesOf};
 ghost use Rattle.structures.specs.Operation.{LowHeld, afterHeld};
 
-// The next wanted node, for a store of that capacity with those entries and that root link, and the tag that a new node would get.
+// The next wanted node, for a store of that capacity with those entries and that root link, and what a new node's tags come from.
 // The first `count` nodes of the row are held; `made` is scratch space.
 pub fn wanted(
     op: Op,
     limit: u16,
     entries: u16,
     root: Link,
-    tag: u16,
+    spares: Spares,
     held: &[u64; ROW],
     count: usize,
     made: &mut [u64; ROW],
 ) -> Wanted
     requires { ⌜ LowHeld root (now held) count × (length (now made) ≡ words) ⌝ }
-    ensures { λ r. ⌜ (toWanted r ≡ wantedIn (afterHeld op tag limit entries root (heldIn (now (held .entry)) count))) × (length (now (made .exit)) ≡ words) ⌝ }
+    ensures { λ r. ⌜ (toWanted r ≡ wantedIn (afterHeld op spares limit entries root (heldIn (now (held .entry)) count))) × (length (now (made .exit)) ≡ words) ⌝ }
 {
     match op {
         Op::Get(key) => map_wanted(
@@ -50,7 +58,7 @@ pub fn wanted(
             made,
         ),
         Op::Put(key, value) => map_wanted(
-            put(key, value, tag, limit, entries, root, held, count),
+            put(key, value, spares.first, limit, entries, root, held, count),
             key,
             root,
             held,
@@ -69,23 +77,25 @@ pub fn wanted(
         Op::Pop => pop_wanted(entries, root, held, count),
         Op::Add(_) => add_wanted(limit, entries, root, held, count),
         Op::Take => take_wanted(entries, root, held, count, made),
+        Op::Enqueue(_) => Wanted::Done,
+        Op::Dequeue => dequeue_wanted(entries, root, held, count),
     }
 }
 
 // The step, where no node is wanted any more; else nothing, with root link and entries as they were. The nodes that it makes are in
-// the first places of `made`.
+// the first places of `made`. An in has a key for the node that comes next.
 pub fn step(
     op: Op,
     limit: u16,
     entries: u16,
     root: Link,
-    tag: u16,
+    spares: Spares,
     held: &[u64; ROW],
     count: usize,
     made: &mut [u64; ROW],
 ) -> Outcome
-    requires { ⌜ LowHeld root (now held) count × (length (now made) ≡ words) ⌝ }
-    ensures { λ r. ⌜ (toOutcome r (nodesOf (heldIn (now (made .exit)) (r .made))) ≡ outcomeIn (toLink root) entries (afterHeld op tag limit entries root (heldIn (now (held .entry)) count))) × ((r .made ≤ places) × (length (now (made .exit)) ≡ words)) ⌝ }
+    requires { ⌜ LowHeld root (now held) count × ((length (now made) ≡ words) × KeyLeft (toOp op) (spares .ahead .key)) ⌝ }
+    ensures { λ r. ⌜ (toOutcome r (nodesOf (heldIn (now (made .exit)) (r .made))) ≡ outcomeIn (toLink root) entries (afterHeld op spares limit entries root (heldIn (now (held .entry)) count))) × ((r .made ≤ places) × (length (now (made .exit)) ≡ words)) ⌝ }
 {
     match op {
         Op::Get(key) => map_step(
@@ -98,7 +108,7 @@ pub fn step(
             made,
         ),
         Op::Put(key, value) => map_step(
-            put(key, value, tag, limit, entries, root, held, count),
+            put(key, value, spares.first, limit, entries, root, held, count),
             key,
             entries,
             root,
@@ -115,9 +125,24 @@ pub fn step(
             count,
             made,
         ),
-        Op::Push(value) => push(value, tag, limit, entries, root, made),
+        Op::Push(value) => push(value, spares.first, limit, entries, root, made),
         Op::Pop => pop(entries, root, held, count),
-        Op::Add(value) => add(value, tag, limit, entries, root, held, count, made),
+        Op::Add(value) => add(value, spares.first, limit, entries, root, held, count, made),
         Op::Take => take(entries, root, held, count, made),
+        Op::Enqueue(value) => enqueue(value, spares, limit, entries, root, made),
+        Op::Dequeue => dequeue(entries, root, held, count),
+    }
+}
+
+// What is known ahead after the step. It does not depend on the nodes that were fetched.
+pub fn ahead_after(op: Op, limit: u16, entries: u16, spares: Spares) -> Ahead
+    requires { ⌜ KeyLeft (toOp op) (spares .ahead .key) ⌝ }
+    ensures { λ r. ⌜ toAhead r ≡ aheadFor op spares limit entries ⌝ }
+{
+    let ahead = spares.ahead;
+    match op {
+        Op::Enqueue(_) => enqueue_ahead(spares, limit, entries),
+        Op::Dequeue => dequeue_ahead(entries, ahead),
+        _ => ahead,
     }
 }

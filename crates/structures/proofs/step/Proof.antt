@@ -1,7 +1,7 @@
 use native.Mathlib.Omega.{arith}
 use Rattle.leaf_spec.specs.Convert.{toLink}
 use Rattle.node_rows.specs.Held.{heldIn, nodesOf}
-use Rattle.structures.specs.OperationLaws.{walks-of, program-get, program-put, program-remove, program-push, program-pop, program-add, program-take, outcome-by, outcome-up}
+use Rattle.structures.specs.OperationLaws.{walks-of, in-has-key, program-get, program-put, program-remove, program-push, program-pop, program-add, program-take, program-enqueue, program-dequeue, outcome-by, outcome-up}
 use borrow.Author.Needs.{needs}
 use Rattle.structures.proofs.step.Statement.{statement}
 use Rattle.structures.proofs.step.Tie as tie
@@ -13,7 +13,7 @@ get-requires : tie.Need-get-requires
 get-requires c κs = let s = c .before .before .before in (s .pre .0 .sized, walks-of (s .pre .0))
 
 map-step-requires : tie.Need-map-step-requires
-map-step-requires c κs = let s = c .before .before .before .before .before in (s .pre .0 .sized, s .pre .1, walks-of (s .pre .0), c .before .get .ensures .ready)
+map-step-requires c κs = let s = c .before .before .before .before .before in (s .pre .0 .sized, s .pre .1 .0, walks-of (s .pre .0), c .before .get .ensures .ready)
 
 enum-known-op-2 : tie.Need-enum-known-op-2
 enum-known-op-2 c = search needs
@@ -22,7 +22,7 @@ put-requires : tie.Need-put-requires
 put-requires c κs = let s = c .before .before .before in (s .pre .0 .sized, walks-of (s .pre .0))
 
 map-step-requires-2 : tie.Need-map-step-requires-2
-map-step-requires-2 c κs = let s = c .before .before .before .before .before in (s .pre .0 .sized, s .pre .1, walks-of (s .pre .0), c .before .put .ensures .ready)
+map-step-requires-2 c κs = let s = c .before .before .before .before .before in (s .pre .0 .sized, s .pre .1 .0, walks-of (s .pre .0), c .before .put .ensures .ready)
 
 enum-known-op-3 : tie.Need-enum-known-op-3
 enum-known-op-3 c = search needs
@@ -31,13 +31,13 @@ remove-requires : tie.Need-remove-requires
 remove-requires c κs = let s = c .before .before .before in (s .pre .0 .sized, walks-of (s .pre .0))
 
 map-step-requires-3 : tie.Need-map-step-requires-3
-map-step-requires-3 c κs = let s = c .before .before .before .before .before in (s .pre .0 .sized, s .pre .1, walks-of (s .pre .0), c .before .remove .ensures .ready)
+map-step-requires-3 c κs = let s = c .before .before .before .before .before in (s .pre .0 .sized, s .pre .1 .0, walks-of (s .pre .0), c .before .remove .ensures .ready)
 
 enum-known-op-4 : tie.Need-enum-known-op-4
 enum-known-op-4 c = search needs
 
 push-requires : tie.Need-push-requires
-push-requires c κs = c .before .before .before .before .pre .1
+push-requires c κs = c .before .before .before .before .pre .1 .0
 
 enum-told : tie.Need-enum-told
 enum-told c = search needs
@@ -49,19 +49,31 @@ enum-known-op-5 : tie.Need-enum-known-op-5
 enum-known-op-5 c = search needs
 
 add-requires : tie.Need-add-requires
-add-requires c κs = let s = c .before .before .before .before in (s .pre .0 .sized, s .pre .1, omega (arith, s .pre .0 .few))
+add-requires c κs = let s = c .before .before .before .before in (s .pre .0 .sized, s .pre .1 .0, omega (arith, s .pre .0 .few))
 
 enum-told-2 : tie.Need-enum-told-2
 enum-told-2 c = search needs
 
 take-requires : tie.Need-take-requires
-take-requires c κs = let s = c .before .before .before in (s .pre .0 .sized, s .pre .1, omega (arith, s .pre .0 .few))
+take-requires c κs = let s = c .before .before .before in (s .pre .0 .sized, s .pre .1 .0, omega (arith, s .pre .0 .few))
+
+enum-known-op-6 : tie.Need-enum-known-op-6
+enum-known-op-6 c = search needs
+
+enqueue-requires : tie.Need-enqueue-requires
+enqueue-requires c κs = let s = c .before .before .before .before in (s .pre .1 .0, in-has-key (c .before .before .op6 .given .1) (s .pre .1 .1))
+
+enum-told-3 : tie.Need-enum-told-3
+enum-told-3 c = search needs
+
+dequeue-requires : tie.Need-dequeue-requires
+dequeue-requires c κs = let s = c .before .before in (s .pre .0 .sized, omega (arith, s .pre .0 .few))
 
 returns : tie.Need-returns
 returns c =
     let s = c .before .before .before .before .before .before in
     let a = s .args in (
-      outcome-up (program-get (a .op) (a .tag) (a .limit) (a .entries) (toLink (a .root)) (c .before .before .before .before .op .given .1)) (heldIn (a .held .now) (a .count)) _ (a .root) (c .before .before .get .result)
+      outcome-up (program-get (a .op) (a .spares) (a .limit) (a .entries) (toLink (a .root)) (c .before .before .before .before .op .given .1)) (heldIn (a .held .now) (a .count)) _ (a .root) (c .before .before .get .result)
           (c .before .before .get .ensures) (toLink (a .root)) (a .entries) (c .map-step .ensures .0),
       c .map-step .ensures .1,
     )
@@ -70,7 +82,7 @@ returns-2 : tie.Need-returns-2
 returns-2 c =
     let s = c .before .before .before .before .before .before in
     let a = s .args in (
-      outcome-up (program-put (a .op) (a .tag) (a .limit) (a .entries) (toLink (a .root)) (c .before .before .before .before .op2 .given .1)) (heldIn (a .held .now) (a .count)) _ (a .root) (c .before .before .put .result)
+      outcome-up (program-put (a .op) (a .spares) (a .limit) (a .entries) (toLink (a .root)) (c .before .before .before .before .op2 .given .1)) (heldIn (a .held .now) (a .count)) _ (a .root) (c .before .before .put .result)
           (c .before .before .put .ensures) (toLink (a .root)) (a .entries) (c .map-step2 .ensures .0),
       c .map-step2 .ensures .1,
     )
@@ -79,7 +91,7 @@ returns-3 : tie.Need-returns-3
 returns-3 c =
     let s = c .before .before .before .before .before .before in
     let a = s .args in (
-      outcome-up (program-remove (a .op) (a .tag) (a .limit) (a .entries) (toLink (a .root)) (c .before .before .before .before .op3 .given .1)) (heldIn (a .held .now) (a .count)) _ (a .root) (c .before .before .remove .result)
+      outcome-up (program-remove (a .op) (a .spares) (a .limit) (a .entries) (toLink (a .root)) (c .before .before .before .before .op3 .given .1)) (heldIn (a .held .now) (a .count)) _ (a .root) (c .before .before .remove .result)
           (c .before .before .remove .ensures) (toLink (a .root)) (a .entries) (c .map-step3 .ensures .0),
       c .map-step3 .ensures .1,
     )
@@ -88,7 +100,7 @@ returns-4 : tie.Need-returns-4
 returns-4 c =
     let a = c .before .before .before .before .before .args in
     let h = heldIn (a .held .now) (a .count) in (
-      outcome-by (program-push (a .op) (a .tag) (a .limit) (a .entries) (toLink (a .root)) (c .before .before .before .op4 .given .1)) h (toLink (a .root)) (a .entries) (c .push .ensures .0 (nodesOf h)),
+      outcome-by (program-push (a .op) (a .spares) (a .limit) (a .entries) (toLink (a .root)) (c .before .before .before .op4 .given .1)) h (toLink (a .root)) (a .entries) (c .push .ensures .0 (nodesOf h)),
       (omega (arith, c .push .ensures .1 .0), c .push .ensures .1 .1),
     )
 
@@ -98,15 +110,15 @@ returns-5 c =
     let a = s .args in
     let h = heldIn (a .held .now) (a .count) in
     let none = c .pop .ensures .1 in (
-      rw none (outcome-by (program-pop (a .op) (a .tag) (a .limit) (a .entries) (toLink (a .root)) (c .before .enum-told .given .1)) h (toLink (a .root)) (a .entries) (c .pop .ensures .0)),
-      (omega arith, s .pre .1),
+      rw none (outcome-by (program-pop (a .op) (a .spares) (a .limit) (a .entries) (toLink (a .root)) (c .before .enum-told .given .1)) h (toLink (a .root)) (a .entries) (c .pop .ensures .0)),
+      (omega arith, s .pre .1 .0),
     )
 
 returns-6 : tie.Need-returns-6
 returns-6 c =
     let a = c .before .before .before .before .before .args in
     let h = heldIn (a .held .now) (a .count) in (
-      outcome-by (program-add (a .op) (a .tag) (a .limit) (a .entries) (toLink (a .root)) (c .before .before .before .op5 .given .1)) h (toLink (a .root)) (a .entries) (c .add .ensures .0),
+      outcome-by (program-add (a .op) (a .spares) (a .limit) (a .entries) (toLink (a .root)) (c .before .before .before .op5 .given .1)) h (toLink (a .root)) (a .entries) (c .add .ensures .0),
       c .add .ensures .1,
     )
 
@@ -114,8 +126,26 @@ returns-7 : tie.Need-returns-7
 returns-7 c =
     let a = c .before .before .before .before .args in
     let h = heldIn (a .held .now) (a .count) in (
-      outcome-by (program-take (a .op) (a .tag) (a .limit) (a .entries) (toLink (a .root)) (c .before .before .enum-told2 .given .1)) h (toLink (a .root)) (a .entries) (c .take .ensures .0),
+      outcome-by (program-take (a .op) (a .spares) (a .limit) (a .entries) (toLink (a .root)) (c .before .before .enum-told2 .given .1)) h (toLink (a .root)) (a .entries) (c .take .ensures .0),
       c .take .ensures .1,
+    )
+
+returns-8 : tie.Need-returns-8
+returns-8 c =
+    let a = c .before .before .before .before .before .args in
+    let h = heldIn (a .held .now) (a .count) in (
+      outcome-by (program-enqueue (a .op) (a .spares) (a .limit) (a .entries) (toLink (a .root)) (c .before .before .before .op6 .given .1)) h (toLink (a .root)) (a .entries) (c .enqueue .ensures .0 (nodesOf h)),
+      (omega (arith, c .enqueue .ensures .1 .0), c .enqueue .ensures .1 .1),
+    )
+
+returns-9 : tie.Need-returns-9
+returns-9 c =
+    let s = c .before .before .before in
+    let a = s .args in
+    let h = heldIn (a .held .now) (a .count) in
+    let none = c .dequeue .ensures .1 in (
+      rw none (outcome-by (program-dequeue (a .op) (a .spares) (a .limit) (a .entries) (toLink (a .root)) (c .before .enum-told3 .given .1)) h (toLink (a .root)) (a .entries) (c .dequeue .ensures .0)),
+      (omega arith, s .pre .1 .0),
     )
 
 pub step-spec : {M : Type 1} → statement M
@@ -139,10 +169,16 @@ step-spec =
     add-requires
     enum-told-2
     take-requires
+    enum-known-op-6
+    enqueue-requires
+    enum-told-3
+    dequeue-requires
     returns
     returns-2
     returns-3
     returns-4
     returns-5
     returns-6
-    returns-7)
+    returns-7
+    returns-8
+    returns-9)

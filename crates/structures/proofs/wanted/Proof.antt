@@ -1,7 +1,7 @@
 use native.Mathlib.Omega.{arith}
-use Rattle.leaf_spec.specs.Convert.{toLink}
+use Rattle.leaf_spec.specs.Convert.{toLink, toAhead}
 use Rattle.node_rows.specs.Held.{heldIn}
-use Rattle.structures.specs.OperationLaws.{walks-of, program-get, program-put, program-remove, program-push, program-pop, program-add, program-take, push-wants-none, wanted-by, wanted-up}
+use Rattle.structures.specs.OperationLaws.{walks-of, program-get, program-put, program-remove, program-push, program-pop, program-add, program-take, program-enqueue, program-dequeue, push-wants-none, enqueue-wants-none, wanted-by, wanted-up}
 use borrow.Author.Needs.{needs}
 use Rattle.structures.proofs.wanted.Statement.{statement}
 use Rattle.structures.proofs.wanted.Tie as tie
@@ -54,11 +54,20 @@ enum-told-4 c = search needs
 take-wanted-requires : tie.Need-take-wanted-requires
 take-wanted-requires c κs = let s = c .before .before .before in (s .pre .0 .sized, s .pre .1, omega (arith, s .pre .0 .few))
 
+enum-told-5 : tie.Need-enum-told-5
+enum-told-5 c = search needs
+
+enum-told-6 : tie.Need-enum-told-6
+enum-told-6 c = search needs
+
+dequeue-wanted-requires : tie.Need-dequeue-wanted-requires
+dequeue-wanted-requires c κs = let s = c .before .before in (s .pre .0 .sized, omega (arith, s .pre .0 .few))
+
 returns : tie.Need-returns
 returns c =
     let s = c .before .before .before .before .before .before in
     let a = s .args in (
-      wanted-up (program-get (a .op) (a .tag) (a .limit) (a .entries) (toLink (a .root)) (c .before .before .before .before .op .given .1)) (heldIn (a .held .now) (a .count)) _ (a .root) (c .before .before .get .result)
+      wanted-up (program-get (a .op) (a .spares) (a .limit) (a .entries) (toLink (a .root)) (c .before .before .before .before .op .given .1)) (heldIn (a .held .now) (a .count)) _ (a .root) (c .before .before .get .result)
           (c .before .before .get .ensures) (c .map-wanted .ensures .0),
       c .map-wanted .ensures .1,
     )
@@ -67,7 +76,7 @@ returns-2 : tie.Need-returns-2
 returns-2 c =
     let s = c .before .before .before .before .before .before in
     let a = s .args in (
-      wanted-up (program-put (a .op) (a .tag) (a .limit) (a .entries) (toLink (a .root)) (c .before .before .before .before .op2 .given .1)) (heldIn (a .held .now) (a .count)) _ (a .root) (c .before .before .put .result)
+      wanted-up (program-put (a .op) (a .spares) (a .limit) (a .entries) (toLink (a .root)) (c .before .before .before .before .op2 .given .1)) (heldIn (a .held .now) (a .count)) _ (a .root) (c .before .before .put .result)
           (c .before .before .put .ensures) (c .map-wanted2 .ensures .0),
       c .map-wanted2 .ensures .1,
     )
@@ -76,7 +85,7 @@ returns-3 : tie.Need-returns-3
 returns-3 c =
     let s = c .before .before .before .before .before .before in
     let a = s .args in (
-      wanted-up (program-remove (a .op) (a .tag) (a .limit) (a .entries) (toLink (a .root)) (c .before .before .before .before .op3 .given .1)) (heldIn (a .held .now) (a .count)) _ (a .root) (c .before .before .remove .result)
+      wanted-up (program-remove (a .op) (a .spares) (a .limit) (a .entries) (toLink (a .root)) (c .before .before .before .before .op3 .given .1)) (heldIn (a .held .now) (a .count)) _ (a .root) (c .before .before .remove .result)
           (c .before .before .remove .ensures) (c .map-wanted3 .ensures .0),
       c .map-wanted3 .ensures .1,
     )
@@ -86,27 +95,44 @@ returns-4 c =
     let s = c .before .before in
     let a = s .args in
     let h = heldIn (a .held .now) (a .count) in
-    (wanted-by (program-push (a .op) (a .tag) (a .limit) (a .entries) (toLink (a .root)) (c .enum-told .given .1)) h (push-wants-none _ (a .tag) (a .entries) (a .limit) (toLink (a .root)) h), s .pre .1)
+    (wanted-by (program-push (a .op) (a .spares) (a .limit) (a .entries) (toLink (a .root)) (c .enum-told .given .1)) h (push-wants-none _ (a .spares .first) (a .entries) (a .limit) (toLink (a .root)) h), s .pre .1)
 
 returns-5 : tie.Need-returns-5
 returns-5 c =
     let s = c .before .before .before in
     let a = s .args in
     let h = heldIn (a .held .now) (a .count) in
-    (wanted-by (program-pop (a .op) (a .tag) (a .limit) (a .entries) (toLink (a .root)) (c .before .enum-told2 .given .1)) h (c .pop-wanted .ensures), s .pre .1)
+    (wanted-by (program-pop (a .op) (a .spares) (a .limit) (a .entries) (toLink (a .root)) (c .before .enum-told2 .given .1)) h (c .pop-wanted .ensures), s .pre .1)
 
 returns-6 : tie.Need-returns-6
 returns-6 c =
     let s = c .before .before .before in
     let a = s .args in
     let h = heldIn (a .held .now) (a .count) in
-    (wanted-by (program-add (a .op) (a .tag) (a .limit) (a .entries) (toLink (a .root)) (c .before .enum-told3 .given .1)) h (c .add-wanted .ensures _ (a .tag)), s .pre .1)
+    (wanted-by (program-add (a .op) (a .spares) (a .limit) (a .entries) (toLink (a .root)) (c .before .enum-told3 .given .1)) h (c .add-wanted .ensures _ (a .spares .first)), s .pre .1)
 
 returns-7 : tie.Need-returns-7
 returns-7 c =
     let a = c .before .before .before .before .args in
     let h = heldIn (a .held .now) (a .count) in
-    (wanted-by (program-take (a .op) (a .tag) (a .limit) (a .entries) (toLink (a .root)) (c .before .before .enum-told4 .given .1)) h (c .take-wanted .ensures .0), c .take-wanted .ensures .1)
+    (wanted-by (program-take (a .op) (a .spares) (a .limit) (a .entries) (toLink (a .root)) (c .before .before .enum-told4 .given .1)) h (c .take-wanted .ensures .0), c .take-wanted .ensures .1)
+
+returns-8 : tie.Need-returns-8
+returns-8 c =
+    let s = c .before .before in
+    let a = s .args in
+    let h = heldIn (a .held .now) (a .count) in (
+      wanted-by (program-enqueue (a .op) (a .spares) (a .limit) (a .entries) (toLink (a .root)) (c .enum-told5 .given .1)) h
+          (enqueue-wants-none _ (a .spares .first) (a .spares .second) (a .entries) (a .limit) (toAhead (a .spares .ahead)) (toLink (a .root)) h),
+      s .pre .1,
+    )
+
+returns-9 : tie.Need-returns-9
+returns-9 c =
+    let s = c .before .before .before in
+    let a = s .args in
+    let h = heldIn (a .held .now) (a .count) in
+    (wanted-by (program-dequeue (a .op) (a .spares) (a .limit) (a .entries) (toLink (a .root)) (c .before .enum-told6 .given .1)) h (c .dequeue-wanted .ensures), s .pre .1)
 
 pub wanted-spec : {M : Type 1} → statement M
 wanted-spec =
@@ -128,10 +154,15 @@ wanted-spec =
     add-wanted-requires
     enum-told-4
     take-wanted-requires
+    enum-told-5
+    enum-told-6
+    dequeue-wanted-requires
     returns
     returns-2
     returns-3
     returns-4
     returns-5
     returns-6
-    returns-7)
+    returns-7
+    returns-8
+    returns-9)

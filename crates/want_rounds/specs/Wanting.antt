@@ -8,15 +8,15 @@ use Rattle.method_spec.specs.Prog.{Prog, after}
 use Rattle.method_spec.specs.Answer.{Structure}
 use Rattle.method_spec.specs.Map.{Outcome}
 use Rattle.method_spec.specs.Rounds.{rounds, putDraw}
-use Rattle.method_spec.specs.Call.{capacity, program}
+use Rattle.method_spec.specs.Call.{capacity}
 use Rattle.bucket_call_spec.specs.Fetch as fetch
 use Rattle.bucket_call_spec.specs.Fetch.{Round, on, fetchRounds}
 use Rattle.bucket_call_spec.specs.Call.{Store, drawOf}
 use Rattle.none_lost_laws.specs.Ends.{FitStore}
-use Rattle.leaf_spec.specs.Entries.{OpFits}
+use Rattle.leaf_spec.specs.Entries.{OpFits, KeyLeft}
 use Rattle.state_spec.specs.Ticket as ticket
-use Rattle.leaf_spec.specs.Convert.{toLink}
-use Rattle.operation_spec.specs.Method.{toOp, structureOf, wantedIn}
+use Rattle.leaf_spec.specs.Convert.{toLink, toAhead}
+use Rattle.operation_spec.specs.Method.{toOp, structureOf, programFor, wantedIn}
 use Rattle.node_rows.specs.Row.{places, words as rowWords, fetches, fromsIn}
 use Rattle.node_rows.specs.Held.{Held, nodesOf}
 use Rattle.node_rows.specs.Heights.{Lows}
@@ -36,10 +36,17 @@ abbrev pub structureIn : Job → Structure
 structureIn j = structureOf (j .op)
 
 abbrev pub programOf : Job → Prog ℕ (Outcome ℕ)
-programOf j = program 0 (toOp (j .op)) (λ i. j .tag) (j .limit) (j .entries) (toLink (j .root))
+programOf j = programFor (j .op) (j .spares) (j .limit) (j .entries) (toLink (j .root))
 
 abbrev pub storeAt : Job → ℕ → (words tree : List ℕ) → Store
-storeAt j n words tree = record { entries = j .entries; root = toLink (j .root); waiting = waitingIn n words; tree = tree }
+storeAt j n words tree =
+    record {
+      entries = j .entries;
+      root = toLink (j .root);
+      ahead = toAhead (j .spares .ahead);
+      waiting = waitingIn n words;
+      tree = tree;
+    }
 
 -- The first i fetch rounds.
 abbrev pub fetched : Job → (ℕ → ℕ) → ℕ → ℕ → (words tree : List ℕ) → Round (Outcome ℕ)
@@ -52,9 +59,11 @@ pub record Begins (j : Job) (draw : ℕ → ℕ) (n : ℕ) (words scratch tree :
   pub rounds-are : j .rounds ≡ rounds (structureIn j) (j .size)
   pub structure-is : ticket.structureOf (j .structure) ≡ structureIn j
   pub limit-is : j .limit ≡ capacity (j .size)
-  pub tag-is : j .tag ≡ draw (j .rounds)
+  pub first-is : j .spares .first ≡ draw (j .rounds)
+  pub second-is : j .spares .second ≡ draw (j .rounds + 1)
   pub puts-are : j .puts ≡ putDraw (structureIn j) (j .rounds) 0
   pub op-fits : OpFits (toOp (j .op))
+  pub key-left : KeyLeft (toOp (j .op)) (j .spares .ahead .key)
   pub fit : FitStore (structureIn j) (j .size) (storeAt j n words tree)
   pub rests : Rests n words scratch []
 

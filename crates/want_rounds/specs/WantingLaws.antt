@@ -20,12 +20,12 @@ use Rattle.method_spec.specs.Prog.{From, Want, Prog, done, want, after}
 use Rattle.method_spec.specs.Answer as answer
 use Rattle.method_spec.specs.Answer.{Structure}
 use Rattle.method_spec.specs.Map.{Outcome}
-use Rattle.method_spec.specs.Rounds.{rounds, spareDraw}
-use Rattle.method_spec.specs.Call.{capacity, program, test}
-use Rattle.run_laws.specs.Calls.{program-same}
+use Rattle.method_spec.specs.Rounds.{rounds, spare}
+use Rattle.method_spec.specs.Call.{capacity, program, spareTags, test}
+use Rattle.run_laws.specs.Calls.{AgreeOn, program-agrees, ahead-agrees}
 use Rattle.round_spec.specs.Round.{Hand, readHalf, limit}
 use Rattle.leaf_spec.specs.Leaf.{leafFormat, ProperLeaf}
-use Rattle.bucket_call_spec.specs.Call.{putRounds}
+use Rattle.bucket_call_spec.specs.Call.{putRounds, aheadThen}
 use Rattle.round_spec.specs.Whole.{IsTree}
 use Rattle.bucket_call_spec.specs.Fetch as fetch
 use Rattle.bucket_call_spec.specs.Fetch.{Going, heldKeys, tooMany, revealing, written, Round, on, shut, atClose, idleRound, wantRound, fetchRound, fetchRounds}
@@ -41,8 +41,8 @@ use Rattle.want_rounds.specs.declared.Job.{Job}
 use Rattle.want_rounds.specs.Wanting.{heldBy, structureIn, programOf, storeAt, fetched, Begins, Walked, Fetches}
 use Rattle.operation_spec.specs.declared.Want as code
 use Rattle.slot_spec.specs.declared.Node as node
-use Rattle.leaf_spec.specs.Convert.{toLink, toNode}
-use Rattle.operation_spec.specs.Method.{toFrom, toOp, toWant, wantedIn}
+use Rattle.leaf_spec.specs.Convert.{toLink, toAhead, toNode}
+use Rattle.operation_spec.specs.Method.{toFrom, toOp, toWant, wantedIn, sparesIn, aheadFor}
 use Rattle.node_rows.specs.Row.{places, fetches, fromIn, fromsIn}
 use Rattle.node_rows.specs.Held.{Held, nodesOf}
 use Rattle.node_rows.specs.Heights.{Low, Lows}
@@ -133,6 +133,14 @@ unfolding highest least shaped tallest greatest
 most-high answer.map k small = let most : greatest k ≤ 11 = greatest-mono small in omega arith
 most-high answer.stack k small = omega arith
 most-high answer.heap k small = omega arith
+most-high answer.queue k small = omega arith
+
+two-spare : (s : Structure) → spare s ≤ 2
+unfolding spare
+two-spare answer.map = omega arith
+two-spare answer.stack = omega arith
+two-spare answer.heap = omega arith
+two-spare answer.queue = omega arith
 
 -- A store between two fetch rounds.
 pub record Midway (k i : ℕ) (g : Going) (q : Prog ℕ (Outcome ℕ)) : Type 0 where
@@ -152,17 +160,29 @@ module _ (j : Job) (draw : ℕ → ℕ) (is-leaf : (d : ℕ) → draw d < 2 ^ j 
   Ends : ℕ → Round (Outcome ℕ) → Type 0
   Ends i x = FetchEnds {s = structureIn j} (j .size) i (j .rounds - i) (toOp (j .op)) (storeAt j n words tree) x
 
-  pub same-program : programOf j ≡ program 0 (toOp (j .op)) (λ i. draw (spareDraw (rounds (structureIn j) (j .size)) i)) (capacity (j .size)) (j .entries) (toLink (j .root))
+  -- The spare draws that the job has are those of the call.
+  spares-agree : AgreeOn (structureIn j) (sparesIn (j .spares)) (spareTags (j .rounds) draw)
+  spares-agree zero below = b .first-is ∙ ap draw (sym (add-zero (j .rounds)))
+  spares-agree (suc zero) below = b .second-is
+  spares-agree (suc (suc i)) below = let z : ⊥ = omega (arith, two-spare (structureIn j)) in absurd z
+
+  pub same-program : programOf j
+      ≡ program 0 (toOp (j .op)) (spareTags (rounds (structureIn j) (j .size)) draw) (capacity (j .size)) (j .entries) (toAhead (j .spares .ahead)) (toLink (j .root))
   same-program =
-      rw (b .limit-is)
-      (program-same 0 (toOp (j .op)) (λ i. j .tag) (λ i. draw (spareDraw (rounds (structureIn j) (j .size)) i)) (capacity (j .size)) (j .entries) (toLink (j .root))
-      (b .tag-is ∙ ap draw (b .rounds-are ∙ sym (add-zero (rounds (structureIn j) (j .size))))))
+      rw (← b .limit-is, ← b .rounds-are)
+      (program-agrees 0 (toOp (j .op)) (sparesIn (j .spares)) (spareTags (j .rounds) draw) (j .limit) (j .entries) (toAhead (j .spares .ahead)) (toLink (j .root)) spares-agree)
+
+  -- What is known ahead after the step.
+  pub same-ahead : aheadFor (j .op) (j .spares) (j .limit) (j .entries) ≡ aheadThen (j .size) (j .rounds) (toOp (j .op)) draw (storeAt j n words tree)
+  same-ahead =
+      rw (← b .limit-is)
+      (ahead-agrees 0 (toOp (j .op)) (sparesIn (j .spares)) (spareTags (j .rounds) draw) (j .limit) (j .entries) (toAhead (j .spares .ahead)) spares-agree)
 
   ends : (i : ℕ) → i ≤ j .rounds → Ends i (fetched j draw i n words tree)
   unfolding Ends
   ends i h =
       rw same-program
-      (fetch-rounds (j .size) (b .some-size) (omega (arith, b .small)) (toOp (j .op)) (b .op-fits) draw is-leaf (storeAt j n words tree) (b .fit) i (j .rounds - i)
+      (fetch-rounds (j .size) (b .some-size) (omega (arith, b .small)) (toOp (j .op)) (b .op-fits) draw is-leaf (storeAt j n words tree) (b .fit) (b .key-left) i (j .rounds - i)
       (omega (arith, b .rounds-are)))
 
   pub midway : (i : ℕ) (g : Going) (q : Prog ℕ (Outcome ℕ)) → i ≤ j .rounds → fetched j draw i n words tree ≡ on g q → Midway (j .size) i g q
@@ -184,7 +204,7 @@ module _ (j : Job) (draw : ℕ → ℕ) (is-leaf : (d : ℕ) → draw d < 2 ^ j 
   all-fetched g (done o) e = refl
   all-fetched g (want w c) e =
       absurd
-      (never-left-wanting (j .size) (b .some-size) (omega (arith, b .small)) (toOp (j .op)) (b .op-fits) draw is-leaf (storeAt j n words tree) (b .fit) g w c
+      (never-left-wanting (j .size) (b .some-size) (omega (arith, b .small)) (toOp (j .op)) (b .op-fits) draw is-leaf (storeAt j n words tree) (b .fit) (b .key-left) g w c
       (rw (← same-program, ← b .rounds-are) e))
 
 -- ---- the rounds that want a node, one by one
@@ -335,7 +355,7 @@ module _ (j : Job) (draw : ℕ → ℕ) (is-leaf : (d : ℕ) → draw d < 2 ^ j 
         -- The wanted link is low, and so is the node that passed its test.
         node-low : Low 100 fetchedNode
         node-low =
-            let low = wanted-low (toOp (j .op)) (λ i. j .tag) (j .limit) (j .entries) (toLink (j .root)) (nodesOf h) 100 (omega arith) (root-low j draw is-leaf b) (inv .low) asked in
+            let low = wanted-low (toOp (j .op)) (sparesIn (j .spares)) (j .limit) (j .entries) (toAhead (j .spares .ahead)) (toLink (j .root)) (nodesOf h) 100 (omega arith) (root-low j draw is-leaf b) (inv .low) asked in
             let passed : test (structureIn j) (j .entries) (toWant want) (toNode (r .node)) ≡ true = rw (← b .structure-is) (round .tested taken) in
             tested-low (structureIn j) (j .entries) (toWant want) (toNode (r .node)) 100 passed (omega arith) low
 

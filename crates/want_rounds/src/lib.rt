@@ -6,6 +6,7 @@ use node_rows::set_node;
 use node_rows::word_of;
 use one_round::want_round;
 use operation_spec::Op;
+use operation_spec::Spares;
 use operation_spec::Wanted;
 use slot_spec::Link;
 use stash_words::WORDS;
@@ -16,7 +17,7 @@ ghost use Rattle.node_rows.specs.Held.{heldIn};
 ghost use Rattle.want_rounds.specs.Wanting.{CanFetch, RowsSized, Walks};
 
 // What the rounds of a call are for: the operation, the store's structure and size, how many fetch rounds there are, the capacity,
-// the entries and the root link, the tag that a new node would get, and the draw of the first put round.
+// the entries and the root link, what a new node's tags come from, and the draw of the first put round.
 pub struct Job {
     pub op: Op,
     pub structure: u8,
@@ -25,7 +26,7 @@ pub struct Job {
     pub limit: u16,
     pub entries: u16,
     pub root: Link,
-    pub tag: u16,
+    pub spares: Spares,
     pub puts: usize,
 }
 
@@ -70,10 +71,11 @@ pub fn want_rounds(
 {
     let op = job.op;
     let root = job.root;
+    let spares = job.spares;
     let mut count = 0;
     let mut waiting = n;
     while count < job.rounds {
-        let next = wanted(op, job.limit, job.entries, root, job.tag, held, count, made);
+        let next = wanted(op, job.limit, job.entries, root, spares, held, count, made);
         let Wanted::Fetch(want) = next else {
             return came_to(count, waiting, 0, count);
         };

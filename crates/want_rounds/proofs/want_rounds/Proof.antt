@@ -35,16 +35,16 @@ use Rattle.want_rounds.proofs.came_to.Reads as came-to-reads
 use Rattle.structures.proofs.wanted.Reads as wanted-reads
 
 abbrev Inv-loop : tie.InvT-loop
-Inv-loop job w₀ n s₀ tree₀ held₀ froms₀ made₀ keys₀ tape trace₀ op root count₀ waiting₀ w s tree held froms made keys trace count waiting =
+Inv-loop job w₀ n s₀ tree₀ held₀ froms₀ made₀ keys₀ tape trace₀ op root spares count₀ waiting₀ w s tree held froms made keys trace count waiting =
     Walked job (drawOf (job .size) tape) n w₀ tree₀ trace₀ (heldIn held count) froms waiting w s tree keys trace × RowsSized held made
 
 abbrev μ-loop : tie.MeasureT-loop
-μ-loop job w₀ n s₀ tree₀ held₀ froms₀ made₀ keys₀ tape trace₀ op root count₀ waiting₀ w s tree held froms made keys trace count waiting = job .rounds - count
+μ-loop job w₀ n s₀ tree₀ held₀ froms₀ made₀ keys₀ tape trace₀ op root spares count₀ waiting₀ w s tree held froms made keys trace count waiting = job .rounds - count
 
 -- ---- at the loop
 module _ (c : tie.At-loop Inv-loop μ-loop) where
   abbrev start : tie.Start Inv-loop μ-loop
-  start = c .before .before .before .before .before .before
+  start = c .before .before .before .before .before .before .before
 
   abbrev job : Job
   job = start .args .job
@@ -128,7 +128,7 @@ module _ (c : tie.After-set-node Inv-loop μ-loop) where
 
 loop-holds : tie.Need-loop-holds Inv-loop μ-loop
 loop-holds c =
-    let s = c .before .before .before .before .before in
+    let s = c .before .before .before .before .before .before in
     let b = s .pre .1 in (
       walked-begins (s .args .job) (drawOf (s .args .job .size) (s .args .tape .now)) (s .pre .0) (s .args .trace .now) (heldIn (s .args .held .now) 0) (s .args .froms .now) (s .args .keys .now)
           refl (row-places (s .args .held .now) (b .0 .0)) (b .1 .0) (b .1 .1 .0),

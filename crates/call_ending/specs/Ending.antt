@@ -5,16 +5,18 @@ use mathlib.Core.List.{List, [], _++_}
 use Prim.Native.Nat.{ℕ, _+_, _≤_}
 use lib.ListN.{length, take, drop}
 use Rattle.list_spec.specs.Distinct.{All}
+use Rattle.method_spec.specs.Node.{Ahead}
 use Rattle.method_spec.specs.Prog.{after}
 use Rattle.method_spec.specs.Map.{Outcome}
 use Rattle.round_spec.specs.Round.{join}
 use Rattle.round_spec.specs.Whole.{IsTree, Ascending}
-use Rattle.leaf_spec.specs.Convert.{fromLink, toLink}
+use Rattle.leaf_spec.specs.Convert.{fromLink, toLink, fromAhead, toAhead}
+use Rattle.leaf_spec.specs.Entries.{KeyLeft}
 use Rattle.leaf_spec.specs.Leaf.{leafFormat, ProperLeaf}
 use Rattle.word_round_laws.specs.Words.{wordCount}
 use Rattle.bucket_call_spec.specs.Fetch.{Left, Going, closing}
 use Rattle.bucket_call_spec.specs.Call.{afterPuts, putRounds, stepped}
-use Rattle.operation_spec.specs.Method.{outcomeIn}
+use Rattle.operation_spec.specs.Method.{toOp, aheadFor, outcomeIn}
 use Rattle.node_rows.specs.Row.{words as rowWords, fetches}
 use Rattle.node_rows.specs.Held.{Held, HeldFrom, nodesOf}
 use Rattle.call_spec.specs.Store.{Ended, replied}
@@ -31,7 +33,7 @@ use Rattle.call_ending.specs.declared.Ran.{Ran}
 abbrev pub leftBy : (structure size : ℕ) → Ran → (words tree trace : List ℕ) → Ended
 leftBy structure size r words tree trace =
     record {
-      state = saved structure size (r .mark) (r .entries) (r .root) (waitingIn (r .waiting) words);
+      state = saved structure size (r .mark) (r .entries) (r .root) (r .ahead) (waitingIn (r .waiting) words);
       reply = r .reply;
       leaves = r .leaves;
       tree = tree;
@@ -42,7 +44,7 @@ leftBy structure size r words tree trace =
 abbrev pub endingWith : (structure size : ℕ) → List ℕ → Left → Ended
 endingWith structure size trace l =
     record {
-      state = saved structure size (l .mark) (l .entries) (fromLink (l .root)) (l .waiting);
+      state = saved structure size (l .mark) (l .entries) (fromLink (l .root)) (fromAhead (l .ahead)) (l .waiting);
       reply = replied (l .mark) (l .answer);
       leaves = length (l .leaves);
       tree = l .tree;
@@ -57,6 +59,10 @@ goingBy h froms f words tree trace = going (f .waiting) words tree (heldBy h fro
 abbrev pub outcomeOf : Job → Held → Outcome ℕ
 outcomeOf j h = outcomeIn (toLink (j .root)) (j .entries) (after (programOf j) (nodesOf h))
 
+-- What is known ahead after the step.
+abbrev pub aheadOf : Job → Ahead ℕ
+aheadOf j = aheadFor (j .op) (j .spares) (j .limit) (j .entries)
+
 -- What closing needs: the waiting nodes are in words, and there is room for the held ones beside them.
 pub record Shuts (f : Fetched) (words row froms : List ℕ) : Type 0 where
   pub holds : Holds (f .waiting) words
@@ -65,18 +71,18 @@ pub record Shuts (f : Fetched) (words row froms : List ℕ) : Type 0 where
   pub froms-sized : length froms ≡ fetches
   pub room : f .waiting + f .count ≤ 101
 
--- The store is closed with the mark of the fetch rounds, whatever the tree and the trace are then.
+-- The store is closed with the mark of the fetch rounds and with what was known ahead, whatever the tree and the trace are then.
 pub record ShutAs (j : Job) (f : Fetched) (h : Held) (froms words words′ : List ℕ) (r : Ran) : Type 0 where
   pub ran : r .ran ≡ true
   pub holds : Holds (r .waiting) words′
   pub ends : (tree trace : List ℕ) → f .leaves ≤ length trace
       → leftBy (j .structure) (j .size) r words′ tree trace
-      ≡ endingWith (j .structure) (j .size) trace (closing (f .mark) (j .entries) (toLink (j .root)) (goingBy h froms f words tree trace))
+      ≡ endingWith (j .structure) (j .size) trace (closing (f .mark) (j .entries) (toLink (j .root)) (toAhead (j .spares .ahead)) (goingBy h froms f words tree trace))
 
 -- The call is finished as the definition says it: after the step the put rounds.
 abbrev pub finishedBy : Job → (ℕ → ℕ) → Fetched → Held → (words tree trace : List ℕ) → Left
 finishedBy j draw f h words tree trace =
-    afterPuts (outcomeOf j h)
+    afterPuts (aheadOf j) (outcomeOf j h)
     (putRounds (j .size) draw (j .rounds) (j .puts) (outcomeOf j h)
     (stepped (outcomeOf j h) (going (f .waiting) words tree [] (take (f .leaves) trace))))
 
@@ -90,6 +96,7 @@ pub record Finishes (j : Job) (f : Fetched) (h : Held) (words scratch tree : Lis
   pub order : Ascending leafFormat (waitingIn (f .waiting) words)
   pub held : HeldFrom 100 h 0
   pub root-low : j .root .height ≤ 100
+  pub key-left : KeyLeft (toOp (j .op)) (j .spares .ahead .key)
   pub is-tree : IsTree (j .size) tree
   pub proper : All (ProperLeaf (j .size)) (join leafFormat (outcomeOf j h .nodes) (waitingIn (f .waiting) words))
   pub room : f .waiting + length (outcomeOf j h .nodes) ≤ 65

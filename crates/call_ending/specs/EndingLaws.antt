@@ -10,19 +10,20 @@ use borrow.Author.Tests.{eq-eqb, ne-eqb}
 use lib.ListN.{length, take, drop, length-take, length-append, take-append-drop}
 use lib.Seq.{sets-eq}
 use Rattle.list_laws.specs.PermLaws.{perm-length}
-use Rattle.method_spec.specs.Node.{Link, Node}
+use Rattle.method_spec.specs.Node.{Link, Ahead, Node}
 use Rattle.method_spec.specs.Prog.{done, root}
 use Rattle.method_spec.specs.Map.{Outcome}
 use Rattle.method_spec.specs.Call.{drawsFrom}
 use Rattle.run_laws.specs.Calls.{draws-length}
 use Rattle.round_spec.specs.Round.{join}
 use Rattle.round_laws.specs.Lists.{join-perm}
-use Rattle.leaf_spec.specs.Convert.{fromLink, toLink}
+use Rattle.leaf_spec.specs.Convert.{fromLink, toLink, fromAhead, toAhead}
 use Rattle.leaf_spec.specs.Leaf.{leafFormat}
 use Rattle.bucket_call_spec.specs.Fetch as fetch
 use Rattle.bucket_call_spec.specs.Fetch.{Going, closing}
 use Rattle.bucket_call_spec.specs.Call.{afterPuts, putRounds, stepped}
 use Rattle.slot_spec.specs.declared.Link as link
+use Rattle.slot_spec.specs.declared.Ahead as ahead
 use Rattle.state_spec.specs.declared.State.{State}
 use Rattle.operation_spec.specs.declared.Outcome as outcome
 use Rattle.operation_spec.specs.Method.{toOutcome, toAnswer}
@@ -44,13 +45,13 @@ use Rattle.want_rounds.specs.Wanting.{heldBy}
 use Rattle.put_rounds.specs.Put.{Stepped, Puts}
 use Rattle.idle_rounds.specs.IdleLaws.{goes-on, stops-here}
 use Rattle.call_ending.specs.declared.Ran.{Ran}
-use Rattle.call_ending.specs.Ending.{leftBy, endingWith, outcomeOf, ShutAs, Finishes, finishedBy, FinishedAs}
+use Rattle.call_ending.specs.Ending.{leftBy, endingWith, outcomeOf, aheadOf, ShutAs, Finishes, finishedBy, FinishedAs}
 use Rattle.replies.specs.Answered.{answered}
 
 -- ---- parts alike
-saved-same : {structure size m m′ n n′ : ℕ} {l l′ : link.Link} {ws ws′ : List (Node ℕ)} → m ≡ m′ → n ≡ n′ → l ≡ l′ → ws ≡ ws′
-    → saved structure size m n l ws ≡ saved structure size m′ n′ l′ ws′
-saved-same a b c d = rw (a, b, c, d)
+saved-same : {structure size m m′ n n′ : ℕ} {l l′ : link.Link} {a a′ : ahead.Ahead} {ws ws′ : List (Node ℕ)} → m ≡ m′ → n ≡ n′ → l ≡ l′ → a ≡ a′ → ws ≡ ws′
+    → saved structure size m n l a ws ≡ saved structure size m′ n′ l′ a′ ws′
+saved-same a b c d e = rw (a, b, c, d, e)
 
 ended-same : {s s′ : State} {p p′ : Reply} {n n′ : ℕ} {tree tree′ trace trace′ : List ℕ} → s ≡ s′ → p ≡ p′ → n ≡ n′ → tree ≡ tree′ → trace ≡ trace′
     → _≡_ {A = Ended} (record { state = s; reply = p; leaves = n; tree = tree; trace = trace })
@@ -80,14 +81,14 @@ module _ (j : Job) (f : Fetched) (words row froms : List ℕ) {row′ words′ :
   same-root = ap fromLink (moved .link)
 
   pub shut-ends : ShutAs j f (heldIn row (f .count)) froms words words′
-      (record { ran = true; mark = f .mark; entries = j .entries; root = l; waiting = m; reply = Refused (f .mark); leaves = f .leaves })
+      (record { ran = true; mark = f .mark; entries = j .entries; root = l; ahead = j .spares .ahead; waiting = m; reply = Refused (f .mark); leaves = f .leaves })
   unfolding closing replied
   shut-ends =
       record {
         ran = refl;
         holds = joined .holds;
         ends = λ tree trace h.
-            ended-same (saved-same refl refl same-root same-waiting) refl (sym (numbers-first (f .leaves) trace h)) refl (first-and-rest (f .leaves) trace h);
+            ended-same (saved-same {a = j .spares .ahead} refl refl same-root refl same-waiting) refl (sym (numbers-first (f .leaves) trace h)) refl (first-and-rest (f .leaves) trace h);
       }
 
 -- ---- the step and the put rounds
@@ -95,15 +96,15 @@ pub joined-length : (ns ws : List (Node ℕ)) → length (join leafFormat ns ws)
 joined-length ns ws = perm-length (join-perm leafFormat ns ws) ∙ length-append ns ws
 
 -- With nothing held, closing moves nothing.
-closing-none : (mark entries : ℕ) (l : Link ℕ) (n : ℕ) (words tree leaves : List ℕ)
-    → closing mark entries l (going n words tree [] leaves)
-    ≡ record { mark = mark; entries = entries; root = l; waiting = waitingIn n words; tree = tree; leaves = leaves; answer = none }
+closing-none : (mark entries : ℕ) (l : Link ℕ) (a : Ahead ℕ) (n : ℕ) (words tree leaves : List ℕ)
+    → closing mark entries l a (going n words tree [] leaves)
+    ≡ record { mark = mark; entries = entries; root = l; ahead = a; waiting = waitingIn n words; tree = tree; leaves = leaves; answer = none }
 unfolding closing join fetch.movedLink
-closing-none mark entries l n words tree leaves = refl
+closing-none mark entries l a n words tree leaves = refl
 
 module _ (j : Job) (draw : ℕ → ℕ) (f : Fetched) (h : Held) {words scratch tree : List ℕ} (trace : List ℕ) (b : Finishes j f h words scratch tree)
     (long : 2 * j .rounds ≤ length trace) (o : outcome.Outcome) (row : List ℕ) (made : toOutcome o (nodesOf (heldIn row (o .made))) ≡ outcomeOf j h)
-    {words′ : List ℕ} {m : ℕ} (joined : NodesJoined (f .waiting) (nodesFrom row) (o .made) words words′ m) where
+    (a : ahead.Ahead) (known : toAhead a ≡ aheadOf j) {words′ : List ℕ} {m : ℕ} (joined : NodesJoined (f .waiting) (nodesFrom row) (o .made) words words′ m) where
   abbrev O : Outcome ℕ
   O = outcomeOf j h
 
@@ -159,12 +160,12 @@ module _ (j : Job) (draw : ℕ → ℕ) (f : Fetched) (h : Held) {words scratch 
         ∙ ap₂ (λ (n d : ℕ). (take n trace ++ draws) ++ drop d trace) (sym (b .leaves-are)) (ap (λ (n : ℕ). j .rounds + n) many ∙ sym leaves-many)
 
     kept-as : {mark : ℕ} → mark ≡ r .mark
-        → saved (j .structure) (j .size) (r .mark) (o .entries) (o .root) (waitingIn (r .waiting) words″)
-        ≡ saved (j .structure) (j .size) mark (O .entries) (fromLink (O .root)) (waitingIn (r .waiting) words″)
-    kept-as e = saved-same {ws = waitingIn (r .waiting) words″} (sym e) (ap (λ (x : Outcome ℕ). x .entries) made) (ap (λ (x : Outcome ℕ). fromLink (x .root)) made) refl
+        → saved (j .structure) (j .size) (r .mark) (o .entries) (o .root) a (waitingIn (r .waiting) words″)
+        ≡ saved (j .structure) (j .size) mark (O .entries) (fromLink (O .root)) (fromAhead (aheadOf j)) (waitingIn (r .waiting) words″)
+    kept-as e = saved-same {ws = waitingIn (r .waiting) words″} (sym e) (ap (λ (x : Outcome ℕ). x .entries) made) (ap (λ (x : Outcome ℕ). fromLink (x .root)) made) (ap fromAhead known) refl
 
     abbrev ran : Reply → Ran
-    ran p = record { ran = true; mark = r .mark; entries = o .entries; root = o .root; waiting = r .waiting; reply = p; leaves = j .rounds + r .shown }
+    ran p = record { ran = true; mark = r .mark; entries = o .entries; root = o .root; ahead = a; waiting = r .waiting; reply = p; leaves = j .rounds + r .shown }
 
     abbrev EndsAs : Reply → Type 0
     EndsAs p = leftBy (j .structure) (j .size) (ran p) words″ tree″ trace″ ≡ endingWith (j .structure) (j .size) trace (finishedBy j draw f h words tree trace)
@@ -176,15 +177,15 @@ module _ (j : Job) (draw : ℕ → ℕ) (f : Fetched) (h : Held) {words scratch 
         ended-same (kept-as refl) q (sym leaves-many) refl trace-is
         ∙ ap (endingWith (j .structure) (j .size) trace)
         (sym
-        (ap (afterPuts O) (came-to ∙ stops-here (r .mark) end (done O) marked)
-        ∙ closing-none (r .mark) (O .entries) (O .root) (r .waiting) words″ tree″ leaves″))
+        (ap (afterPuts (aheadOf j) O) (came-to ∙ stops-here (r .mark) end (done O) marked)
+        ∙ closing-none (r .mark) (O .entries) (O .root) (aheadOf j) (r .waiting) words″ tree″ leaves″))
 
     -- They all went on.
     finish-answers : {p : Reply} → r .mark ≡ 0 → p ≡ replyOf (toAnswer (o .answer)) → EndsAs p
     unfolding afterPuts replied
     finish-answers went q =
         ended-same (kept-as (sym went)) (q ∙ ap (λ (x : Outcome ℕ). replyOf (x .answer)) made) (sym leaves-many) refl trace-is
-        ∙ ap (endingWith (j .structure) (j .size) trace) (sym (ap (afterPuts O) (came-to ∙ goes-on (r .mark) end (done O) went)))
+        ∙ ap (endingWith (j .structure) (j .size) trace) (sym (ap (afterPuts (aheadOf j) O) (came-to ∙ goes-on (r .mark) end (done O) went)))
 
     pub finish-ends : {p : Reply} → p ≡ answered (r .mark) (toAnswer (o .answer)) → FinishedAs j draw f h words tree trace words″ tree″ trace″ (ran p)
     finish-ends {p} q = record { holds = puts .holds; ran = refl; enough = omega arith; ends = go (ℕ-discrete (r .mark) 0) }

@@ -10,27 +10,32 @@ use Rattle.call_ending.proofs.finish.Lts as lts
 use Rattle.replies.proofs.reply_after.Reads as reply-after-reads
 use Rattle.put_rounds.proofs.put_rounds.Reads as put-rounds-reads
 use Rattle.stash.proofs.join.join_nodes.Reads as join-nodes-reads
-use Rattle.structures.proofs.step.Reads as step-reads
+use Rattle.structures.proofs.ahead_after.Reads as ahead-after-reads
+use Rattle.call_ending.proofs.step_of.Reads as step-of-reads
 
-step-requires : tie.Need-step-requires
-step-requires c κs =
+step-of-requires : tie.Need-step-of-requires
+step-of-requires c κs =
     let s = c .before .before .before .before .before .before in
     let held = s .pre .0 .held in
-    (record { sized = s .pre .1 .0 .0; few = held .few; low = held .low; root-low = s .pre .0 .root-low }, s .pre .1 .0 .1)
+    (record { sized = s .pre .1 .0 .0; few = held .few; low = held .low; root-low = s .pre .0 .root-low }, (s .pre .1 .0 .1, s .pre .0 .key-left))
+
+ahead-after-requires : tie.Need-ahead-after-requires
+ahead-after-requires c κs = c .before .before .before .before .before .before .before .pre .0 .key-left
 
 join-nodes-requires : tie.Need-join-nodes-requires
 join-nodes-requires c κs =
-    let s = c .before .before .before .before .before .before .before .before .before .before in
-    let step = c .before .before .before .step in
+    let s = c .before .before .before .before .before .before .before .before .before .before .before in
+    let step = c .before .before .before .before .step-of in
     (s .pre .0 .holds, (step .ensures .1 .1, (step .ensures .1 .0, omega (arith, s .pre .0 .room, step .ensures .1 .0))))
 
 put-rounds-requires : tie.Need-put-rounds-requires
 put-rounds-requires c κs =
-    let s = c .before .before .before .before .before .before .before .before .before .before .before .before .before .before .before in
+    let s = c .before .before .before .before .before .before .before .before .before .before .before .before .before .before .before .before in
     let a = s .args in
-    let step = c .before .before .before .before .before .before .before .before .step in (
+    let ahead = c .before .before .before .before .before .before .before .before in
+    let step = ahead .before .step-of in (
       finish-stepped (a .job) (drawOf (a .job .size) (a .tape .now)) (a .f) (heldIn (a .held .now) (a .f .count)) (a .trace .now) (s .pre .0) (s .pre .1 .1 .1) (step .result) _ (step .ensures .0)
-          (c .before .before .before .before .join-nodes .ensures),
+          (ahead .ahead-after .result) (ahead .ahead-after .ensures) (c .before .before .before .before .join-nodes .ensures),
       (s .pre .0 .some-rounds, s .pre .1 .1),
     )
 
@@ -39,7 +44,7 @@ reply-after-requires c κs = search needs
 
 add-leaves : tie.Need-add-leaves
 add-leaves c =
-    let s = c .before .before .before .before .before .before .before .before .before .before .before .before .before .before .before .before .before .before .before .before .before .before .before in
+    let s = c .before .before .before .before .before .before .before .before .before .before .before .before .before .before .before .before .before .before .before .before .before .before .before .before in
     omega (arith, c .before .before .before .before .before .before .before .put-rounds .ensures .no-more, s .pre .0 .few-rounds)
 
 same-length : tie.Need-same-length
@@ -50,18 +55,20 @@ same-length-2 c = search needs
 
 returns : tie.Need-returns
 returns c =
-    let s = c .before .before .before .before .before .before .before .before .before .before .before .before .before .before .before .before .before .before .before .before .before .before .before in
+    let s = c .before .before .before .before .before .before .before .before .before .before .before .before .before .before .before .before .before .before .before .before .before .before .before .before in
     let a = s .args in
     let p = c .before .before .before .before .before .before .before in
-    let step = c .before .before .before .before .before .before .before .before .before .before .before .before .before .before .before .before .step in
+    let ahead = c .before .before .before .before .before .before .before .before .before .before .before .before .before .before .before .before in
+    let step = ahead .before .step-of in
     finish-ends (a .job) (drawOf (a .job .size) (a .tape .now)) (a .f) (heldIn (a .held .now) (a .f .count)) (a .trace .now) (s .pre .0) (s .pre .1 .1 .1) (step .result) _ (step .ensures .0)
-    (c .before .before .before .before .before .before .before .before .before .before .before .before .join-nodes .ensures) (p .put-rounds .ensures) (c .before .before .reply-after .ensures)
+    (ahead .ahead-after .result) (ahead .ahead-after .ensures) (c .before .before .before .before .before .before .before .before .before .before .before .before .join-nodes .ensures) (p .put-rounds .ensures) (c .before .before .reply-after .ensures)
 
 pub finish-spec : {M : Type 1} → statement M
 finish-spec =
     tie.close
     (tie.spec
-    step-requires
+    step-of-requires
+    ahead-after-requires
     join-nodes-requires
     put-rounds-requires
     reply-after-requires

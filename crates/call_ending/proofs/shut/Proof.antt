@@ -15,7 +15,7 @@ join-nodes-requires c κs = search needs
 
 returns : tie.Need-returns
 returns c =
-    let s = c .before .before .before .before .before .before in
+    let s = c .before .before .before .before .before .before .before .before in
     let a = s .args in
     shut-ends (a .job) (a .f) (a .w .now) (a .held .now) (a .froms .now) (c .before .before .before .move-tags .ensures) (c .join-nodes .ensures)
 

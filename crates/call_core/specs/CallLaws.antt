@@ -13,9 +13,10 @@ use Rattle.list_spec.specs.Ascending.{ascending}
 use Rattle.list_spec.specs.Distinct.{All}
 use Rattle.slot_spec.specs.LittleEndian.{Bytes}
 use Rattle.slot_spec.specs.Tree.{treeLength}
+use Rattle.slot_spec.specs.declared.Ahead.{Ahead}
 use Rattle.method_spec.specs.Node.{Node}
 use Rattle.method_spec.specs.Answer as method
-use Rattle.method_spec.specs.Answer.{Structure, get, put, remove, push, pop, add, take as take-smallest}
+use Rattle.method_spec.specs.Answer.{Structure, get, put, remove, push, pop, add, take as take-smallest, enqueue, dequeue}
 use Rattle.method_spec.specs.Rounds.{rounds, spare}
 use Rattle.run_laws.specs.RoundsLaws.{some-rounds}
 use Rattle.round_laws.specs.Sorted.{ascending-distinct}
@@ -27,9 +28,9 @@ use Rattle.leaf_spec.specs.Entries.{OpFits}
 use Rattle.state_spec.specs.declared.Place.{Place}
 use Rattle.state_spec.specs.declared.State.{State}
 use Rattle.state_spec.specs.Fit.{fits, used, keysIn}
-use Rattle.state_spec.specs.Ticket.{ticketLength, opIn, structureOf as numbered}
+use Rattle.state_spec.specs.Ticket.{ticketLength, opIn, structureOf as numbered, outOfKeys}
 use Rattle.state_spec.specs.Fetching.{roundsOf, spareOf}
-use Rattle.leaf_spec.specs.Convert.{toLink, toNode}
+use Rattle.leaf_spec.specs.Convert.{toLink, toAhead, toNode}
 use Rattle.operation_spec.specs.declared.Op.{Op}
 use Rattle.operation_spec.specs.Method.{toOp, structureOf}
 use Rattle.tickets.specs.declared.Asked.the-variants.{Call, Unknown}
@@ -38,7 +39,7 @@ use Rattle.call_spec.specs.Store.{refusing, ending, storeOf, callWith, called}
 use Rattle.fitness_laws.specs.FitState.{FitState, fit-state}
 use Rattle.fitness_laws.specs.FitStores.{fit-store}
 use Rattle.state_spec.specs.Widths.{LinkWidths, Widths}
-use Rattle.fitness_laws.specs.Tickets.{op-fits}
+use Rattle.fitness_laws.specs.Tickets.{op-fits, key-left}
 use Rattle.stash.specs.Stash.{Loaded}
 use Rattle.want_rounds.specs.declared.Job.{Job}
 use Rattle.want_rounds.specs.Wanting.{storeAt}
@@ -80,6 +81,8 @@ structure-back (push v) = refl
 structure-back pop = refl
 structure-back (add v) = refl
 structure-back take-smallest = refl
+structure-back (enqueue v) = refl
+structure-back dequeue = refl
 
 fits-back : {s : Structure} (a : method.Op s) → OpFits a → OpFits (toOp (fromOp a))
 unfolding fromOp
@@ -90,6 +93,20 @@ fits-back (push v) h = h
 fits-back pop h = h
 fits-back (add v) h = h
 fits-back take-smallest h = h
+fits-back (enqueue v) h = h
+fits-back dequeue h = h
+
+keys-back : {s : Structure} (a : method.Op s) (next : ℕ) → outOfKeys (toOp (fromOp a)) next ≡ outOfKeys a next
+unfolding fromOp
+keys-back (get k) next = refl
+keys-back (put k v) next = refl
+keys-back (remove k) next = refl
+keys-back (push v) next = refl
+keys-back pop next = refl
+keys-back (add v) next = refl
+keys-back take-smallest next = refl
+keys-back (enqueue v) next = refl
+keys-back dequeue next = refl
 
 call-back : {s : Structure} (a : method.Op s) (k F : ℕ) (draw : ℕ → ℕ) (st : Store) → bucketCall k F (toOp (fromOp a)) draw st ≡ bucketCall k F a draw st
 unfolding fromOp
@@ -100,6 +117,12 @@ call-back (push v) n F draw st = refl
 call-back pop n F draw st = refl
 call-back (add v) n F draw st = refl
 call-back take-smallest n F draw st = refl
+call-back (enqueue v) n F draw st = refl
+call-back dequeue n F draw st = refl
+
+-- What is known ahead, within the widths of its types.
+abbrev pub AheadWidths : Ahead → Type 0
+AheadWidths a = (a .key < 2 ^ 32) × (a .tag < 2 ^ 16)
 
 -- What the checks of a call make sure of, with the ranges that the types give.
 pub record Checked (s : State) (op : Op) (F : ℕ) (tree ticket tape trace : List ℕ) : Type 0 where
@@ -108,12 +131,14 @@ pub record Checked (s : State) (op : Op) (F : ℕ) (tree ticket tape trace : Lis
   pub tree-sized : length tree ≡ treeLength (s .size)
   pub ticket-sized : length ticket ≡ ticketLength
   pub asks : asked (s .structure) ticket ≡ Call op
+  pub keys : outOfKeys (toOp op) (s .ahead .key) ≡ false
   pub rounds-are : F ≡ rounds (numbered (s .structure)) (s .size)
   pub tape-long : 2 * F + spareOf (s .structure) ≤ length tape
   pub trace-long : 2 * F ≤ length trace
   pub tree-bytes : Bytes tree
   pub ticket-bytes : Bytes ticket
   pub root-widths : LinkWidths (s .root)
+  pub ahead-widths : AheadWidths (s .ahead)
 
 module _ (s : State) (tree ticket tape trace : List ℕ) where
   -- ---- the refusals, in document 01's order
@@ -148,27 +173,38 @@ module _ (s : State) (tree ticket tape trace : List ℕ) where
           unfolding callWith
           refused-5 h = past ∙ rw (unknown-none (opIn st ticket) h)
 
-          module _ (op : Op) (asks : asked (s .structure) ticket ≡ Call op) (F : ℕ) (rounds-are : F ≡ rounds st (s .size)) where
+          module _ (op : Op) (asks : asked (s .structure) ticket ≡ Call op) where
             a : AsksFor st (opIn st ticket) op
             a = asks-for (opIn st ticket) op asks
 
-            pub refused-6 : length tape < 2 * F + spareOf (s .structure) → called s tree ticket tape trace ≡ refusing 6 s tree trace
+            same-keys : outOfKeys (a .asks) (s .ahead .key) ≡ outOfKeys (toOp op) (s .ahead .key)
+            same-keys = sym (keys-back (a .asks) (s .ahead .key)) ∙ ap (λ (x : Op). outOfKeys (toOp x) (s .ahead .key)) (a .same)
+
+            pub refused-17 : outOfKeys (toOp op) (s .ahead .key) ≡ true → called s tree ticket tape trace ≡ refusing 17 s tree trace
             unfolding callWith
-            refused-6 h = past ∙ rw (a .is, ← rounds-are, lt-ltb (length tape) (2 * F + spareOf (s .structure)) h)
+            refused-17 h = past ∙ rw (a .is, same-keys ∙ h)
 
-            module _ (tape-long : 2 * F + spareOf (s .structure) ≤ length tape) where
-              pub refused-7 : length trace < 2 * F → called s tree ticket tape trace ≡ refusing 7 s tree trace
-              unfolding callWith
-              refused-7 h = past ∙ rw (a .is, ← rounds-are, le-ltb (length tape) (2 * F + spareOf (s .structure)) tape-long, lt-ltb (length trace) (2 * F) h)
+            module _ (keys : outOfKeys (toOp op) (s .ahead .key) ≡ false) (F : ℕ) (rounds-are : F ≡ rounds st (s .size)) where
+              has-key : outOfKeys (a .asks) (s .ahead .key) ≡ false
+              has-key = same-keys ∙ keys
 
-              pub goes-on : 2 * F ≤ length trace → called s tree ticket tape trace ≡ ending s trace (bucketCall (s .size) F (toOp op) (drawOf (s .size) tape) (storeOf s tree))
+              pub refused-6 : length tape < 2 * F + spareOf (s .structure) → called s tree ticket tape trace ≡ refusing 6 s tree trace
               unfolding callWith
-              goes-on trace-long =
-                  past
-                  ∙ rw (a .is, ← rounds-are, le-ltb (length tape) (2 * F + spareOf (s .structure)) tape-long, le-ltb (length trace) (2 * F) trace-long)
-                  (ap (ending s trace)
-                  (sym (call-back (a .asks) (s .size) F (drawOf (s .size) tape) (storeOf s tree))
-                  ∙ ap (λ (x : Op). bucketCall (s .size) F (toOp x) (drawOf (s .size) tape) (storeOf s tree)) (a .same)))
+              refused-6 h = past ∙ rw (a .is, has-key, ← rounds-are, lt-ltb (length tape) (2 * F + spareOf (s .structure)) h)
+
+              module _ (tape-long : 2 * F + spareOf (s .structure) ≤ length tape) where
+                pub refused-7 : length trace < 2 * F → called s tree ticket tape trace ≡ refusing 7 s tree trace
+                unfolding callWith
+                refused-7 h = past ∙ rw (a .is, has-key, ← rounds-are, le-ltb (length tape) (2 * F + spareOf (s .structure)) tape-long, lt-ltb (length trace) (2 * F) h)
+
+                pub goes-on : 2 * F ≤ length trace → called s tree ticket tape trace ≡ ending s trace (bucketCall (s .size) F (toOp op) (drawOf (s .size) tape) (storeOf s tree))
+                unfolding callWith
+                goes-on trace-long =
+                    past
+                    ∙ rw (a .is, has-key, ← rounds-are, le-ltb (length tape) (2 * F + spareOf (s .structure)) tape-long, le-ltb (length trace) (2 * F) trace-long)
+                    (ap (ending s trace)
+                    (sym (call-back (a .asks) (s .size) F (drawOf (s .size) tape) (storeOf s tree))
+                    ∙ ap (λ (x : Op). bucketCall (s .size) F (toOp x) (drawOf (s .size) tape) (storeOf s tree)) (a .same)))
 
 -- ---- all checks were passed
 module _ {s : State} {op : Op} {F : ℕ} {tree ticket tape trace : List ℕ} (ok : Checked s op F tree ticket tape trace) {n : ℕ} {words : List ℕ} (loaded : Loaded s words n) where
@@ -176,13 +212,13 @@ module _ {s : State} {op : Op} {F : ℕ} {tree ticket tape trace : List ℕ} (ok
   k = s .size
 
   abbrev job : Job
-  job = jobFor (s .structure) k (s .entries) (s .root) op F tape
+  job = jobFor (s .structure) k (s .entries) (s .root) (s .ahead) op F tape
 
   state-fits : FitState s
   state-fits = fit-state s (ok .fit)
 
   same-store : storeAt job n words tree ≡ storeOf s tree
-  same-store = ap (λ (ws : List (Node ℕ)). record { entries = s .entries; root = toLink (s .root); waiting = ws; tree = tree }) (loaded .waiting)
+  same-store = ap (λ (ws : List (Node ℕ)). record { entries = s .entries; root = toLink (s .root); ahead = toAhead (s .ahead); waiting = ws; tree = tree }) (loaded .waiting)
 
   -- The waiting nodes that were loaded are within their widths.
   widths : Widths s
@@ -190,6 +226,7 @@ module _ {s : State} {op : Op} {F : ℕ} {tree ticket tape trace : List ℕ} (ok
       record {
         entries = let most : 2 ^ k ≤ 2 ^ 8 = pow-mono (state-fits .size .1) in omega (arith, state-fits .entries);
         root = ok .root-widths;
+        ahead = ok .ahead-widths;
         nodes = λ p m. subst (All InWidths) (loaded .waiting) (loaded .holds .ranged) (toNode (p .node)) (Memᴰ·map (λ (q : Place). toNode (q .node)) m);
       }
 
@@ -220,10 +257,12 @@ module _ {s : State} {op : Op} {F : ℕ} {tree ticket tape trace : List ℕ} (ok
               rounds-are = ok .rounds-are ∙ ap (λ (x : Structure). rounds x k) structure-is;
               structure-is = structure-is;
               limit-is = refl;
-              tag-is = refl;
+              first-is = refl;
+              second-is = refl;
               puts-are = ap (λ (x : Structure). F + spare x) structure-is ∙ sym (add-zero (F + spare (structureOf op)));
               op-fits =
                   subst (λ (x : Op). OpFits (toOp x)) (ask .same) (fits-back (ask .asks) (op-fits here ticket (ok .ticket-bytes) (ask .asks) (ask .is)));
+              key-left = key-left (toOp op) (s .ahead .key) (ok .ahead-widths .0) (ok .keys);
               fit = rw (same-store, ← structure-is) (fit-store s tree (ok .fit) (ok .tree-sized) (ok .tree-bytes) widths);
               rests =
                   record {
@@ -247,15 +286,25 @@ module _ {s : State} {op : Op} {F : ℕ} {tree ticket tape trace : List ℕ} (ok
       rw ran
       (q
       ∙ ap (λ (x : Store). ending s trace (bucketCall k F (toOp op) (drawOf k tape) x)) same-store
-      ∙ sym (goes-on s tree ticket tape trace (ok .not-closed) (ok .fit) (ok .tree-sized) (ok .ticket-sized) op (ok .asks) F (ok .rounds-are) (ok .tape-long) (ok .trace-long)))
+      ∙ sym (goes-on s tree ticket tape trace (ok .not-closed) (ok .fit) (ok .tree-sized) (ok .ticket-sized) op (ok .asks) (ok .keys) F (ok .rounds-are) (ok .tape-long) (ok .trace-long)))
 
 -- ---- by the head that the core is given
+some-spare : (x : Structure) → 1 ≤ spare x
+unfolding spare
+some-spare method.map = omega arith
+some-spare method.stack = omega arith
+some-spare method.heap = omega arith
+some-spare method.queue = omega arith
+
 module _ {s : State} {h : Head} {words : List ℕ} (st : StandsFor s h words) where
   pub head-sizes : (1 ≤ h .size) × (h .size ≤ 8)
   head-sizes = let q = fit-state s (st .fit) .size in rw (st .head) q
 
   pub head-rounds : {F : ℕ} → F ≡ roundsOf (h .structure) (h .size) → 1 ≤ F
   head-rounds e = rw e (some-rounds (numbered (h .structure)) (h .size) (head-sizes .0))
+
+  pub head-spare : 1 ≤ spareOf (h .structure)
+  head-spare = some-spare (numbered (h .structure))
 
   module _ (tree ticket tape trace : List ℕ) where
     abbrev Gives : ℕ → Type 0
@@ -275,46 +324,55 @@ module _ {s : State} {h : Head} {words : List ℕ} (st : StandsFor s h words) wh
         pub gives-5 : asked (h .structure) ticket ≡ Unknown → Gives 5
         gives-5 e = refused-5 s tree ticket tape trace (st .not-closed) (st .fit) tree-is whole (rw (st .head) at e)
 
-        module _ (op : Op) (asks : asked (h .structure) ticket ≡ Call op) (F : ℕ) (rounds-are : F ≡ roundsOf (h .structure) (h .size)) where
+        module _ (op : Op) (asks : asked (h .structure) ticket ≡ Call op) where
           asks-is : asked (s .structure) ticket ≡ Call op
           asks-is = rw (st .head) at asks
 
-          rounds-is : F ≡ roundsOf (s .structure) (s .size)
-          rounds-is = rw (st .head) at rounds-are
+          pub gives-17 : outOfKeys (toOp op) (h .ahead .key) ≡ true → Gives 17
+          gives-17 e = refused-17 s tree ticket tape trace (st .not-closed) (st .fit) tree-is whole op asks-is (rw (st .head) at e)
 
-          pub gives-6 : length tape < 2 * F + spareOf (h .structure) → Gives 6
-          gives-6 short = refused-6 s tree ticket tape trace (st .not-closed) (st .fit) tree-is whole op asks-is F rounds-is (rw (st .head) at short)
+          module _ (keys : outOfKeys (toOp op) (h .ahead .key) ≡ false) (F : ℕ) (rounds-are : F ≡ roundsOf (h .structure) (h .size)) where
+            keys-are : outOfKeys (toOp op) (s .ahead .key) ≡ false
+            keys-are = rw (st .head) at keys
 
-          module _ (long : 2 * F + spareOf (h .structure) ≤ length tape) where
-            pub gives-7 : length trace < 2 * F → Gives 7
-            gives-7 = refused-7 s tree ticket tape trace (st .not-closed) (st .fit) tree-is whole op asks-is F rounds-is (rw (st .head) at long)
+            rounds-is : F ≡ roundsOf (s .structure) (s .size)
+            rounds-is = rw (st .head) at rounds-are
 
-            pub all-checked : 2 * F ≤ length trace → Bytes tree → Bytes ticket → LinkWidths (h .root) → Checked s op F tree ticket tape trace
-            all-checked trace-long tree-bytes ticket-bytes root-widths =
-                record {
-                  not-closed = st .not-closed;
-                  fit = st .fit;
-                  tree-sized = tree-is;
-                  ticket-sized = whole;
-                  asks = asks-is;
-                  rounds-are = rounds-is;
-                  tape-long = rw (st .head) at long;
-                  trace-long = trace-long;
-                  tree-bytes = tree-bytes;
-                  ticket-bytes = ticket-bytes;
-                  root-widths = rw (st .head) at root-widths;
-                }
+            pub gives-6 : length tape < 2 * F + spareOf (h .structure) → Gives 6
+            gives-6 short = refused-6 s tree ticket tape trace (st .not-closed) (st .fit) tree-is whole op asks-is keys-are F rounds-is (rw (st .head) at short)
+
+            module _ (long : 2 * F + spareOf (h .structure) ≤ length tape) where
+              pub gives-7 : length trace < 2 * F → Gives 7
+              gives-7 = refused-7 s tree ticket tape trace (st .not-closed) (st .fit) tree-is whole op asks-is keys-are F rounds-is (rw (st .head) at long)
+
+              pub all-checked : 2 * F ≤ length trace → Bytes tree → Bytes ticket → LinkWidths (h .root) → AheadWidths (h .ahead) → Checked s op F tree ticket tape trace
+              all-checked trace-long tree-bytes ticket-bytes root-widths ahead-widths =
+                  record {
+                    not-closed = st .not-closed;
+                    fit = st .fit;
+                    tree-sized = tree-is;
+                    ticket-sized = whole;
+                    asks = asks-is;
+                    keys = keys-are;
+                    rounds-are = rounds-is;
+                    tape-long = rw (st .head) at long;
+                    trace-long = trace-long;
+                    tree-bytes = tree-bytes;
+                    ticket-bytes = ticket-bytes;
+                    root-widths = rw (st .head) at root-widths;
+                    ahead-widths = rw (st .head) at ahead-widths;
+                  }
 
 -- What was run for a head is what is run for the state.
 pub head-runs : {s : State} {h : Head} {words : List ℕ} (st : StandsFor s h words) {op : Op} {F : ℕ} {tree ticket tape trace : List ℕ}
-    → Checked s op F tree ticket tape trace → Runs (jobFor (h .structure) (h .size) (h .entries) (h .root) op F tape) (h .waiting) words tree tape trace
+    → Checked s op F tree ticket tape trace → Runs (jobFor (h .structure) (h .size) (h .entries) (h .root) (h .ahead) op F tape) (h .waiting) words tree tape trace
 head-runs st ok = rw (st .head) (can-run ok (st .loaded))
 
 pub head-left : {s : State} {h : Head} {words : List ℕ} (st : StandsFor s h words) {op : Op} {F : ℕ} {tree ticket tape trace : List ℕ}
     → Checked s op F tree ticket tape trace → (r : Ran) (words′ : List ℕ) {tree′ trace′ : List ℕ} → r .ran ≡ true
     → leftBy (h .structure) (h .size) r words′ tree′ trace′
     ≡ endingWith (h .structure) (h .size) trace
-    (bucketCall (h .size) F (toOp op) (drawOf (h .size) tape) (storeAt (jobFor (h .structure) (h .size) (h .entries) (h .root) op F tape) (h .waiting) words tree))
+    (bucketCall (h .size) F (toOp op) (drawOf (h .size) tape) (storeAt (jobFor (h .structure) (h .size) (h .entries) (h .root) (h .ahead) op F tape) (h .waiting) words tree))
     → leftOf s r words′ tree′ trace′ ≡ called s tree ticket tape trace
 head-left st ok r words′ ran q = then-left ok (st .loaded) r words′ ran (rw (st .head) at q)
 
@@ -322,7 +380,7 @@ head-left st ok r words′ ran q = then-left ok (st .loaded) r words′ ran (rw 
 module _ {h : Head} {words tree ticket tape trace : List ℕ} (st : Stands h words) where
   -- It refuses.
   pub core-refuses : (n : ℕ) {r : Ran}
-      → r ≡ record { ran = false; mark = 0; entries = h .entries; root = h .root; waiting = h .waiting; reply = Refused n; leaves = 0 }
+      → r ≡ record { ran = false; mark = 0; entries = h .entries; root = h .root; ahead = h .ahead; waiting = h .waiting; reply = Refused n; leaves = 0 }
       → ((s : State) → StandsFor s h words → called s tree ticket tape trace ≡ refusing n s tree trace)
       → CallsAs h words tree ticket tape trace words tree trace r
   core-refuses n e gives = rw e (record { calls = λ s x. sym (gives s x); holds = rw (st .for .head) (st .for .loaded .holds) })

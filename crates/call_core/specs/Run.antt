@@ -6,6 +6,7 @@ use Prim.Native.Nat.{ℕ, _+_, _*_, _≤_}
 use lib.ListN.{length}
 use Rattle.list_spec.specs.Choice.{pick}
 use Rattle.slot_spec.specs.declared.Link.{Link}
+use Rattle.slot_spec.specs.declared.Ahead.{Ahead}
 use Rattle.method_spec.specs.Call.{capacity}
 use Rattle.word_round_laws.specs.Words.{wordCount}
 use Rattle.bucket_call_spec.specs.Call.{drawOf}
@@ -25,7 +26,7 @@ use Rattle.call_ending.specs.declared.Ran.{Ran}
 
 -- The head of a state: all of it but the mark and the places.
 abbrev pub headOf : State → Head
-headOf s = record { structure = s .structure; size = s .size; entries = s .entries; root = s .root; waiting = s .count }
+headOf s = record { structure = s .structure; size = s .size; entries = s .entries; root = s .root; ahead = s .ahead; waiting = s .count }
 
 -- A state that is open and fits, with this head and with its waiting nodes in words.
 pub record StandsFor (s : State) (h : Head) (words : List ℕ) : Type 0 where
@@ -43,7 +44,7 @@ pub record Stands (h : Head) (words : List ℕ) : Type 0 where
 abbrev pub leftOf : State → Ran → (words tree trace : List ℕ) → Ended
 leftOf s r words tree trace =
     record {
-      state = pick (r .ran) (saved (s .structure) (s .size) (r .mark) (r .entries) (r .root) (waitingIn (r .waiting) words)) s;
+      state = pick (r .ran) (saved (s .structure) (s .size) (r .mark) (r .entries) (r .root) (r .ahead) (waitingIn (r .waiting) words)) s;
       reply = r .reply;
       leaves = r .leaves;
       tree = tree;
@@ -57,9 +58,9 @@ pub record CallsAs (h : Head) (words tree ticket tape trace words′ tree′ tra
 
 -- ---- its parts
 
--- The job of a call: a new node's tag is the draw after those of the fetch rounds.
-abbrev pub jobFor : (structure size entries : ℕ) → Link → Op → (rounds : ℕ) → List ℕ → Job
-jobFor structure size entries root op F tape =
+-- The job of a call: a new node's tags come from the two draws after those of the fetch rounds, and from what is known ahead.
+abbrev pub jobFor : (structure size entries : ℕ) → Link → Ahead → Op → (rounds : ℕ) → List ℕ → Job
+jobFor structure size entries root ahead op F tape =
     record {
       op = op;
       structure = structure;
@@ -68,7 +69,7 @@ jobFor structure size entries root op F tape =
       limit = capacity size;
       entries = entries;
       root = root;
-      tag = drawOf size tape F;
+      spares = record { first = drawOf size tape F; second = drawOf size tape (F + 1); ahead = ahead };
       puts = F + spareOf structure;
     }
 

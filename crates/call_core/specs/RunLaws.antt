@@ -17,7 +17,7 @@ use Rattle.bucket_call_spec.specs.Call.{Store, drawOf, fetchedBy, bucketCall}
 use Rattle.none_lost_laws.specs.Sound.{placesFor}
 use Rattle.none_lost_laws.specs.Lost.{left-shut, left-on, fetch-closing, stepping}
 use Rattle.state_spec.specs.Ticket as ticket
-use Rattle.leaf_spec.specs.Convert.{toLink}
+use Rattle.leaf_spec.specs.Convert.{toLink, toAhead}
 use Rattle.operation_spec.specs.Method.{toOp, outcomeIn}
 use Rattle.node_rows.specs.Row.{words as rowWords, fromIn, fromsIn}
 use Rattle.node_rows.specs.Held.{Held, nodesOf}
@@ -30,7 +30,7 @@ use Rattle.want_rounds.specs.declared.Job.{Job}
 use Rattle.want_rounds.specs.declared.Fetched.{Fetched}
 use Rattle.idle_rounds.specs.IdleLaws.{draw-leaf, goes-on, stops-here}
 use Rattle.want_rounds.specs.Wanting.{structureIn, programOf, storeAt, fetched, Begins, Fetches}
-use Rattle.want_rounds.specs.WantingLaws.{at-most, root-low, same-program, held-length}
+use Rattle.want_rounds.specs.WantingLaws.{at-most, root-low, same-program, same-ahead, held-length}
 use Rattle.fetch_rounds.specs.FetchLaws.{Done, is-done, drop-on}
 use Rattle.call_ending.specs.declared.Ran.{Ran}
 use Rattle.call_ending.specs.Ending.{leftBy, endingWith, goingBy, outcomeOf, Shuts, ShutAs, Finishes, finishedBy, FinishedAs}
@@ -94,13 +94,13 @@ module _ {j : Job} {n : ℕ} {words tree tape trace : List ℕ} (ok : Runs j n w
       closed-by : fetchedBy k F op draw store ≡ shut (f .mark) mid
       closed-by = all-fetched ∙ came .outcome ∙ stops-here (f .mark) mid (after (programOf j) (nodesOf h)) marked
 
-      left-is : bucketCall k F op draw store ≡ closing (f .mark) (j .entries) (toLink (j .root)) mid
+      left-is : bucketCall k F op draw store ≡ closing (f .mark) (j .entries) (toLink (j .root)) (toAhead (j .spares .ahead)) mid
       left-is = left-shut k F op draw store (f .mark) mid closed-by
 
       pub run-shuts : (row : List ℕ) → length row ≡ rowWords → Shuts f words′ row froms
       unfolding closing
       run-shuts row row-words =
-          let keeps = fetch-closing k (begins .some-size) small op (begins .op-fits) draw is-leaf store (begins .fit) (f .mark) mid (rw (← begins .rounds-are) closed-by) .2 in
+          let keeps = fetch-closing k (begins .some-size) small op (begins .op-fits) draw is-leaf store (begins .fit) (begins .key-left) (f .mark) mid (rw (← begins .rounds-are) closed-by) .2 in
           let room : length (join leafFormat (fetch.movedNodes (mid .held)) (mid .waiting)) ≤ placesFor k = rw (← begins .rounds-are, left-is, closing) at (keeps .room) in
           let a = joined-length (fetch.movedNodes (mid .held)) (mid .waiting) in
           let b = length-map (mid .held) (λ (h : fetch.Held). fetch.movedNode (mid .held) (h .node)) in
@@ -117,7 +117,7 @@ module _ {j : Job} {n : ℕ} {words tree tape trace : List ℕ} (ok : Runs j n w
       unfolding closing
       run-ends-shut e =
           let fits : f .leaves ≤ length trace′ = omega (arith, came .no-more, came .trace-sized, long) in
-          let l = closing (f .mark) (j .entries) (toLink (j .root)) mid in
+          let l = closing (f .mark) (j .entries) (toLink (j .root)) (toAhead (j .spares .ahead)) mid in
           let rest : drop (length (take (f .leaves) trace′)) trace′ ≡ drop (length (take (f .leaves) trace′)) trace =
           rw (numbers-first (f .leaves) trace′ fits) (came .untouched) in
           e .ends tree′ trace′ fits
@@ -142,7 +142,7 @@ module _ {j : Job} {n : ℕ} {words tree tape trace : List ℕ} (ok : Runs j n w
 
       pub run-finishes : Finishes j f h words′ scratch′ tree′
       run-finishes =
-          let st = stepping k (begins .some-size) small op (begins .op-fits) draw is-leaf store (begins .fit) mid O (rw (← begins .rounds-are) fetched-all) in
+          let st = stepping k (begins .some-size) small op (begins .op-fits) draw is-leaf store (begins .fit) (begins .key-left) mid O (rw (← begins .rounds-are) fetched-all) in
           let a = joined-length (O .nodes) (mid .waiting) in
           record {
             small = begins .small;
@@ -153,6 +153,7 @@ module _ {j : Job} {n : ℕ} {words tree tape trace : List ℕ} (ok : Runs j n w
             order = came .rests .order;
             held = record { places = came .row-sized; few = came .few; within = omega arith; low = came .low };
             root-low = root-low j draw is-leaf begins;
+            key-left = begins .key-left;
             is-tree = st .sound .is-tree;
             proper = st .sound .waiting;
             room = omega (arith, st .few, a, waiting-length (came .rests .holds));
@@ -160,7 +161,7 @@ module _ {j : Job} {n : ℕ} {words tree tape trace : List ℕ} (ok : Runs j n w
           }
 
       left-finished : bucketCall k F op draw store ≡ finishedBy j draw f h words′ tree′ trace′
-      left-finished = rw (begins .puts-are) (left-on k F op draw store mid O fetched-all)
+      left-finished = rw (begins .puts-are, same-ahead j draw is-leaf begins) (left-on k F op draw store mid O fetched-all)
 
       pub run-ends-finished : {r : Ran} {words″ tree″ trace″ : List ℕ} → FinishedAs j draw f h words′ tree′ trace′ words″ tree″ trace″ r → EndsAs r words″ tree″ trace″
       run-ends-finished {r} e =

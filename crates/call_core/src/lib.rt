@@ -4,10 +4,12 @@ use call_draws::draws_of;
 use call_draws::rounds_of;
 use call_ending::Ran;
 use call_spec::Reply;
+use slot_spec::Ahead;
 use slot_spec::Link;
 use stash_words::WORDS;
 use tickets::Asked;
 use tickets::is_whole;
+use tickets::out_of_keys;
 use tickets::read_ticket;
 use tree_paths::tree_length;
 ghost use mathlib.Core.Path.{_≡_};
@@ -23,19 +25,22 @@ pub struct Head {
     pub size: u8,
     pub entries: u16,
     pub root: Link,
+    pub ahead: Ahead,
     pub waiting: u16,
 }
 
-// A refusal 3 to 7: nothing changes, and no leaf is revealed.
+// A refusal 3 to 7 or 17: nothing changes, and no leaf is revealed.
 fn refused(head: Head, number: u8) -> Ran
-    ensures { λ r. ⌜ r ≡ record { ran = false; mark = 0; entries = head .entries; root = head .root; waiting = head .waiting; reply = Refused number; leaves = 0 } ⌝ }
+    ensures { λ r. ⌜ r ≡ record { ran = false; mark = 0; entries = head .entries; root = head .root; ahead = head .ahead; waiting = head .waiting; reply = Refused number; leaves = 0 } ⌝ }
 {
     let root = head.root;
+    let ahead = head.ahead;
     Ran {
         ran: false,
         mark: 0,
         entries: head.entries,
         root,
+        ahead,
         waiting: head.waiting as usize,
         reply: Reply::Refused(number),
         leaves: 0,
@@ -65,7 +70,13 @@ pub fn call_words(
     let Asked::Call(op) = asked else {
         return refused(head, 5);
     };
-    if tape.len() < draws_of(head.structure, head.size) {
+    let ahead = head.ahead;
+    let keyless = out_of_keys(op, ahead.key);
+    let draws = draws_of(head.structure, head.size);
+    if keyless {
+        return refused(head, 17);
+    }
+    if tape.len() < draws {
         return refused(head, 6);
     }
     let rounds = rounds_of(head.structure, head.size);
@@ -73,6 +84,6 @@ pub fn call_words(
         return refused(head, 7);
     }
     let root = head.root;
-    let job = run::job_for(head.structure, size, head.entries, root, op, rounds, tape);
+    let job = run::job_for(head.structure, size, head.entries, root, ahead, op, rounds, tape);
     run::run(job, w, head.waiting as usize, tree, tape, trace)
 }

@@ -8,12 +8,14 @@ use idle_rounds::idle::draw_at;
 use node_rows::FETCHES;
 use node_rows::ROW;
 use operation_spec::Op;
+use operation_spec::Spares;
+use slot_spec::Ahead;
 use slot_spec::Link;
 use stash_words::WORDS;
 use tree_paths::leaves;
 use want_rounds::Job;
 ghost use mathlib.Core.Path.{_≡_};
-ghost use Prim.Native.Nat.{_≤_, _<_};
+ghost use Prim.Native.Nat.{_+_, _≤_, _<_};
 ghost use lib.ListN.{length};
 ghost use mathlib.Core.Bool.{true};
 ghost use Rattle.operation_spec.specs.Method.{toOp};
@@ -23,21 +25,30 @@ ghost use Rattle.want_rounds.specs.Wanting.{storeAt};
 ghost use Rattle.call_ending.specs.Ending.{leftBy, endingWith};
 ghost use Rattle.call_core.specs.Run.{jobFor, Runs};
 
-// What the rounds of a call are for: a new node would get the draw after those of the fetch rounds as its tag.
+// What the rounds of a call are for: a new node's tags come from the two draws after those of the fetch rounds, and from what is
+// known ahead.
 pub fn job_for(
     structure: u8,
     size: usize,
     entries: u16,
     root: Link,
+    ahead: Ahead,
     op: Op,
     rounds: usize,
     tape: &[u16],
 ) -> Job
-    requires { ⌜ (size ≤ 8) × ((rounds ≤ 33) × (rounds < length (now tape))) ⌝ }
-    ensures { λ r. ⌜ r ≡ jobFor structure size entries root op rounds (now (tape .entry)) ⌝ }
+    requires { ⌜ (size ≤ 8) × ((rounds ≤ 33) × (rounds + 1 < length (now tape))) ⌝ }
+    ensures { λ r. ⌜ r ≡ jobFor structure size entries root ahead op rounds (now (tape .entry)) ⌝ }
 {
     let limit = (leaves(size) - 1) as u16;
-    let tag = draw_at(tape, rounds, size) as u16;
+    let first = draw_at(tape, rounds, size) as u16;
+    let second = draw_at(tape, rounds + 1, size) as u16;
+    let spares = Spares {
+        first,
+        second,
+        ahead,
+    };
+    let spare = spare_of(structure);
     Job {
         op,
         structure,
@@ -46,8 +57,8 @@ pub fn job_for(
         limit,
         entries,
         root,
-        tag,
-        puts: rounds + spare_of(structure),
+        spares,
+        puts: rounds + spare,
     }
 }
 

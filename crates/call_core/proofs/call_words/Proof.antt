@@ -1,10 +1,18 @@
 use mathlib.Core.Path.{_≡_, refl, sym, _∙_}
+use mathlib.Core.Bool.{false}
+use Prim.Native.Nat.{_+_, _*_}
 use lib.ListN.{length}
 use borrow.Author.Tests.{eqb-true, eqb-false, not-true, not-false}
+use Rattle.slot_spec.specs.Tree.{treeLength}
 use Rattle.operation_spec.specs.declared.Op.{Op}
+use Rattle.operation_spec.specs.Method.{toOp}
+use Rattle.state_spec.specs.Ticket.{outOfKeys}
+use Rattle.state_spec.specs.Fetching.{roundsOf, spareOf}
+use Rattle.tickets.specs.declared.Asked.the-variants.{Call}
+use Rattle.tickets.specs.Asked.{asked}
 use Rattle.state_spec.specs.declared.State.{State}
 use Rattle.call_core.specs.Run.{StandsFor}
-use Rattle.call_core.specs.CallLaws.{Checked, bytes-of, head-sizes, head-rounds, gives-3, gives-4, gives-5, gives-6, gives-7, all-checked, head-runs, head-left, core-refuses}
+use Rattle.call_core.specs.CallLaws.{Checked, bytes-of, head-sizes, head-rounds, head-spare, gives-3, gives-4, gives-5, gives-17, gives-6, gives-7, all-checked, head-runs, head-left, core-refuses}
 use borrow.Author.Needs.{needs}
 use native.Mathlib.Omega.{arith}
 use Rattle.call_core.proofs.call_words.Statement.{statement}
@@ -18,6 +26,7 @@ use Rattle.tree_paths.proofs.tree_length.Reads as tree-length-reads
 use Rattle.call_draws.proofs.draws_of.Reads as draws-of-reads
 use Rattle.call_draws.proofs.rounds_of.Reads as rounds-of-reads
 use Rattle.tickets.proofs.is_whole.Reads as is-whole-reads
+use Rattle.tickets.proofs.out_of_keys.Reads as out-of-keys-reads
 use Rattle.tickets.proofs.read_ticket.Reads as read-ticket-reads
 
 -- The ticket is whole.
@@ -26,23 +35,48 @@ whole c =
     let w = c .before .is-whole in
     eqb-true _ 13 (sym (w .ensures) ∙ not-false (w .result) (c .if2 .left))
 
--- ---- where all checks were passed
-module _ (c : tie.Else4) where
+-- ---- once it is known what the ticket asks
+module _ (c : tie.After-draws-of) where
   abbrev start : tie.Start
-  start = c .before .before .before .before .before .before .before .before .before .before .before .before .before .before .before .before .before
+  start = c .before .before .before .before .before .before .before .before .before .before .before .before .before .before .before .before
 
   abbrev op : Op
-  op = c .before .before .before .before .before .asked .given .0 .0
+  op = c .before .before .before .before .asked .given .0 .0
 
-  ok : (s : State) → StandsFor s (start .args .head) (start .args .w .now) → Checked s op (c .before .rounds-of .result) (start .args .tree .now) (start .args .ticket .now) (start .args .tape .now) (start .args .trace .now)
+  sized : length (start .args .tree .now) ≡ treeLength (start .args .head .size)
+  sized = omega (arith, c .before .before .before .before .before .before .before .before .before .if1 .left, c .before .before .before .before .before .before .before .before .before .before .tree-length .ensures)
+
+  whole-ticket : length (start .args .ticket .now) ≡ 13
+  whole-ticket = whole (c .before .before .before .before .before .before .before)
+
+  asks : asked (start .args .head .structure) (start .args .ticket .now) ≡ Call op
+  asks = sym (c .before .before .before .before .before .before .read-ticket .ensures) ∙ c .before .before .before .before .asked .given .1
+
+  keys-are : c .before .out-of-keys .result ≡ outOfKeys (toOp op) (start .args .head .ahead .key)
+  keys-are = c .before .out-of-keys .ensures
+
+  draws-are : c .draws-of .result ≡ 2 * roundsOf (start .args .head .structure) (start .args .head .size) + spareOf (start .args .head .structure)
+  draws-are = c .draws-of .ensures .0
+
+-- There is a key.
+has-key : (c : tie.Else3) → outOfKeys (toOp (op (c .before))) (start (c .before) .args .head .ahead .key) ≡ false
+has-key c = sym (keys-are (c .before)) ∙ c .if3 .left
+
+-- ---- where all checks were passed
+module _ (c : tie.Else5) where
+  abbrev told : tie.After-draws-of
+  told = c .before .before .before .before
+
+  ok : (s : State) → StandsFor s (start told .args .head) (start told .args .w .now)
+      → Checked s (op told) (c .before .rounds-of .result) (start told .args .tree .now) (start told .args .ticket .now) (start told .args .tape .now) (start told .args .trace .now)
   ok s st =
-      let a = start .args in
-      let widths = c .before .before .before .before .before .before .before .before .before .before .before .before .struct-known .given .1 .1 .1 .0 in
-      all-checked st (a .tree .now) (a .ticket .now) (a .tape .now) (a .trace .now) (omega (arith, c .before .before .before .before .before .before .before .before .before .before .if1 .left, c .before .before .before .before .before .before .before .before .before .before .before .tree-length .ensures)) (whole (c .before .before .before .before .before .before .before .before)) op
-      (sym (c .before .before .before .before .before .before .before .read-ticket .ensures) ∙ c .before .before .before .before .before .asked .given .1) (c .before .rounds-of .result) (c .before .rounds-of .ensures .0)
-      (omega (arith, c .before .before .if3 .left, c .before .before .before .draws-of .ensures .0, c .before .rounds-of .ensures .0)) (omega (arith, c .if4 .left))
-      (bytes-of (a .tree .now) (λ i. omega (arith, c .before .before .before .before .before .before .before .before .before .before .before .before .before .before .before .before .slice-known .given i))) (bytes-of (a .ticket .now) (λ i. omega (arith, c .before .before .before .before .before .before .before .before .before .before .before .before .before .before .before .shared-slice-known .given i)))
-      (omega (arith, widths), (omega (arith, widths), omega (arith, widths)))
+      let a = start told .args in
+      let widths = told .before .before .before .before .before .before .before .before .before .before .before .struct-known .given .1 .1 .1 in
+      let rounds = c .before .rounds-of in
+      all-checked st (a .tree .now) (a .ticket .now) (a .tape .now) (a .trace .now) (sized told) (whole-ticket told) (op told) (asks told) (has-key (c .before .before .before)) (rounds .result) (rounds .ensures .0)
+      (omega (arith, c .before .before .if4 .left, draws-are told, rounds .ensures .0)) (omega (arith, c .if5 .left))
+      (bytes-of (a .tree .now) (λ i. omega (arith, told .before .before .before .before .before .before .before .before .before .before .before .before .before .before .before .slice-known .given i))) (bytes-of (a .ticket .now) (λ i. omega (arith, told .before .before .before .before .before .before .before .before .before .before .before .before .before .before .shared-slice-known .given i)))
+      (omega (arith, widths .0), (omega (arith, widths .0), omega (arith, widths .0))) (omega (arith, widths .1 .0), omega (arith, widths .1 .0))
 
 cast-size : tie.Need-cast-size
 cast-size c = search needs
@@ -92,44 +126,56 @@ returns-3 c =
     core-refuses (s .pre) 5 (c .refused3 .ensures)
     (λ x st. gives-5 st (a .tree .now) (a .ticket .now) (a .tape .now) (a .trace .now) (omega (arith, c .before .before .before .before .before .before .if1 .left, c .before .before .before .before .before .before .before .tree-length .ensures)) (whole (c .before .before .before .before)) (sym (c .before .before .before .read-ticket .ensures) ∙ c .before .enum-told .given .1))
 
+out-of-keys-requires : tie.Need-out-of-keys-requires
+out-of-keys-requires c κs = search needs
+
 draws-of-requires : tie.Need-draws-of-requires
-draws-of-requires c κs = head-sizes (c .before .before .before .before .before .before .before .before .before .before .before .before .before .pre .for)
+draws-of-requires c κs = head-sizes (c .before .before .before .before .before .before .before .before .before .before .before .before .before .before .before .pre .for)
 
 refused-requires-4 : tie.Need-refused-requires-4
 refused-requires-4 c κs = search needs
 
 returns-4 : tie.Need-returns-4
 returns-4 c =
-    let s = c .before .before .before .before .before .before .before .before .before .before .before .before .before .before .before .before in
-    let a = s .args in
-    core-refuses (s .pre) 6 (c .refused4 .ensures)
-    (λ x st. gives-6 st (a .tree .now) (a .ticket .now) (a .tape .now) (a .trace .now) (omega (arith, c .before .before .before .before .before .before .before .before .before .if1 .left, c .before .before .before .before .before .before .before .before .before .before .tree-length .ensures)) (whole (c .before .before .before .before .before .before .before)) (c .before .before .before .before .asked .given .0 .0)
-    (sym (c .before .before .before .before .before .before .read-ticket .ensures) ∙ c .before .before .before .before .asked .given .1) _ refl (omega (arith, c .before .if3 .taken, c .before .before .draws-of .ensures .0)))
-
-rounds-of-requires : tie.Need-rounds-of-requires
-rounds-of-requires c κs = head-sizes (c .before .before .before .before .before .before .before .before .before .before .before .before .before .before .before .pre .for)
-
-mul-if4 : tie.Need-mul-if4
-mul-if4 c = search needs
+    let d = c .before .before in
+    let a = start d .args in
+    core-refuses (start d .pre) 17 (c .refused4 .ensures)
+    (λ x st. gives-17 st (a .tree .now) (a .ticket .now) (a .tape .now) (a .trace .now) (sized d) (whole-ticket d) (op d) (asks d) (sym (keys-are d) ∙ c .before .if3 .taken))
 
 refused-requires-5 : tie.Need-refused-requires-5
 refused-requires-5 c κs = search needs
 
 returns-5 : tie.Need-returns-5
 returns-5 c =
-    let s = c .before .before .before .before .before .before .before .before .before .before .before .before .before .before .before .before .before .before in
-    let a = s .args in
-    core-refuses (s .pre) 7 (c .refused5 .ensures)
-    (λ x st. gives-7 st (a .tree .now) (a .ticket .now) (a .tape .now) (a .trace .now) (omega (arith, c .before .before .before .before .before .before .before .before .before .before .before .if1 .left, c .before .before .before .before .before .before .before .before .before .before .before .before .tree-length .ensures)) (whole (c .before .before .before .before .before .before .before .before .before)) (c .before .before .before .before .before .before .asked .given .0 .0)
-    (sym (c .before .before .before .before .before .before .before .before .read-ticket .ensures) ∙ c .before .before .before .before .before .before .asked .given .1) (c .before .before .rounds-of .result) (c .before .before .rounds-of .ensures .0)
-    (omega (arith, c .before .before .before .if3 .left, c .before .before .before .before .draws-of .ensures .0, c .before .before .rounds-of .ensures .0)) (omega (arith, c .before .if4 .taken)))
+    let d = c .before .before .before in
+    let a = start d .args in
+    core-refuses (start d .pre) 6 (c .refused5 .ensures)
+    (λ x st. gives-6 st (a .tree .now) (a .ticket .now) (a .tape .now) (a .trace .now) (sized d) (whole-ticket d) (op d) (asks d) (has-key (c .before .before)) _ refl (omega (arith, c .before .if4 .taken, draws-are d)))
+
+rounds-of-requires : tie.Need-rounds-of-requires
+rounds-of-requires c κs = head-sizes (start (c .before .before) .pre .for)
+
+mul-if5 : tie.Need-mul-if5
+mul-if5 c = search needs
+
+refused-requires-6 : tie.Need-refused-requires-6
+refused-requires-6 c κs = search needs
+
+returns-6 : tie.Need-returns-6
+returns-6 c =
+    let d = c .before .before .before .before .before in
+    let a = start d .args in
+    let rounds = c .before .before .rounds-of in
+    core-refuses (start d .pre) 7 (c .refused6 .ensures)
+    (λ x st. gives-7 st (a .tree .now) (a .ticket .now) (a .tape .now) (a .trace .now) (sized d) (whole-ticket d) (op d) (asks d) (has-key (c .before .before .before .before)) (rounds .result) (rounds .ensures .0)
+    (omega (arith, c .before .before .before .if4 .left, draws-are d, rounds .ensures .0)) (omega (arith, c .before .if5 .taken)))
 
 job-for-requires : tie.Need-job-for-requires
 job-for-requires c κs =
     let k = c .before in
-    let st = start k .pre .for in
+    let st = start (told k) .pre .for in
     let some = head-rounds st (k .before .rounds-of .ensures .0) in
-    (head-sizes st .1, (k .before .rounds-of .ensures .1, omega (arith, ok k _ st .tape-long)))
+    (head-sizes st .1, (k .before .rounds-of .ensures .1, omega (arith, ok k _ st .tape-long, head-spare st)))
 
 cast-run : tie.Need-cast-run
 cast-run c = search needs
@@ -137,7 +183,7 @@ cast-run c = search needs
 run-requires : tie.Need-run-requires
 run-requires c κs =
     let k = c .before .before .before .before .before .before in
-    let st = start k .pre .for in
+    let st = start (told k) .pre .for in
     rw (c .before .before .before .before .job-for .ensures) (head-runs st (ok k _ st))
 
 same-length : tie.Need-same-length
@@ -146,8 +192,8 @@ same-length c = search needs
 same-length-2 : tie.Need-same-length-2
 same-length-2 c = search needs
 
-returns-6 : tie.Need-returns-6
-returns-6 c =
+returns-7 : tie.Need-returns-7
+returns-7 c =
     let k = c .before .before .before .before .before .before .before .before .before .before .before in
     let r = c .before .before .before .before .run in
     record {
@@ -171,16 +217,19 @@ call-words-spec =
     enum-told
     refused-requires-3
     returns-3
+    out-of-keys-requires
     draws-of-requires
     refused-requires-4
     returns-4
-    rounds-of-requires
-    mul-if4
     refused-requires-5
     returns-5
+    rounds-of-requires
+    mul-if5
+    refused-requires-6
+    returns-6
     job-for-requires
     cast-run
     run-requires
     same-length
     same-length-2
-    returns-6)
+    returns-7)

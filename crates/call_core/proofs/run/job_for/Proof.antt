@@ -25,17 +25,26 @@ cast-limit c =
 draw-at-requires : tie.Need-draw-at-requires
 draw-at-requires c κs = search needs
 
-cast-tag : tie.Need-cast-tag
-cast-tag c = search needs
+cast-first : tie.Need-cast-first
+cast-first c = search needs
+
+add-draw-at : tie.Need-add-draw-at
+add-draw-at c = search needs
+
+draw-at-requires-2 : tie.Need-draw-at-requires-2
+draw-at-requires-2 c κs = search needs
+
+cast-second : tie.Need-cast-second
+cast-second c = search needs
 
 spare-of-requires : tie.Need-spare-of-requires
 spare-of-requires c κs = search needs
 
-add-t10 : tie.Need-add-t10
-add-t10 c = search needs
+add-t15 : tie.Need-add-t15
+add-t15 c = search needs
 
 returns : tie.Need-returns
-returns c = rw (c .before .before .leaves .ensures .0, c .before .draw-at .ensures .0, c .spare-of .ensures .0)
+returns c = rw (c .before .before .before .leaves .ensures .0, c .before .before .draw-at .ensures .0, c .before .draw-at2 .ensures .0, c .spare-of .ensures .0)
 
 pub job-for-spec : {M : Type 1} → statement M
 job-for-spec =
@@ -45,7 +54,10 @@ job-for-spec =
     sub-limit
     cast-limit
     draw-at-requires
-    cast-tag
+    cast-first
+    add-draw-at
+    draw-at-requires-2
+    cast-second
     spare-of-requires
-    add-t10
+    add-t15
     returns)

@@ -7,6 +7,7 @@ use lib.ListN.{length, take, drop, replicate, length-map}
 use Rattle.method_spec.specs.Prog.{Prog, done, after}
 use Rattle.method_spec.specs.Answer as answer
 use Rattle.method_spec.specs.Map.{Outcome}
+use Rattle.method_spec.specs.Call.{capacity}
 use Rattle.run_laws.specs.RoundsLaws.{some-rounds}
 use Rattle.round_spec.specs.Round.{join}
 use Rattle.leaf_spec.specs.Leaf.{leafFormat}
@@ -16,8 +17,11 @@ use Rattle.bucket_call_spec.specs.Fetch.{Left, Going, on, shut, closing, fetchR
 use Rattle.bucket_call_spec.specs.Call.{Store, drawOf, fetchedBy, bucketCall}
 use Rattle.none_lost_laws.specs.Sound.{placesFor}
 use Rattle.none_lost_laws.specs.Lost.{left-shut, left-on, fetch-closing, stepping}
-use Rattle.state_spec.specs.Ticket as ticket
+use Rattle.slot_spec.specs.declared.Link.{Link}
+use Rattle.slot_spec.specs.declared.Ahead.{Ahead}
+use Rattle.state_spec.specs.Fetching.{spareOf}
 use Rattle.leaf_spec.specs.Convert.{toLink, toAhead}
+use Rattle.operation_spec.specs.declared.Op.{Op}
 use Rattle.operation_spec.specs.Method.{toOp, outcomeIn}
 use Rattle.node_rows.specs.Row.{words as rowWords, fromIn, fromsIn}
 use Rattle.node_rows.specs.Held.{Held, nodesOf}
@@ -34,13 +38,31 @@ use Rattle.want_rounds.specs.WantingLaws.{at-most, root-low, same-program, same
 use Rattle.fetch_rounds.specs.FetchLaws.{Done, is-done, drop-on}
 use Rattle.call_ending.specs.declared.Ran.{Ran}
 use Rattle.call_ending.specs.Ending.{leftBy, endingWith, goingBy, outcomeOf, Shuts, ShutAs, Finishes, finishedBy, FinishedAs}
-use Rattle.call_core.specs.Run.{Runs}
+use Rattle.call_core.specs.Run.{jobFor, Runs}
 use Rattle.call_ending.specs.EndingLaws.{joined-length, numbers-first}
 
 -- What follows the leaves in the trace buffer is all that an end takes from it.
 ending-on : (structure size : ℕ) (trace trace′ : List ℕ) (l : Left) → drop (length (l .leaves)) trace′ ≡ drop (length (l .leaves)) trace
     → endingWith structure size trace′ l ≡ endingWith structure size trace l
 ending-on structure size trace trace′ l e = rw e
+
+-- The job, by its parts.
+pub same-job : {structure size entries : ℕ} {root : Link} {ahead : Ahead} {op : Op} (F : ℕ) (tape : List ℕ) {limit first second puts : ℕ}
+    → limit ≡ capacity size → first ≡ drawOf size tape F → second ≡ drawOf size tape (F + 1) → puts ≡ F + spareOf structure
+    → _≡_ {A = Job}
+    (record {
+      op = op;
+      structure = structure;
+      size = size;
+      rounds = F;
+      limit = limit;
+      entries = entries;
+      root = root;
+      spares = record { first = first; second = second; ahead = ahead };
+      puts = puts;
+    })
+    (jobFor structure size entries root ahead op F tape)
+same-job F tape a b c d = rw (a, b, c, d)
 
 module _ {j : Job} {n : ℕ} {words tree tape trace : List ℕ} (ok : Runs j n words tree tape trace) where
   abbrev draw : ℕ → ℕ

@@ -84,6 +84,15 @@ pub fn call_words(
         return refused(head, 7);
     }
     let root = head.root;
-    let job = run::job_for(head.structure, size, head.entries, root, ahead, op, rounds, tape);
+    let job = run::job_for(
+        head.structure,
+        size,
+        head.entries,
+        root,
+        ahead,
+        op,
+        rounds,
+        tape,
+    );
     run::run(job, w, head.waiting as usize, tree, tape, trace)
 }

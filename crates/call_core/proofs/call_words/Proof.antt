@@ -58,26 +58,6 @@ module _ (c : tie.After-draws-of) where
   draws-are : c .draws-of .result ≡ 2 * roundsOf (start .args .head .structure) (start .args .head .size) + spareOf (start .args .head .structure)
   draws-are = c .draws-of .ensures .0
 
--- There is a key.
-has-key : (c : tie.Else3) → outOfKeys (toOp (op (c .before))) (start (c .before) .args .head .ahead .key) ≡ false
-has-key c = sym (keys-are (c .before)) ∙ c .if3 .left
-
--- ---- where all checks were passed
-module _ (c : tie.Else5) where
-  abbrev told : tie.After-draws-of
-  told = c .before .before .before .before
-
-  ok : (s : State) → StandsFor s (start told .args .head) (start told .args .w .now)
-      → Checked s (op told) (c .before .rounds-of .result) (start told .args .tree .now) (start told .args .ticket .now) (start told .args .tape .now) (start told .args .trace .now)
-  ok s st =
-      let a = start told .args in
-      let widths = told .before .before .before .before .before .before .before .before .before .before .before .struct-known .given .1 .1 .1 in
-      let rounds = c .before .rounds-of in
-      all-checked st (a .tree .now) (a .ticket .now) (a .tape .now) (a .trace .now) (sized told) (whole-ticket told) (op told) (asks told) (has-key (c .before .before .before)) (rounds .result) (rounds .ensures .0)
-      (omega (arith, c .before .before .if4 .left, draws-are told, rounds .ensures .0)) (omega (arith, c .if5 .left))
-      (bytes-of (a .tree .now) (λ i. omega (arith, told .before .before .before .before .before .before .before .before .before .before .before .before .before .before .before .slice-known .given i))) (bytes-of (a .ticket .now) (λ i. omega (arith, told .before .before .before .before .before .before .before .before .before .before .before .before .before .before .shared-slice-known .given i)))
-      (omega (arith, widths .0), (omega (arith, widths .0), omega (arith, widths .0))) (omega (arith, widths .1 .0), omega (arith, widths .1 .0))
-
 cast-size : tie.Need-cast-size
 cast-size c = search needs
 
@@ -141,6 +121,26 @@ returns-4 c =
     let a = start d .args in
     core-refuses (start d .pre) 17 (c .refused4 .ensures)
     (λ x st. gives-17 st (a .tree .now) (a .ticket .now) (a .tape .now) (a .trace .now) (sized d) (whole-ticket d) (op d) (asks d) (sym (keys-are d) ∙ c .before .if3 .taken))
+
+-- There is a key.
+has-key : (c : tie.Else3) → outOfKeys (toOp (op (c .before))) (start (c .before) .args .head .ahead .key) ≡ false
+has-key c = sym (keys-are (c .before)) ∙ c .if3 .left
+
+-- ---- where all checks were passed
+module _ (c : tie.Else5) where
+  abbrev told : tie.After-draws-of
+  told = c .before .before .before .before
+
+  ok : (s : State) → StandsFor s (start told .args .head) (start told .args .w .now)
+      → Checked s (op told) (c .before .rounds-of .result) (start told .args .tree .now) (start told .args .ticket .now) (start told .args .tape .now) (start told .args .trace .now)
+  ok s st =
+      let a = start told .args in
+      let widths = told .before .before .before .before .before .before .before .before .before .before .before .struct-known .given .1 .1 .1 in
+      let rounds = c .before .rounds-of in
+      all-checked st (a .tree .now) (a .ticket .now) (a .tape .now) (a .trace .now) (sized told) (whole-ticket told) (op told) (asks told) (has-key (c .before .before .before)) (rounds .result) (rounds .ensures .0)
+      (omega (arith, c .before .before .if4 .left, draws-are told, rounds .ensures .0)) (omega (arith, c .if5 .left))
+      (bytes-of (a .tree .now) (λ i. omega (arith, told .before .before .before .before .before .before .before .before .before .before .before .before .before .before .before .slice-known .given i))) (bytes-of (a .ticket .now) (λ i. omega (arith, told .before .before .before .before .before .before .before .before .before .before .before .before .before .before .shared-slice-known .given i)))
+      (omega (arith, widths .0), (omega (arith, widths .0), omega (arith, widths .0))) (omega (arith, widths .1 .0), omega (arith, widths .1 .0))
 
 refused-requires-5 : tie.Need-refused-requires-5
 refused-requires-5 c κs = search needs

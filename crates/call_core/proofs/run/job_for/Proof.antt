@@ -1,6 +1,8 @@
-use Prim.Native.Nat.{_^_, _≤_}
+use Prim.Native.Nat.{ℕ, _+_, _-_, _^_, _≤_}
+use mathlib.Core.Path.{ap}
 use lib.Pow.{pow-mono}
 use native.Mathlib.Omega.{arith}
+use Rattle.call_core.specs.RunLaws.{same-job}
 use borrow.Author.Needs.{needs}
 use Rattle.call_core.proofs.run.job_for.Statement.{statement}
 use Rattle.call_core.proofs.run.job_for.Tie as tie
@@ -44,7 +46,10 @@ add-t15 : tie.Need-add-t15
 add-t15 c = search needs
 
 returns : tie.Need-returns
-returns c = rw (c .before .before .before .leaves .ensures .0, c .before .before .draw-at .ensures .0, c .before .draw-at2 .ensures .0, c .spare-of .ensures .0)
+returns c =
+    let a = c .before .before .before .before .before .args in
+    same-job (a .rounds) (a .tape .now) (ap (λ (n : ℕ). n - 1) (c .before .before .before .leaves .ensures .0)) (c .before .before .draw-at .ensures .0) (c .before .draw-at2 .ensures .0)
+    (ap (λ (n : ℕ). a .rounds + n) (c .spare-of .ensures .0))
 
 pub job-for-spec : {M : Type 1} → statement M
 job-for-spec =

@@ -23,17 +23,17 @@ use Rattle.call.specs.Run.{endedAs}
 
 module _ (s : State) where
   abbrev head : Bool
-  head = headFits (s .structure) (s .size) (s .entries) (s .count) (s .root)
+  head = headFits (s .structure) (s .size) (s .entries) (s .count) (s .root) (s .ahead)
 
   unfit-head : head ≡ false → fits s ≡ false
   unfit-head e = fits-parts s ∙ rw e
 
   -- The number with which the head is refused.
   abbrev number : ℕ
-  number = headRefusal (s .mark) (s .structure) (s .size) (s .entries) (s .count) (s .root)
+  number = headRefusal (s .mark) (s .structure) (s .size) (s .entries) (s .count) (s .root) (s .ahead)
 
   pub head-passed : number ≡ 0 → (s .mark ≡ 0) × (head ≡ true)
-  head-passed e = go (by-head (s .mark) (s .structure) (s .size) (s .entries) (s .count) (s .root))
+  head-passed e = go (by-head (s .mark) (s .structure) (s .size) (s .entries) (s .count) (s .root) (s .ahead))
     where
       go : ((s .mark ≡ 0 → ⊥) × (number ≡ 1)) ⊎ (((s .mark ≡ 0) × ((head ≡ false) × (number ≡ 2))) ⊎ ((s .mark ≡ 0) × ((head ≡ true) × (number ≡ 0))))
           → (s .mark ≡ 0) × (head ≡ true)
@@ -55,7 +55,7 @@ module _ (s : State) where
 
     -- The head is refused, with its number.
     pub head-refused : (number ≡ 0 → ⊥) → called s tree ticket tape trace ≡ refusing number s tree trace
-    head-refused h = go (by-head (s .mark) (s .structure) (s .size) (s .entries) (s .count) (s .root))
+    head-refused h = go (by-head (s .mark) (s .structure) (s .size) (s .entries) (s .count) (s .root) (s .ahead))
       where
         go : ((s .mark ≡ 0 → ⊥) × (number ≡ 1)) ⊎ (((s .mark ≡ 0) × ((head ≡ false) × (number ≡ 2))) ⊎ ((s .mark ≡ 0) × ((head ≡ true) × (number ≡ 0))))
             → called s tree ticket tape trace ≡ refusing number s tree trace
@@ -70,6 +70,6 @@ module _ (s : State) where
       kept e = rw e at (made .calls s st)
 
       -- It made its rounds, and what it left is saved.
-      pub changed : {left : State} → r .ran ≡ true → left ≡ saved (s .structure) (s .size) (r .mark) (r .entries) (r .root) (waitingIn (r .waiting) words′)
+      pub changed : {left : State} → r .ran ≡ true → left ≡ saved (s .structure) (s .size) (r .mark) (r .entries) (r .root) (r .ahead) (waitingIn (r .waiting) words′)
           → endedAs (record { state = left; reply = r .reply; leaves = r .leaves }) tree′ trace′ ≡ called s tree ticket tape trace
       changed e saved-so = ap (λ (x : State). endedAs (record { state = x; reply = r .reply; leaves = r .leaves }) tree′ trace′) saved-so ∙ (rw e at (made .calls s st))

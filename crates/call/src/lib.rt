@@ -22,6 +22,7 @@ pub fn call(state: State, tree: &mut [u8], ticket: &[u8], tape: &[u16], trace: &
     ensures { λ r. ⌜ endedAs r (now (tree .exit)) (now (trace .exit)) ≡ called state (now (tree .entry)) (now (ticket .entry)) (now (tape .entry)) (now (trace .entry)) ⌝ }
 {
     let root = state.root;
+    let ahead = state.ahead;
     let number = head_refusal(
         state.mark,
         state.structure,
@@ -29,6 +30,7 @@ pub fn call(state: State, tree: &mut [u8], ticket: &[u8], tape: &[u16], trace: &
         state.entries,
         state.count,
         root,
+        ahead,
     );
     if number != 0 {
         return Called {
@@ -71,6 +73,7 @@ pub fn call(state: State, tree: &mut [u8], ticket: &[u8], tape: &[u16], trace: &
         size: state.size,
         entries: state.entries,
         root,
+        ahead,
         waiting: state.count,
     };
     let r = call_words(head, &mut w, tree, ticket, tape, trace);
@@ -84,6 +87,7 @@ pub fn call(state: State, tree: &mut [u8], ticket: &[u8], tape: &[u16], trace: &
     }
     // The state that is left. Past the nodes that wait now and those that waited before, its places are unused already.
     let after = r.root;
+    let known = r.ahead;
     let m = r.waiting;
     let end = greater(m, n);
     let mut left = state;
@@ -95,6 +99,7 @@ pub fn call(state: State, tree: &mut [u8], ticket: &[u8], tape: &[u16], trace: &
     left.mark = r.mark;
     left.entries = r.entries;
     left.root = after;
+    left.ahead = known;
     left.count = m as u16;
     Called {
         state: left,

@@ -29,54 +29,54 @@ use Rattle.fitness.proofs.head_refusal.Reads as head-refusal-reads
 use Rattle.state_places.proofs.zero_place.Reads as zero-place-reads
 
 abbrev Inv-loop : tie.InvT-loop
-Inv-loop tree ticket tape trace state root number size n w₀ least₀ i₀ w least i = LookedAt state i least w × (i ≤ 64)
+Inv-loop tree ticket tape trace state root ahead number size n w₀ least₀ i₀ w least i = LookedAt state i least w × (i ≤ 64)
 
 abbrev μ-loop : tie.MeasureT-loop
-μ-loop tree ticket tape trace state root number size n w₀ least₀ i₀ w least i = n - i
+μ-loop tree ticket tape trace state root ahead number size n w₀ least₀ i₀ w least i = n - i
 
 abbrev Inv-loop2 : tie.InvT-loop2
-Inv-loop2 tree ticket tape trace state root number size n w least i₀ i = LookedAt state i least w × (state .count ≤ i)
+Inv-loop2 tree ticket tape trace state root ahead number size n w least i₀ i = LookedAt state i least w × (state .count ≤ i)
 
 abbrev μ-loop2 : tie.MeasureT-loop2
-μ-loop2 tree ticket tape trace state root number size n w least i₀ i = 101 - i
+μ-loop2 tree ticket tape trace state root ahead number size n w least i₀ i = 101 - i
 
 abbrev Inv-loop3 : tie.InvT-loop3
-Inv-loop3 tree ticket tape trace number size n w least i r reply after m end left₀ j₀ left j = (j ≤ end) × (left ≡ savedTo j m w left₀)
+Inv-loop3 tree ticket tape trace number size n w least i r reply after known m end left₀ j₀ left j = (j ≤ end) × (left ≡ savedTo j m w left₀)
 
 abbrev μ-loop3 : tie.MeasureT-loop3
-μ-loop3 tree ticket tape trace number size n w least i r reply after m end left₀ j₀ left j = end - j
+μ-loop3 tree ticket tape trace number size n w least i r reply after known m end left₀ j₀ left j = end - j
 
 -- Where the head fits: the state has no mark, and few nodes wait.
-passed : (c : tie.Else1 Inv-loop μ-loop Inv-loop2 μ-loop2 Inv-loop3 μ-loop3) → (let s = c .before .before .before .before .before .before .before .args .t1 in ((s .mark ≡ 0) × (headFits (s .structure) (s .size) (s .entries) (s .count) (s .root) ≡ true)))
+passed : (c : tie.Else1 Inv-loop μ-loop Inv-loop2 μ-loop2 Inv-loop3 μ-loop3) → (let s = c .before .before .before .before .before .before .before .before .args .t1 in ((s .mark ≡ 0) × (headFits (s .structure) (s .size) (s .entries) (s .count) (s .root) (s .ahead) ≡ true)))
 passed c =
-    head-passed (c .before .before .before .before .before .before .before .args .t1) (omega (arith, c .before .head-refusal .ensures, c .if1 .left))
+    head-passed (c .before .before .before .before .before .before .before .before .args .t1) (omega (arith, c .before .head-refusal .ensures, c .if1 .left))
 
-unmarked : (c : tie.Else1 Inv-loop μ-loop Inv-loop2 μ-loop2 Inv-loop3 μ-loop3) → c .before .before .before .before .before .before .before .args .t1 .mark ≡ 0
+unmarked : (c : tie.Else1 Inv-loop μ-loop Inv-loop2 μ-loop2 Inv-loop3 μ-loop3) → c .before .before .before .before .before .before .before .before .args .t1 .mark ≡ 0
 unmarked c = passed c .0
 
-fit-head : (c : tie.Else1 Inv-loop μ-loop Inv-loop2 μ-loop2 Inv-loop3 μ-loop3) → (let s = c .before .before .before .before .before .before .before .args .t1 in headFits (s .structure) (s .size) (s .entries) (s .count) (s .root) ≡ true)
+fit-head : (c : tie.Else1 Inv-loop μ-loop Inv-loop2 μ-loop2 Inv-loop3 μ-loop3) → (let s = c .before .before .before .before .before .before .before .before .args .t1 in headFits (s .structure) (s .size) (s .entries) (s .count) (s .root) (s .ahead) ≡ true)
 fit-head c = passed c .1
 
-bounds : (c : tie.Else1 Inv-loop μ-loop Inv-loop2 μ-loop2 Inv-loop3 μ-loop3) → (let s = c .before .before .before .before .before .before .before .args .t1 in ((s .size ≤ 16) × (s .count ≤ 64)))
+bounds : (c : tie.Else1 Inv-loop μ-loop Inv-loop2 μ-loop2 Inv-loop3 μ-loop3) → (let s = c .before .before .before .before .before .before .before .before .args .t1 in ((s .size ≤ 16) × (s .count ≤ 64)))
 bounds c =
-    let s = c .before .before .before .before .before .before .before .args .t1 in
-    let h = head-true (s .structure) (s .size) (s .entries) (s .count) (s .root) (fit-head c) in
+    let s = c .before .before .before .before .before .before .before .before .args .t1 in
+    let h = head-true (s .structure) (s .size) (s .entries) (s .count) (s .root) (s .ahead) (fit-head c) in
     (omega (arith, h .sizes), omega (arith, h .waiting))
 
 sized : (c : tie.Start Inv-loop μ-loop Inv-loop2 μ-loop2 Inv-loop3 μ-loop3) → length (c .args .t1 .places) ≡ 101
-sized c = sym (length-map (c .args .t1 .places) _) ∙ (c .good .0 .1 .1 .1 .1 .1 .1 .1 .1 .0 .1 .0 .1)
+sized c = sym (length-map (c .args .t1 .places) _) ∙ (c .good .0 .1 .1 .1 .1 .1 .1 .1 .1 .1 .0 .1 .0 .1)
 
 -- A place does not fit: refused.
-unfit : (c : tie.Else1 Inv-loop μ-loop Inv-loop2 μ-loop2 Inv-loop3 μ-loop3) → placesFit (c .before .before .before .before .before .before .before .args .t1) ≡ false
-    → (let a = c .before .before .before .before .before .before .before .args in endedAs (record { state = a .t1; reply = Refused 2; leaves = 0 }) (a .tree .now) (a .trace .now) ≡ called (a .t1) (a .tree .now) (a .ticket .now) (a .tape .now) (a .trace .now))
+unfit : (c : tie.Else1 Inv-loop μ-loop Inv-loop2 μ-loop2 Inv-loop3 μ-loop3) → placesFit (c .before .before .before .before .before .before .before .before .args .t1) ≡ false
+    → (let a = c .before .before .before .before .before .before .before .before .args in endedAs (record { state = a .t1; reply = Refused 2; leaves = 0 }) (a .tree .now) (a .trace .now) ≡ called (a .t1) (a .tree .now) (a .ticket .now) (a .tape .now) (a .trace .now))
 unfit c e =
-    let a = c .before .before .before .before .before .before .before .args in
+    let a = c .before .before .before .before .before .before .before .before .args in
     refuses (a .t1) (a .tree .now) (a .ticket .now) (a .tape .now) (a .trace .now) refl (refused-2 (a .t1) (a .tree .now) (a .ticket .now) (a .tape .now) (a .trace .now) (unmarked c) (fit-by-places (a .t1) (fit-head c) e))
 
 -- All places are looked at: head and words stand for the state.
-stand : (c : tie.After-loop2 Inv-loop μ-loop Inv-loop2 μ-loop2 Inv-loop3 μ-loop3) → (let s = c .before .before .before .before .before .before .before .before .before .before .before .args .t1 in StandsFor s (headOf s) (c .before .before .before .loop .w))
+stand : (c : tie.After-loop2 Inv-loop μ-loop Inv-loop2 μ-loop2 Inv-loop3 μ-loop3) → (let s = c .before .before .before .before .before .before .before .before .before .before .before .before .args .t1 in StandsFor s (headOf s) (c .before .before .before .loop .w))
 stand c =
-    let s = c .before .before .before .before .before .before .before .before .before .before .before .args .t1 in
+    let s = c .before .before .before .before .before .before .before .before .before .before .before .before .args .t1 in
     let l = c .before .loop2 in
     let m = c .before .before .before .loop in
     let all = looked-all s (l .i) (m .least) (m .w) (l .inv .0) (c .loop2-test .left) (omega (arith, bounds (c .before .before .before .before) .1)) in
@@ -84,7 +84,7 @@ stand c =
 
 -- A place that is saved is one of the state's.
 in-places : (c : tie.In-loop3 Inv-loop μ-loop Inv-loop2 μ-loop2 Inv-loop3 μ-loop3) → c .before .loop3 .j < 101
-in-places c = omega (arith, c .loop3-test .taken, c .before .before .greater .ensures, bounds (c .before .before .before .before .before .before .before .before .before .before .before .before .before .before .before .before .before .before) .1, c .before .before .before .before .before .before .before .before .before .before .call-words .ensures .holds .few)
+in-places c = omega (arith, c .loop3-test .taken, c .before .before .greater .ensures, bounds (c .before .before .before .before .before .before .before .before .before .before .before .before .before .before .before .before .before .before .before) .1, c .before .before .before .before .before .before .before .before .before .before .before .call-words .ensures .holds .few)
 
 head-refusal-requires :
     tie.Need-head-refusal-requires Inv-loop μ-loop Inv-loop2 μ-loop2 Inv-loop3 μ-loop3
@@ -92,7 +92,7 @@ head-refusal-requires c κs = search needs
 
 returns : tie.Need-returns Inv-loop μ-loop Inv-loop2 μ-loop2 Inv-loop3 μ-loop3
 returns c =
-    let a = c .before .before .before .before .before .before .before .args in
+    let a = c .before .before .before .before .before .before .before .before .args in
     let h = c .before .head-refusal in
     refuses (a .t1) (a .tree .now) (a .ticket .now) (a .tape .now) (a .trace .now)
     (ap (λ (n : ℕ). record { state = a .t1; reply = Refused n; leaves = 0 }) (h .ensures))
@@ -105,7 +105,7 @@ cast-n : tie.Need-cast-n Inv-loop μ-loop Inv-loop2 μ-loop2 Inv-loop3 μ-loop3
 cast-n c = search needs
 
 loop-holds : tie.Need-loop-holds Inv-loop μ-loop Inv-loop2 μ-loop2 Inv-loop3 μ-loop3
-loop-holds c = (looked-none (c .before .before .before .before .before .before .before .args .t1) _ refl, omega arith)
+loop-holds c = (looked-none (c .before .before .before .before .before .before .before .before .args .t1) _ refl, omega arith)
 
 mul-p : tie.Need-mul-p Inv-loop μ-loop Inv-loop2 μ-loop2 Inv-loop3 μ-loop3
 mul-p c = search needs
@@ -124,7 +124,7 @@ returns-2 : tie.Need-returns-2 Inv-loop μ-loop Inv-loop2 μ-loop2 Inv-loop3 μ-
 returns-2 c =
     let l = c .before .before .before .before .before .loop in
     let u = c .before .load-place in
-    unfit (c .before .before .before .before .before .before) (used-unfit (c .before .before .before .before .before .before .before .before .before .before .before .before .before .args .t1) (l .i) (l .least) (l .w) (l .inv .0) (u .last .0) (u .result) (c .before .before .before .before .loop-test .taken) (u .ensures) (not-true (u .result) (c .if2 .taken)))
+    unfit (c .before .before .before .before .before .before) (used-unfit (c .before .before .before .before .before .before .before .before .before .before .before .before .before .before .args .t1) (l .i) (l .least) (l .w) (l .inv .0) (u .last .0) (u .result) (c .before .before .before .before .loop-test .taken) (u .ensures) (not-true (u .result) (c .if2 .taken)))
 
 cast-least : tie.Need-cast-least Inv-loop μ-loop Inv-loop2 μ-loop2 Inv-loop3 μ-loop3
 cast-least c = search needs
@@ -142,7 +142,7 @@ loop-again : tie.Need-loop-again Inv-loop μ-loop Inv-loop2 μ-loop2 Inv-loop3 �
 loop-again c =
     let l = c .before .before .before .before .before .before .loop in
     let u = c .before .before .load-place in (
-      used-more (c .before .before .before .before .before .before .before .before .before .before .before .before .before .before .args .t1) (l .i) (l .least) (l .w) (l .inv .0) (u .last .0) (u .result) (c .before .before .before .before .before .loop-test .taken) (omega (arith, bounds (c .before .before .before .before .before .before .before) .1)) (u .ensures) (not-false (u .result) (c .before .if2 .left)),
+      used-more (c .before .before .before .before .before .before .before .before .before .before .before .before .before .before .before .args .t1) (l .i) (l .least) (l .w) (l .inv .0) (u .last .0) (u .result) (c .before .before .before .before .before .loop-test .taken) (omega (arith, bounds (c .before .before .before .before .before .before .before) .1)) (u .ensures) (not-false (u .result) (c .before .if2 .left)),
       omega (arith, bounds (c .before .before .before .before .before .before .before) .1),
     )
 
@@ -165,7 +165,7 @@ returns-3 c =
     let l = c .before .before .before .before .loop2 in
     let m = c .before .before .before .before .before .before .loop in
     let z = c .before .zero-place in
-    unfit (c .before .before .before .before .before .before .before) (unused-unfit (c .before .before .before .before .before .before .before .before .before .before .before .before .before .before .args .t1) (l .i) (m .least) (m .w) (l .inv .0) (l .inv .1) (omega (arith, c .before .before .before .loop2-test .taken)) (sym (z .ensures) ∙ not-true (z .result) (c .if3 .taken)))
+    unfit (c .before .before .before .before .before .before .before) (unused-unfit (c .before .before .before .before .before .before .before .before .before .before .before .before .before .before .before .args .t1) (l .i) (m .least) (m .w) (l .inv .0) (l .inv .1) (omega (arith, c .before .before .before .loop2-test .taken)) (sym (z .ensures) ∙ not-true (z .result) (c .if3 .taken)))
 
 add-i-2 : tie.Need-add-i-2 Inv-loop μ-loop Inv-loop2 μ-loop2 Inv-loop3 μ-loop3
 add-i-2 c = search needs
@@ -178,7 +178,7 @@ loop2-again c =
     let l = c .before .before .before .before .loop2 in
     let m = c .before .before .before .before .before .before .loop in
     let z = c .before .zero-place in
-    (unused-more (c .before .before .before .before .before .before .before .before .before .before .before .before .before .before .args .t1) (l .i) (m .least) (m .w) (l .inv .0) (l .inv .1) (omega (arith, c .before .before .before .loop2-test .taken)) (sym (z .ensures) ∙ not-false (z .result) (c .if3 .left)), omega arith)
+    (unused-more (c .before .before .before .before .before .before .before .before .before .before .before .before .before .before .before .args .t1) (l .i) (m .least) (m .w) (l .inv .0) (l .inv .1) (omega (arith, c .before .before .before .loop2-test .taken)) (sym (z .ensures) ∙ not-false (z .result) (c .if3 .left)), omega arith)
 
 call-words-requires :
     tie.Need-call-words-requires Inv-loop μ-loop Inv-loop2 μ-loop2 Inv-loop3 μ-loop3
@@ -192,7 +192,7 @@ same-length-2 c = search needs
 
 returns-4 : tie.Need-returns-4 Inv-loop μ-loop Inv-loop2 μ-loop2 Inv-loop3 μ-loop3
 returns-4 c =
-    let a = c .before .before .before .before .before .before .before .before .before .before .before .before .before .before .before .before .before .before .before .before .before .args in
+    let a = c .before .before .before .before .before .before .before .before .before .before .before .before .before .before .before .before .before .before .before .before .before .before .args in
     let r = c .before .before .before .before .before .before .call-words in
     kept (a .t1) (a .tree .now) (a .ticket .now) (a .tape .now) (a .trace .now) (stand (c .before .before .before .before .before .before .before .before .before .before)) (r .result) (r .ensures) (not-true (r .result .ran) (c .if4 .taken))
 
@@ -203,10 +203,10 @@ loop3-holds : tie.Need-loop3-holds Inv-loop μ-loop Inv-loop2 μ-loop2 Inv-loop3
 loop3-holds c = (omega arith, refl)
 
 saved-place-requires : tie.Need-saved-place-requires Inv-loop μ-loop Inv-loop2 μ-loop2 Inv-loop3 μ-loop3
-saved-place-requires c κs = (c .before .before .before .before .before .before .before .before .before .before .before .call-words .ensures .holds, in-places (c .before))
+saved-place-requires c κs = (c .before .before .before .before .before .before .before .before .before .before .before .before .call-words .ensures .holds, in-places (c .before))
 
-mul-t60 : tie.Need-mul-t60 Inv-loop μ-loop Inv-loop2 μ-loop2 Inv-loop3 μ-loop3
-mul-t60 c = omega (arith, in-places (c .before .before))
+mul-t62 : tie.Need-mul-t62 Inv-loop μ-loop Inv-loop2 μ-loop2 Inv-loop3 μ-loop3
+mul-t62 c = omega (arith, in-places (c .before .before))
 
 element-set-from-left :
     tie.Need-element-set-from-left Inv-loop μ-loop Inv-loop2 μ-loop2 Inv-loop3 μ-loop3
@@ -220,12 +220,12 @@ loop3-less c = search needs
 
 loop3-again : tie.Need-loop3-again Inv-loop μ-loop Inv-loop2 μ-loop2 Inv-loop3 μ-loop3
 loop3-again c =
-    let r = c .before .before .before .before .before .before .before .before .before .before .before .before .call-words in
-    let st = stand (c .before .before .before .before .before .before .before .before .before .before .before .before .before .before .before .before) in
-    let s = c .before .before .before .before .before .before .before .before .before .before .before .before .before .before .before .before .before .before .before .before .before .before .before .before .before .before .before .args .t1 in
+    let r = c .before .before .before .before .before .before .before .before .before .before .before .before .before .call-words in
+    let st = stand (c .before .before .before .before .before .before .before .before .before .before .before .before .before .before .before .before .before) in
+    let s = c .before .before .before .before .before .before .before .before .before .before .before .before .before .before .before .before .before .before .before .before .before .before .before .before .before .before .before .before .before .args .t1 in
     let l = c .before .before .before .loop3 in
     let p = c .saved-place in
-    (omega arith, saved-more (r .result .waiting) _ (r .ensures .holds) s (st .fit) (sized (c .before .before .before .before .before .before .before .before .before .before .before .before .before .before .before .before .before .before .before .before .before .before .before .before .before .before .before)) (l .j) (l .left) (p .result) (in-places (c .before .before)) (l .inv .1) (p .ensures))
+    (omega arith, saved-more (r .result .waiting) _ (r .ensures .holds) s (st .fit) (sized (c .before .before .before .before .before .before .before .before .before .before .before .before .before .before .before .before .before .before .before .before .before .before .before .before .before .before .before .before .before)) (l .j) (l .left) (p .result) (in-places (c .before .before)) (l .inv .1) (p .ensures))
 
 cast-left : tie.Need-cast-left Inv-loop μ-loop Inv-loop2 μ-loop2 Inv-loop3 μ-loop3
 cast-left c = search needs
@@ -238,13 +238,13 @@ same-length-4 c = search needs
 
 returns-5 : tie.Need-returns-5 Inv-loop μ-loop Inv-loop2 μ-loop2 Inv-loop3 μ-loop3
 returns-5 c =
-    let a = c .before .before .before .before .before .before .before .before .before .before .before .before .before .before .before .before .before .before .before .before .before .before .before .before .before .args in
-    let r = c .before .before .before .before .before .before .before .before .before .before .call-words in
-    let st = stand (c .before .before .before .before .before .before .before .before .before .before .before .before .before .before) in
+    let a = c .before .before .before .before .before .before .before .before .before .before .before .before .before .before .before .before .before .before .before .before .before .before .before .before .before .before .before .args in
+    let r = c .before .before .before .before .before .before .before .before .before .before .before .call-words in
+    let st = stand (c .before .before .before .before .before .before .before .before .before .before .before .before .before .before .before) in
     let l = c .before .loop3 in
-    changed (a .t1) (a .tree .now) (a .ticket .now) (a .tape .now) (a .trace .now) st (r .result) (r .ensures) (not-false (r .result .ran) (c .before .before .before .before .if4 .left))
-    (saved-all (r .result .waiting) _ (r .ensures .holds) (a .t1) (st .fit) (sized (c .before .before .before .before .before .before .before .before .before .before .before .before .before .before .before .before .before .before .before .before .before .before .before .before .before)) (l .j) (l .left) (r .result .mark) (r .result .entries) (r .result .root) (l .inv .1)
-    (omega arith) (omega (arith, c .before .before .greater .ensures)) (omega (arith, bounds (c .before .before .before .before .before .before .before .before .before .before .before .before .before .before .before .before .before .before) .1, r .ensures .holds .few)))
+    changed (a .t1) (a .tree .now) (a .ticket .now) (a .tape .now) (a .trace .now) st (r .result) (r .ensures) (not-false (r .result .ran) (c .before .before .before .before .before .if4 .left))
+    (saved-all (r .result .waiting) _ (r .ensures .holds) (a .t1) (st .fit) (sized (c .before .before .before .before .before .before .before .before .before .before .before .before .before .before .before .before .before .before .before .before .before .before .before .before .before .before .before)) (l .j) (l .left) (r .result .mark) (r .result .entries) (r .result .root) (r .result .ahead) (l .inv .1)
+    (omega arith) (omega (arith, c .before .before .greater .ensures)) (omega (arith, bounds (c .before .before .before .before .before .before .before .before .before .before .before .before .before .before .before .before .before .before .before) .1, r .ensures .holds .few)))
 
 pub call-spec : {M : Type 1} → statement M
 call-spec =
@@ -285,7 +285,7 @@ call-spec =
     greater-requires
     loop3-holds
     saved-place-requires
-    mul-t60
+    mul-t62
     element-set-from-left
     add-j
     loop3-less

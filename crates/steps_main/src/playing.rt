@@ -9,7 +9,9 @@ use node_rows::ROW;
 use node_rows::set_node;
 use operation_spec::Answer;
 use operation_spec::Op;
+use operation_spec::Spares;
 use operation_spec::Wanted;
+use slot_spec::Ahead;
 use structures::step;
 use structures::wanted;
 ghost use mathlib.Core.Path.{_≡_};
@@ -33,7 +35,7 @@ struct Gathered {
     count: usize,
 }
 
-// The structure that an operation is of: 1 the map, 2 the stack, 3 the heap.
+// The structure that an operation is of: 1 the map, 2 the stack, 3 the heap, 4 the queue.
 fn structure_of(op: Op) -> u8 {
     match op {
         Op::Get(_) => 1,
@@ -43,6 +45,20 @@ fn structure_of(op: Op) -> u8 {
         Op::Pop => 2,
         Op::Add(_) => 3,
         Op::Take => 3,
+        Op::Enqueue(_) => 4,
+        Op::Dequeue => 4,
+    }
+}
+
+// A new node's tag. Nothing is known ahead: no script has a queue.
+fn spares_of(tag: u16) -> Spares
+    ensures { λ r. ⌜ r .ahead .key ≡ 0 ⌝ }
+{
+    let none = Ahead { key: 0, tag: 0 };
+    Spares {
+        first: tag,
+        second: tag,
+        ahead: none,
     }
 }
 
@@ -50,7 +66,7 @@ fn structure_of(op: Op) -> u8 {
 // scratch space. The root link is low, and with it the wanted links and the nodes that pass the test.
 fn gather(
     op: Op,
-    tag: u16,
+    spares: Spares,
     memory: Memory,
     held: &mut [u64; ROW],
     made: &mut [u64; ROW],
@@ -63,7 +79,7 @@ fn gather(
     let mut m = memory;
     let mut count: usize = 0;
     while count < FETCHES {
-        let next = wanted(op, LIMIT, memory.entries, root, tag, held, count, made);
+        let next = wanted(op, LIMIT, memory.entries, root, spares, held, count, made);
         let Wanted::Fetch(want) = next else {
             break;
         };
@@ -89,15 +105,16 @@ pub fn call(memory: Memory, op: Op, tag: u16) -> Done
     ensures { λ r. ⌜ r .memory .count ≤ 16 ⌝ }
 {
     let root = memory.root;
+    let spares = spares_of(tag);
     let mut held = [0u64; ROW];
     let mut made = [0u64; ROW];
-    let gathered = gather(op, tag, memory, &mut held, &mut made);
+    let gathered = gather(op, spares, memory, &mut held, &mut made);
     let o = step(
         op,
         LIMIT,
         memory.entries,
         root,
-        tag,
+        spares,
         &held,
         gathered.count,
         &mut made,

@@ -45,6 +45,8 @@ pub fn print_answer(answer: Answer) {
         Answer::Popped(v) => valued(b"popped ", v),
         Answer::Added => text(b"added\n"),
         Answer::Taken(v) => valued(b"taken ", v),
+        Answer::Queued => text(b"queued\n"),
+        Answer::Dequeued(v) => valued(b"dequeued ", v),
         Answer::Empty => text(b"empty\n"),
         Answer::Full => text(b"full\n"),
     }

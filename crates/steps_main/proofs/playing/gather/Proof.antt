@@ -10,8 +10,8 @@ use Rattle.slot_spec.specs.declared.Link.{Link}
 use Rattle.slot_spec.specs.declared.Node.{Node}
 use Rattle.slot_spec.specs.Slot.{noNode}
 use Rattle.slot_spec.specs.Row.{nodesFrom}
-use Rattle.leaf_spec.specs.Convert.{toLink, toNode}
-use Rattle.operation_spec.specs.Method.{toOp, toWant, toWanted}
+use Rattle.leaf_spec.specs.Convert.{toLink, toAhead, toNode}
+use Rattle.operation_spec.specs.Method.{toOp, toWant, toWanted, sparesIn}
 use Rattle.node_rows.specs.Row.{words, fetches}
 use Rattle.node_rows.specs.Heights.{Low}
 use Rattle.node_rows.specs.Held.{heldIn, nodesOf}
@@ -26,10 +26,10 @@ use Rattle.steps_main.proofs.playing.gather.Statement.{statement}
 use Rattle.steps_main.proofs.playing.gather.Tie as tie
 
 abbrev Inv-loop : tie.InvT-loop
-Inv-loop op tag memory held₀ made₀ root structure m₀ count₀ held made m count = (m .count ≤ 16) × (LowHeld (memory .root) held count × (length made ≡ words))
+Inv-loop op spares memory held₀ made₀ root structure m₀ count₀ held made m count = (m .count ≤ 16) × (LowHeld (memory .root) held count × (length made ≡ words))
 
 abbrev μ-loop : tie.MeasureT-loop
-μ-loop op tag memory held₀ made₀ root structure m₀ count₀ held made m count = 33 - count
+μ-loop op spares memory held₀ made₀ root structure m₀ count₀ held made m count = 33 - count
 
 -- One more low node in the row.
 low-more : {root : Link} {row : List ℕ} {count : ℕ} (more : List ℕ) (n : Node) → LowHeld root row count → count < fetches
@@ -70,7 +70,7 @@ module _ (c : tie.After-without Inv-loop μ-loop) where
       let asked = sym (told .before .before .wanted .ensures .0) ∙ ap toWanted (told .next .given .1) in
       let passed = sym (tested .passes .ensures) ∙ not-false (tested .passes .result) (c .before .if2 .left) in
       tested-low (structureOf (looped .before .structure-of .result)) (start .args .memory .entries) (toWant (told .next .given .0 .0)) (toNode n) 100 passed (omega arith)
-      (wanted-low (toOp (start .args .op)) (λ i. start .args .tag) 15 (start .args .memory .entries) (toLink (start .args .memory .root)) (nodesOf (heldIn (looped .loop .held) (looped .loop .count))) 100 (omega arith) (low .root-low) (low .low) asked)
+      (wanted-low (toOp (start .args .op)) (sparesIn (start .args .spares)) 15 (start .args .memory .entries) (toAhead (start .args .spares .ahead)) (toLink (start .args .memory .root)) (nodesOf (heldIn (looped .loop .held) (looped .loop .count))) 100 (omega arith) (low .root-low) (low .low) asked)
 
 structure-of-requires : tie.Need-structure-of-requires Inv-loop μ-loop
 structure-of-requires c κs = search needs

@@ -342,7 +342,7 @@ emptied : after 2 (λ d. d) (enqueue 5 ∷ dequeue ∷ []) .memory
 unfolding after
 emptied = refl
 
--- A full queue's in answers 10, and keeps all but what its rounds move: nothing, since it fetches none.
+-- A full queue's in answers 10 and fetches none: the memory is as it was.
 full-queue : after 1 (λ d. d) (enqueue 5 ∷ enqueue 6 ∷ dequeue ∷ []) .answers ≡ some queued ∷ some full ∷ some (dequeued 5) ∷ []
 unfolding after
 full-queue = refl

@@ -47,7 +47,7 @@ ending-on : (structure size : ℕ) (trace trace′ : List ℕ) (l : Left) → dr
 ending-on structure size trace trace′ l e = rw e
 
 -- The job, by its parts.
-pub same-job : {structure size entries : ℕ} {root : Link} {ahead : Ahead} {op : Op} (F : ℕ) (tape : List ℕ) {limit first second puts : ℕ}
+pub same-job : (structure size entries : ℕ) (root : Link) (ahead : Ahead) (op : Op) (F : ℕ) (tape : List ℕ) {limit first second puts : ℕ}
     → limit ≡ capacity size → first ≡ drawOf size tape F → second ≡ drawOf size tape (F + 1) → puts ≡ F + spareOf structure
     → _≡_ {A = Job}
     (record {
@@ -62,7 +62,7 @@ pub same-job : {structure size entries : ℕ} {root : Link} {ahead : Ahead} {op 
       puts = puts;
     })
     (jobFor structure size entries root ahead op F tape)
-same-job F tape a b c d = rw (a, b, c, d)
+same-job structure size entries root ahead op F tape a b c d = rw (a, b, c, d)
 
 module _ {j : Job} {n : ℕ} {words tree tape trace : List ℕ} (ok : Runs j n words tree tape trace) where
   abbrev draw : ℕ → ℕ

@@ -1,4 +1,4 @@
-// What an operation wants next of the nodes fetched for it so far, and its step once it wants none.
+// What an operation wants next of the nodes fetched for it so far, its step once it wants none, and what is known ahead after it.
 use heap_steps::add;
 use heap_steps::add_wanted;
 use heap_steps::take;

@@ -48,7 +48,8 @@ add-t15 c = search needs
 returns : tie.Need-returns
 returns c =
     let a = c .before .before .before .before .before .args in
-    same-job (a .rounds) (a .tape .now) (ap (λ (n : ℕ). n - 1) (c .before .before .before .leaves .ensures .0)) (c .before .before .draw-at .ensures .0) (c .before .draw-at2 .ensures .0)
+    same-job (a .structure) (a .size) (a .entries) (a .root) (a .ahead) (a .op) (a .rounds) (a .tape .now)
+    (ap (λ (n : ℕ). n - 1) (c .before .before .before .leaves .ensures .0)) (c .before .before .draw-at .ensures .0) (c .before .draw-at2 .ensures .0)
     (ap (λ (n : ℕ). a .rounds + n) (c .spare-of .ensures .0))
 
 pub job-for-spec : {M : Type 1} → statement M

@@ -18,6 +18,7 @@ use Rattle.method_spec.specs.Map.{Outcome}
 use Rattle.method_spec.specs.Heap.{Pass, Reached, rise, topmost, newNode, addProg, heapTest}
 use Rattle.method_spec.specs.Call.{Memory}
 use Rattle.method_spec.specs.Safe.{Safe, ends}
+use Rattle.run_laws.specs.Fetches.{tags}
 use Rattle.run_laws.specs.SafeLaws.{safe-pick, safe-then}
 use Rattle.run_laws.specs.Calls.{memoryOf}
 use Rattle.run_laws.specs.Answers.{StepsTo}
@@ -115,7 +116,7 @@ module _ {T : Type 0} (nil : T) (limit : ℕ) (vs : List ℕ) (m : Memory T) (h 
       record {
         contents = rw room (cell-kept c (came .frames) (came .at) same (ltb-true (length vs) limit room) (came .passes) there);
         answers = rw room;
-        retagged = record { dropped = []; among = rw (append-nil, made) (cons (c .tag) (came .retagged)) };
+        retagged = record { dropped = []; among = rw (append-nil (tags (rise (newNode nil (c .value) (c .tag) (m .entries)) (r .path))), made) (cons (c .tag) (came .retagged)) };
       }
 
   add-full : (value : ℕ) (tag : T) → ltb (length vs) limit ≡ false

@@ -7,14 +7,24 @@ use lib.Dec.{eqb}
 use lib.ListN.{length, drop}
 use borrow.Author.Tests.{eq-eqb, ne-eqb, lt-ltb, le-ltb}
 use Rattle.list_spec.specs.Choice.{pick}
-use Rattle.method_spec.specs.Node.{Link, Node, Ahead, absent, linkOne}
+use Rattle.method_spec.specs.Node.{Link, Node, Ahead, absent, linkOne, linkAhead}
 use Rattle.method_spec.specs.Answer.{queued, dequeued, empty, full}
 use Rattle.method_spec.specs.Map.{start}
 use Rattle.method_spec.specs.Queue.{nextAhead, newest, enqueueProg, enqueueAhead, dequeueProg, dequeueAhead}
+use Rattle.slot_spec.specs.Slot.{noLink}
+use Rattle.slot_spec.specs.declared.Link as slot
+use Rattle.leaf_spec.specs.Convert.{toLink}
 use Rattle.operation_spec.specs.Method.{nothing}
 use Rattle.operation_spec.specs.Resume.{missing, finished, resume}
 use Rattle.node_rows.specs.Held.{Held, nodesOf, heldAt}
 use Rattle.node_rows.specs.HeldLaws.{held-next, held-none}
+
+-- The new node, by its parts.
+pub newest-parts : (value draw1 draw2 entries : ℕ) (a : Ahead ℕ) {tag : ℕ} {next : Ahead ℕ} {none : slot.Link}
+    → tag ≡ pick (eqb entries 0) draw1 (a .tag) → next ≡ nextAhead draw2 a → none ≡ noLink
+    → _≡_ {A = Node ℕ} (record { key = a .key; value = value; tag = tag; left = linkAhead next; right = toLink none })
+    (newest 0 value draw1 draw2 entries a)
+newest-parts value draw1 draw2 entries a e f g = rw (e, f, g)
 
 module _ (value draw1 draw2 entries limit : ℕ) (a : Ahead ℕ) (l : Link ℕ) (ns : List (Node ℕ)) where
   pub enqueue-full : limit ≤ entries → resume (enqueueProg 0 value draw1 draw2 entries limit a l) ns ≡ finished (nothing l entries full) ns

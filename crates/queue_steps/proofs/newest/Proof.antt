@@ -1,8 +1,7 @@
 -- `queue_steps::newest` meets its contract, by what is known ahead after it.
 use borrow.Author.Needs.{needs}
-use mathlib.Core.Path.{ap}
-use Prim.Native.Nat.{ℕ}
-use Rattle.method_spec.specs.Node.{Ahead}
+use Rattle.leaf_spec.specs.Convert.{toAhead}
+use Rattle.queue_steps.specs.QueueLaws.{newest-parts}
 use Rattle.queue_steps.proofs.newest.Statement.{statement}
 use Rattle.queue_steps.proofs.newest.Tie as tie
 
@@ -17,8 +16,9 @@ new-tag-requires c κs = search needs
 
 returns : tie.Need-returns
 returns c =
-    let e = c .before .before .next-ahead .ensures in
-    rw (c .before .no-link .ensures, c .new-tag .ensures, ap (λ (a : Ahead ℕ). a .key) e, ap (λ (a : Ahead ℕ). a .tag) e)
+    let a = c .before .before .before .before .args in
+    newest-parts (a .value) (a .spares .first) (a .spares .second) (a .entries) (toAhead (a .spares .ahead))
+    (c .new-tag .ensures) (c .before .before .next-ahead .ensures) (c .before .no-link .ensures)
 
 pub newest-spec : {M : Type 1} → statement M
 newest-spec = tie.close (tie.spec next-ahead-requires no-link-requires new-tag-requires returns)

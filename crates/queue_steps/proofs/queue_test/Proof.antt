@@ -1,5 +1,7 @@
 -- `queue_steps::queue_test` meets its contract, test by test.
-use mathlib.Core.Path.{sym}
+use Prim.Native.Nat.{ℕ}
+use mathlib.Core.Path.{sym, _∙_, ap}
+use lib.Dec.{eqb}
 use native.Mathlib.Numerals.{add-one}
 use Rattle.leaf_spec.specs.Convert.{toNode}
 use Rattle.operation_spec.specs.Method.{toWant}
@@ -24,7 +26,10 @@ add-next : tie.Need-add-next
 add-next c = search needs
 
 returns-3 : tie.Need-returns-3
-returns-3 c = let a = c .before .before .before .before .before .before .before .before .args in rw (add-one) (sym (key-after (toWant (a .want)) (toNode (a .n)) (c .before .before .before .before .if1 .left) (c .before .before .if2 .left)))
+returns-3 c =
+    let a = c .before .before .before .before .before .before .before .before .args in
+    ap (λ (next : ℕ). eqb (a .n .left .key) next) (add-one (a .n .key))
+    ∙ sym (key-after (toWant (a .want)) (toNode (a .n)) (c .before .before .before .before .if1 .left) (c .before .before .if2 .left))
 
 pub queue-test-spec : {M : Type 1} → statement M
 queue-test-spec = tie.close (tie.spec returns returns-2 cast-key cast-next add-next returns-3)

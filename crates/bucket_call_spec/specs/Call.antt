@@ -4,7 +4,7 @@ use mathlib.Core.List.{List, []}
 use mathlib.Core.Option.{some}
 use lib.ListN.{getD}
 use Rattle.method_spec.specs.Node.{Link, Ahead, Node}
-use Rattle.method_spec.specs.Prog.{done, want}
+use Rattle.method_spec.specs.Prog.{Prog, done, want}
 use Rattle.method_spec.specs.Answer.{Structure, Op}
 use Rattle.method_spec.specs.Rounds.{putDraw}
 use Rattle.method_spec.specs.Map.{Outcome}
@@ -61,12 +61,18 @@ afterFetches s k F draw st a (shut m g) = closing m (st .entries) (st .root) (st
 afterFetches s k F draw st a (on g (want w c)) = closing 8 (st .entries) (st .root) (st .ahead) g
 afterFetches s k F draw st a (on g (done o)) = afterPuts a o (putRounds k draw F (putDraw s F 0) o (stepped o g))
 
--- Where F fetch rounds come to: a round that closed the store, or the step. The spare draws come after those of the fetch rounds.
+-- Before the first round nothing is held, and no leaf was revealed.
+abbrev pub begun : Store → Going
+begun st = record { tree = st .tree; waiting = st .waiting; held = []; leaves = [] }
+
+-- The call's program. The spare draws come after those of the fetch rounds.
+abbrev pub programBy : {s : Structure} → (size rounds : ℕ) → Op s → (draw : ℕ → ℕ) → Store → Prog ℕ (Outcome ℕ)
+programBy k F op draw st =
+    program 0 op (spareTags F draw) (capacity k) (st .entries) (st .ahead) (st .root)
+
+-- Where F fetch rounds come to: a round that closed the store, or the step.
 abbrev pub fetchedBy : {s : Structure} → (size rounds : ℕ) → Op s → (draw : ℕ → ℕ) → Store → Round (Outcome ℕ)
-fetchedBy {s} k F op draw st =
-    fetchRounds s (st .entries) k draw F 0
-    (program 0 op (spareTags F draw) (capacity k) (st .entries) (st .ahead) (st .root))
-    (record { tree = st .tree; waiting = st .waiting; held = []; leaves = [] })
+fetchedBy {s} k F op draw st = fetchRounds s (st .entries) k draw F 0 (programBy k F op draw st) (begun st)
 
 -- What is known ahead after the step.
 abbrev pub aheadThen : {s : Structure} → (size rounds : ℕ) → Op s → (draw : ℕ → ℕ) → Store → Ahead ℕ

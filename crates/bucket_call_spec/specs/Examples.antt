@@ -18,7 +18,7 @@ use Rattle.leaf_spec.specs.Leaf.{readLeaf}
 use Rattle.bucket_call_spec.specs.Fetch.{Left, movedLink, movedNode, closing, atClose, idleRound, tookRound, wantRound, fetchRound, fetchRounds}
 use Rattle.bucket_call_spec.specs.Call.{Store, drawOf, putRounds, afterPuts, afterFetches, bucketCall}
 
-abbrev empty : Store
+abbrev pub empty : Store
 empty =
     record {
       entries = 0;
@@ -28,10 +28,10 @@ empty =
       tree = replicate 896 0;
     }
 
-abbrev leftBy : Left → Store
+abbrev pub leftBy : Left → Store
 leftBy l = record { entries = l .entries; root = l .root; ahead = l .ahead; waiting = l .waiting; tree = l .tree }
 
-abbrev first : Left
+abbrev pub first : Left
 first = bucketCall {s = stack} 2 1 (push 50) (drawOf 2 (1 ∷ 2 ∷ 3 ∷ [])) empty
 
 abbrev second : Left

@@ -1,5 +1,5 @@
 -- The fetch rounds of one call over a bucket tree, in the paper's order.
-use Prim.Native.Nat.{ℕ, zero, suc}
+use Prim.Native.Nat.{ℕ, zero, suc, _+_}
 use mathlib.Core.Bool.{Bool, true, false, Bool·beq, _&&_}
 use mathlib.Core.List.{List, [], _∷_, _++_, map}
 use mathlib.Core.Option.{Option, none, some}
@@ -88,6 +88,10 @@ written k leaf ws held g =
       leaves = g .leaves ++ (leaf ∷ []);
     }
 
+-- How many nodes wait and are held.
+abbrev pub total : Going → ℕ
+total g = length (g .waiting) + length (g .held)
+
 abbrev pub tooMany : Going → Bool
 tooMany g = overflows (length (g .waiting)) (length (g .held))
 
@@ -103,6 +107,11 @@ pub data Round (A : Type 0) : Type 0 where
   shut : ℕ → Going → Round A
 
 module _ {A : Type 0} where
+  -- The number waiting and held at a round's close, none where it found damage and did not close. Document 02, change 6.
+  unfoldable pub countAtClose : Round A → Option ℕ
+  countAtClose (on g p) = some (total g)
+  countAtClose (shut m g) = pick (eqb m 9) (some (total g)) none
+
   -- At a round's close waiting and held nodes together number at most 64.
   unfoldable pub atClose : Going → Prog ℕ A → Round A
   atClose g p = pick (tooMany g) (shut 9 g) (on g p)

@@ -49,7 +49,7 @@ module _ (s : State) where
     stands unmarked e loaded = record { head = refl; not-closed = unmarked; fit = fit-by-places e; loaded = loaded }
 
   module _ (tree ticket tape trace : List ℕ) where
-    pub refuses : {r : Called} {n : ℕ} → r ≡ record { state = s; reply = Refused n; leaves = 0 } → called s tree ticket tape trace ≡ refusing n s tree trace
+    pub refuses : {r : Called} {n : ℕ} → r ≡ record { state = s; reply = Refused n; leaves = 0; peak = 0 } → called s tree ticket tape trace ≡ refusing n s tree trace
         → endedAs r tree trace ≡ called s tree ticket tape trace
     refuses e h = ap (λ (c : Called). endedAs c tree trace) e ∙ sym h
 
@@ -66,10 +66,10 @@ module _ (s : State) where
     module _ {words words′ tree′ trace′ : List ℕ} (st : StandsFor s (headOf s) words) (r : Ran)
         (made : CallsAs (headOf s) words tree ticket tape trace words′ tree′ trace′ r) where
       -- The core refused.
-      pub kept : r .ran ≡ false → endedAs (record { state = s; reply = r .reply; leaves = r .leaves }) tree′ trace′ ≡ called s tree ticket tape trace
+      pub kept : r .ran ≡ false → endedAs (record { state = s; reply = r .reply; leaves = r .leaves; peak = r .peak }) tree′ trace′ ≡ called s tree ticket tape trace
       kept e = rw e at (made .calls s st)
 
       -- It made its rounds, and what it left is saved.
       pub changed : {left : State} → r .ran ≡ true → left ≡ saved (s .structure) (s .size) (r .mark) (r .entries) (r .root) (r .ahead) (waitingIn (r .waiting) words′)
-          → endedAs (record { state = left; reply = r .reply; leaves = r .leaves }) tree′ trace′ ≡ called s tree ticket tape trace
-      changed e saved-so = ap (λ (x : State). endedAs (record { state = x; reply = r .reply; leaves = r .leaves }) tree′ trace′) saved-so ∙ (rw e at (made .calls s st))
+          → endedAs (record { state = left; reply = r .reply; leaves = r .leaves; peak = r .peak }) tree′ trace′ ≡ called s tree ticket tape trace
+      changed e saved-so = ap (λ (x : State). endedAs (record { state = x; reply = r .reply; leaves = r .leaves; peak = r .peak }) tree′ trace′) saved-so ∙ (rw e at (made .calls s st))

@@ -6,4 +6,4 @@ use Rattle.call_spec.specs.Store.{Ended}
 
 -- What the code returns, with the tree and the trace buffer as it leaves them.
 abbrev pub endedAs : Called → (tree trace : List ℕ) → Ended
-endedAs r tree trace = record { state = r .state; reply = r .reply; leaves = r .leaves; tree = tree; trace = trace }
+endedAs r tree trace = record { state = r .state; reply = r .reply; leaves = r .leaves; peak = r .peak; tree = tree; trace = trace }

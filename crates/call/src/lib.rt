@@ -4,7 +4,7 @@ use call_core::call_words;
 use call_spec::Called;
 use call_spec::Reply;
 use fitness::head_refusal;
-use stash::places::greater;
+use round_close::greater;
 use stash::places::load_place;
 use stash::places::saved_place;
 use stash_words::WORDS;
@@ -37,6 +37,7 @@ pub fn call(state: State, tree: &mut [u8], ticket: &[u8], tape: &[u16], trace: &
             state,
             reply: Reply::Refused(number),
             leaves: 0,
+            peak: 0,
         };
     }
     // The waiting nodes as words, and whether the places fit.
@@ -52,6 +53,7 @@ pub fn call(state: State, tree: &mut [u8], ticket: &[u8], tape: &[u16], trace: &
                 state,
                 reply: Reply::Refused(2),
                 leaves: 0,
+                peak: 0,
             };
         }
         least = p.node.key as u64 + 1;
@@ -64,6 +66,7 @@ pub fn call(state: State, tree: &mut [u8], ticket: &[u8], tape: &[u16], trace: &
                 state,
                 reply: Reply::Refused(2),
                 leaves: 0,
+                peak: 0,
             };
         }
         i += 1;
@@ -83,6 +86,7 @@ pub fn call(state: State, tree: &mut [u8], ticket: &[u8], tape: &[u16], trace: &
             state,
             reply,
             leaves: r.leaves,
+            peak: r.peak,
         };
     }
     // The state that is left. Past the nodes that wait now and those that waited before, its places are unused already.
@@ -105,5 +109,6 @@ pub fn call(state: State, tree: &mut [u8], ticket: &[u8], tape: &[u16], trace: &
         state: left,
         reply,
         leaves: r.leaves,
+        peak: r.peak,
     }
 }

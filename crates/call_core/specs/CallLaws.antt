@@ -23,7 +23,7 @@ use Rattle.round_laws.specs.Sorted.{ascending-distinct}
 use Rattle.round_laws.specs.ReadHalf.{distinct-none-twice}
 use Rattle.leaf_spec.specs.Leaf.{leafFormat}
 use Rattle.stash_laws.specs.Waiting.{InWidths, waitingIn}
-use Rattle.bucket_call_spec.specs.Call.{Store, drawOf, bucketCall}
+use Rattle.bucket_call_spec.specs.Call.{Store, drawOf}
 use Rattle.leaf_spec.specs.Entries.{OpFits}
 use Rattle.state_spec.specs.declared.Place.{Place}
 use Rattle.state_spec.specs.declared.State.{State}
@@ -35,7 +35,7 @@ use Rattle.operation_spec.specs.declared.Op.{Op}
 use Rattle.operation_spec.specs.Method.{toOp, structureOf}
 use Rattle.tickets.specs.declared.Asked.the-variants.{Call, Unknown}
 use Rattle.tickets.specs.Asked.{fromOp, fromAsked, asked}
-use Rattle.call_spec.specs.Store.{refusing, ending, storeOf, callWith, called}
+use Rattle.call_spec.specs.Store.{refusing, storeOf, callWith, called}
 use Rattle.fitness_laws.specs.FitState.{FitState, fit-state}
 use Rattle.fitness_laws.specs.FitStores.{fit-store}
 use Rattle.state_spec.specs.Widths.{LinkWidths, Widths}
@@ -46,7 +46,7 @@ use Rattle.want_rounds.specs.Wanting.{storeAt}
 use Rattle.call_spec.specs.declared.Reply.the-variants.{Refused}
 use Rattle.call_core.specs.declared.Head.{Head}
 use Rattle.call_ending.specs.declared.Ran.{Ran}
-use Rattle.call_ending.specs.Ending.{leftBy, endingWith}
+use Rattle.call_ending.specs.Ending.{leftBy, endingCall}
 use Rattle.call_core.specs.Run.{StandsFor, Stands, leftOf, CallsAs, jobFor, Runs}
 
 -- Numbers each of which is below 256 are bytes.
@@ -108,17 +108,18 @@ keys-back take-smallest next = refl
 keys-back (enqueue v) next = refl
 keys-back dequeue next = refl
 
-call-back : {s : Structure} (a : method.Op s) (k F : ℕ) (draw : ℕ → ℕ) (st : Store) → bucketCall k F (toOp (fromOp a)) draw st ≡ bucketCall k F a draw st
+call-back : {s : Structure} (a : method.Op s) (structure k : ℕ) (trace : List ℕ) (F : ℕ) (draw : ℕ → ℕ) (st : Store)
+    → endingCall structure k trace F (toOp (fromOp a)) draw st ≡ endingCall structure k trace F a draw st
 unfolding fromOp
-call-back (get k) n F draw st = refl
-call-back (put k v) n F draw st = refl
-call-back (remove k) n F draw st = refl
-call-back (push v) n F draw st = refl
-call-back pop n F draw st = refl
-call-back (add v) n F draw st = refl
-call-back take-smallest n F draw st = refl
-call-back (enqueue v) n F draw st = refl
-call-back dequeue n F draw st = refl
+call-back (get k) structure n trace F draw st = refl
+call-back (put k v) structure n trace F draw st = refl
+call-back (remove k) structure n trace F draw st = refl
+call-back (push v) structure n trace F draw st = refl
+call-back pop structure n trace F draw st = refl
+call-back (add v) structure n trace F draw st = refl
+call-back take-smallest structure n trace F draw st = refl
+call-back (enqueue v) structure n trace F draw st = refl
+call-back dequeue structure n trace F draw st = refl
 
 -- What is known ahead, within the widths of its types.
 abbrev pub AheadWidths : Ahead → Type 0
@@ -197,14 +198,13 @@ module _ (s : State) (tree ticket tape trace : List ℕ) where
                 unfolding callWith
                 refused-7 h = past ∙ rw (a .is, has-key, ← rounds-are, le-ltb (length tape) (2 * F + spareOf (s .structure)) tape-long, lt-ltb (length trace) (2 * F) h)
 
-                pub goes-on : 2 * F ≤ length trace → called s tree ticket tape trace ≡ ending s trace (bucketCall (s .size) F (toOp op) (drawOf (s .size) tape) (storeOf s tree))
+                pub goes-on : 2 * F ≤ length trace → called s tree ticket tape trace ≡ endingCall (s .structure) (s .size) trace F (toOp op) (drawOf (s .size) tape) (storeOf s tree)
                 unfolding callWith
                 goes-on trace-long =
                     past
                     ∙ rw (a .is, has-key, ← rounds-are, le-ltb (length tape) (2 * F + spareOf (s .structure)) tape-long, le-ltb (length trace) (2 * F) trace-long)
-                    (ap (ending s trace)
-                    (sym (call-back (a .asks) (s .size) F (drawOf (s .size) tape) (storeOf s tree))
-                    ∙ ap (λ (x : Op). bucketCall (s .size) F (toOp x) (drawOf (s .size) tape) (storeOf s tree)) (a .same)))
+                    (sym (call-back (a .asks) (s .structure) (s .size) trace F (drawOf (s .size) tape) (storeOf s tree))
+                    ∙ ap (λ (x : Op). endingCall (s .structure) (s .size) trace F (toOp x) (drawOf (s .size) tape) (storeOf s tree)) (a .same))
 
 -- ---- all checks were passed
 module _ {s : State} {op : Op} {F : ℕ} {tree ticket tape trace : List ℕ} (ok : Checked s op F tree ticket tape trace) {n : ℕ} {words : List ℕ} (loaded : Loaded s words n) where
@@ -280,12 +280,12 @@ module _ {s : State} {op : Op} {F : ℕ} {tree ticket tape trace : List ℕ} (ok
 
   -- What the rounds and the step left.
   pub then-left : (r : Ran) (words′ : List ℕ) {tree′ trace′ : List ℕ} → r .ran ≡ true
-      → leftBy (s .structure) k r words′ tree′ trace′ ≡ endingWith (s .structure) k trace (bucketCall k F (toOp op) (drawOf k tape) (storeAt job n words tree))
+      → leftBy (s .structure) k r words′ tree′ trace′ ≡ endingCall (s .structure) k trace F (toOp op) (drawOf k tape) (storeAt job n words tree)
       → leftOf s r words′ tree′ trace′ ≡ called s tree ticket tape trace
   then-left r words′ ran q =
       rw ran
       (q
-      ∙ ap (λ (x : Store). ending s trace (bucketCall k F (toOp op) (drawOf k tape) x)) same-store
+      ∙ ap (endingCall (s .structure) k trace F (toOp op) (drawOf k tape)) same-store
       ∙ sym (goes-on s tree ticket tape trace (ok .not-closed) (ok .fit) (ok .tree-sized) (ok .ticket-sized) op (ok .asks) (ok .keys) F (ok .rounds-are) (ok .tape-long) (ok .trace-long)))
 
 -- ---- by the head that the core is given
@@ -371,8 +371,8 @@ head-runs st ok = rw (st .head) (can-run ok (st .loaded))
 pub head-left : {s : State} {h : Head} {words : List ℕ} (st : StandsFor s h words) {op : Op} {F : ℕ} {tree ticket tape trace : List ℕ}
     → Checked s op F tree ticket tape trace → (r : Ran) (words′ : List ℕ) {tree′ trace′ : List ℕ} → r .ran ≡ true
     → leftBy (h .structure) (h .size) r words′ tree′ trace′
-    ≡ endingWith (h .structure) (h .size) trace
-    (bucketCall (h .size) F (toOp op) (drawOf (h .size) tape) (storeAt (jobFor (h .structure) (h .size) (h .entries) (h .root) (h .ahead) op F tape) (h .waiting) words tree))
+    ≡ endingCall (h .structure) (h .size) trace F (toOp op) (drawOf (h .size) tape)
+    (storeAt (jobFor (h .structure) (h .size) (h .entries) (h .root) (h .ahead) op F tape) (h .waiting) words tree)
     → leftOf s r words′ tree′ trace′ ≡ called s tree ticket tape trace
 head-left st ok r words′ ran q = then-left ok (st .loaded) r words′ ran (rw (st .head) at q)
 
@@ -380,7 +380,7 @@ head-left st ok r words′ ran q = then-left ok (st .loaded) r words′ ran (rw 
 module _ {h : Head} {words tree ticket tape trace : List ℕ} (st : Stands h words) where
   -- It refuses.
   pub core-refuses : (n : ℕ) {r : Ran}
-      → r ≡ record { ran = false; mark = 0; entries = h .entries; root = h .root; ahead = h .ahead; waiting = h .waiting; reply = Refused n; leaves = 0 }
+      → r ≡ record { ran = false; mark = 0; entries = h .entries; root = h .root; ahead = h .ahead; waiting = h .waiting; reply = Refused n; leaves = 0; peak = 0 }
       → ((s : State) → StandsFor s h words → called s tree ticket tape trace ≡ refusing n s tree trace)
       → CallsAs h words tree ticket tape trace words tree trace r
   core-refuses n e gives = rw e (record { calls = λ s x. sym (gives s x); holds = rw (st .for .head) (st .for .loaded .holds) })

@@ -47,6 +47,7 @@ leftOf s r words tree trace =
       state = pick (r .ran) (saved (s .structure) (s .size) (r .mark) (r .entries) (r .root) (r .ahead) (waitingIn (r .waiting) words)) s;
       reply = r .reply;
       leaves = r .leaves;
+      peak = r .peak;
       tree = tree;
       trace = trace;
     }

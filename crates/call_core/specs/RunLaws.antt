@@ -1,7 +1,7 @@
 -- The rounds and the step of a call, together: what the code leaves is what the definition leaves.
-use mathlib.Core.Path.{_≡_, refl, sym, _∙_, ap}
+use mathlib.Core.Path.{_≡_, refl, sym, _∙_, ap, ap₂}
 use mathlib.Core.List.{List, []}
-use Prim.Native.Nat.{ℕ, _+_, _-_, _^_, _≤_, _<_}
+use Prim.Native.Nat.{ℕ, max, _+_, _-_, _^_, _≤_, _<_}
 use native.Mathlib.Omega.{arith}
 use lib.ListN.{length, take, drop, replicate, length-map}
 use Rattle.method_spec.specs.Prog.{Prog, done, after}
@@ -13,8 +13,10 @@ use Rattle.round_spec.specs.Round.{join}
 use Rattle.leaf_spec.specs.Leaf.{leafFormat}
 use Rattle.word_round_laws.specs.Words.{wordCount}
 use Rattle.bucket_call_spec.specs.Fetch as fetch
-use Rattle.bucket_call_spec.specs.Fetch.{Left, Going, on, shut, closing, fetchRounds}
-use Rattle.bucket_call_spec.specs.Call.{Store, drawOf, fetchedBy, bucketCall}
+use Rattle.bucket_call_spec.specs.Fetch.{Left, Going, Round, on, shut, closing, fetchRounds}
+use Rattle.bucket_call_spec.specs.Call.{Store, drawOf, stepped, begun, programBy, fetchedBy, bucketCall}
+use Rattle.bucket_call_spec.specs.Peak.{roundsFrom, peakOf, putsAfter, callPeak}
+use Rattle.peak_laws.specs.PeakLaws.{peak-append, peak-none}
 use Rattle.none_lost_laws.specs.Sound.{placesFor}
 use Rattle.none_lost_laws.specs.Lost.{left-shut, left-on, fetch-closing, stepping}
 use Rattle.slot_spec.specs.declared.Link.{Link}
@@ -37,14 +39,14 @@ use Rattle.want_rounds.specs.Wanting.{structureIn, programOf, storeAt, fetched,
 use Rattle.want_rounds.specs.WantingLaws.{at-most, root-low, same-program, same-ahead, held-length}
 use Rattle.fetch_rounds.specs.FetchLaws.{Done, is-done, drop-on}
 use Rattle.call_ending.specs.declared.Ran.{Ran}
-use Rattle.call_ending.specs.Ending.{leftBy, endingWith, goingBy, outcomeOf, Shuts, ShutAs, Finishes, finishedBy, FinishedAs}
+use Rattle.call_ending.specs.Ending.{leftBy, endingWith, endingCall, goingBy, outcomeOf, Shuts, ShutAs, Finishes, finishedBy, listedPuts, FinishedAs}
 use Rattle.call_core.specs.Run.{jobFor, Runs}
 use Rattle.call_ending.specs.EndingLaws.{joined-length, numbers-first}
 
 -- What follows the leaves in the trace buffer is all that an end takes from it.
-ending-on : (structure size : ℕ) (trace trace′ : List ℕ) (l : Left) → drop (length (l .leaves)) trace′ ≡ drop (length (l .leaves)) trace
-    → endingWith structure size trace′ l ≡ endingWith structure size trace l
-ending-on structure size trace trace′ l e = rw e
+ending-on : (structure size : ℕ) (trace trace′ : List ℕ) (l : Left) (peak : ℕ) → drop (length (l .leaves)) trace′ ≡ drop (length (l .leaves)) trace
+    → endingWith structure size trace′ l peak ≡ endingWith structure size trace l peak
+ending-on structure size trace trace′ l peak e = rw e
 
 -- The job, by its parts.
 pub same-job : (structure size entries : ℕ) (root : Link) (ahead : Ahead) (op : Op) (F : ℕ) (tape : List ℕ) {limit first second puts : ℕ}
@@ -93,10 +95,21 @@ module _ {j : Job} {n : ℕ} {words tree tape trace : List ℕ} (ok : Runs j n w
     abbrev mid : Going
     mid = goingBy h froms f words′ tree′ trace′
 
+    program-is : programBy k F op draw store ≡ programOf j
+    program-is = rw (begins .rounds-are) (sym (same-program j draw is-leaf begins))
+
     all-fetched : fetchedBy k F op draw store ≡ fetched j draw F n words tree
-    all-fetched =
-        ap (λ (p : Prog ℕ (Outcome ℕ)). fetchRounds (structureIn j) (j .entries) k draw F 0 p (going n words tree [] []))
-        (rw (begins .rounds-are) (sym (same-program j draw is-leaf begins)))
+    all-fetched = ap (λ (p : Prog ℕ (Outcome ℕ)). fetchRounds (structureIn j) (j .entries) k draw F 0 p (going n words tree [] [])) program-is
+
+    -- The call's peak, by its fetch rounds and its put rounds.
+    abbrev puts : List (Round (Outcome ℕ))
+    puts = putsAfter (structureIn j) k F draw store (fetchedBy k F op draw store)
+
+    peak-is : callPeak k F op draw store ≡ max (f .peak) (peakOf puts)
+    peak-is =
+        peak-append (roundsFrom (structureIn j) (j .entries) k draw F 0 (programBy k F op draw store) (begun store)) puts
+        ∙ ap (λ (x : ℕ). max x (peakOf puts))
+        (ap (λ (p : Prog ℕ (Outcome ℕ)). peakOf (roundsFrom (structureIn j) (j .entries) k draw F 0 p (begun store))) program-is ∙ came .peaked)
 
     held-counted : length (nodesOf h) ≡ h .count
     held-counted = row.held-length h (omega (arith, came .row-sized, came .few))
@@ -109,7 +122,7 @@ module _ {j : Job} {n : ℕ} {words tree tape trace : List ℕ} (ok : Runs j n w
 
     abbrev EndsAs : Ran → (words tree trace : List ℕ) → Type 0
     EndsAs r words″ tree″ trace″ =
-        leftBy (j .structure) k r words″ tree″ trace″ ≡ endingWith (j .structure) k trace (bucketCall k F op draw store)
+        leftBy (j .structure) k r words″ tree″ trace″ ≡ endingCall (j .structure) k trace F op draw store
 
     -- ---- a fetch round closed the store
     module _ (marked : f .mark ≡ 0 → ⊥) where
@@ -118,6 +131,12 @@ module _ {j : Job} {n : ℕ} {words tree tape trace : List ℕ} (ok : Runs j n w
 
       left-is : bucketCall k F op draw store ≡ closing (f .mark) (j .entries) (toLink (j .root)) (toAhead (j .spares .ahead)) mid
       left-is = left-shut k F op draw store (f .mark) mid closed-by
+
+      peak-shut : callPeak k F op draw store ≡ f .peak
+      unfolding putsAfter
+      peak-shut =
+          let none : peakOf puts ≡ 0 = ap (λ (x : Round (Outcome ℕ)). peakOf (putsAfter (structureIn j) k F draw store x)) closed-by ∙ peak-none (Outcome ℕ) in
+          peak-is ∙ omega arith
 
       pub run-shuts : (row : List ℕ) → length row ≡ rowWords → Shuts f words′ row froms
       unfolding closing
@@ -143,8 +162,8 @@ module _ {j : Job} {n : ℕ} {words tree tape trace : List ℕ} (ok : Runs j n w
           let rest : drop (length (take (f .leaves) trace′)) trace′ ≡ drop (length (take (f .leaves) trace′)) trace =
           rw (numbers-first (f .leaves) trace′ fits) (came .untouched) in
           e .ends tree′ trace′ fits
-          ∙ ending-on (j .structure) k trace trace′ l rest
-          ∙ ap (endingWith (j .structure) k trace) (sym left-is)
+          ∙ ending-on (j .structure) k trace trace′ l (f .peak) rest
+          ∙ ap₂ (endingWith (j .structure) k trace) (sym left-is) (sym peak-shut)
 
     -- ---- all fetch rounds went on
     module _ (went : f .mark ≡ 0) where
@@ -185,6 +204,13 @@ module _ {j : Job} {n : ℕ} {words tree tape trace : List ℕ} (ok : Runs j n w
       left-finished : bucketCall k F op draw store ≡ finishedBy j draw f h words′ tree′ trace′
       left-finished = rw (begins .puts-are, same-ahead j draw is-leaf begins) (left-on k F op draw store mid O fetched-all)
 
+      peak-finished : callPeak k F op draw store ≡ max (f .peak) (peakOf (listedPuts j draw f h words′ tree′ trace′))
+      unfolding putsAfter
+      peak-finished =
+          peak-is
+          ∙ ap (λ (x : Round (Outcome ℕ)). max (f .peak) (peakOf (putsAfter (structureIn j) k F draw store x))) fetched-all
+          ∙ ap (λ (d : ℕ). max (f .peak) (peakOf (roundsFrom (structureIn j) (j .entries) k draw F d (done O) (stepped O mid)))) (sym (begins .puts-are))
+
       pub run-ends-finished : {r : Ran} {words″ tree″ trace″ : List ℕ} → FinishedAs j draw f h words′ tree′ trace′ words″ tree″ trace″ r → EndsAs r words″ tree″ trace″
       run-ends-finished {r} e =
           let l = finishedBy j draw f h words′ tree′ trace′ in
@@ -192,5 +218,5 @@ module _ {j : Job} {n : ℕ} {words tree tape trace : List ℕ} (ok : Runs j n w
           let at-fetched : drop F trace′ ≡ drop F trace = rw (← came .all-shown went) (came .untouched) in
           let all : length (l .leaves) ≡ F + (length (l .leaves) - F) = omega (arith, e .enough) in
           e .ends
-          ∙ ending-on (j .structure) k trace trace′ l (rw all (drop-on F (length (l .leaves) - F) trace′ trace at-fetched))
-          ∙ ap (endingWith (j .structure) k trace) (sym left-finished)
+          ∙ ending-on (j .structure) k trace trace′ l (max (f .peak) (peakOf (listedPuts j draw f h words′ tree′ trace′))) (rw all (drop-on F (length (l .leaves) - F) trace′ trace at-fetched))
+          ∙ ap₂ (endingWith (j .structure) k trace) (sym left-finished) (sym peak-finished)

@@ -31,7 +31,7 @@ pub struct Head {
 
 // A refusal 3 to 7 or 17: nothing changes, and no leaf is revealed.
 fn refused(head: Head, number: u8) -> Ran
-    ensures { λ r. ⌜ r ≡ record { ran = false; mark = 0; entries = head .entries; root = head .root; ahead = head .ahead; waiting = head .waiting; reply = Refused number; leaves = 0 } ⌝ }
+    ensures { λ r. ⌜ r ≡ record { ran = false; mark = 0; entries = head .entries; root = head .root; ahead = head .ahead; waiting = head .waiting; reply = Refused number; leaves = 0; peak = 0 } ⌝ }
 {
     let root = head.root;
     let ahead = head.ahead;
@@ -44,6 +44,7 @@ fn refused(head: Head, number: u8) -> Ran
         waiting: head.waiting as usize,
         reply: Reply::Refused(number),
         leaves: 0,
+        peak: 0,
     }
 }
 

@@ -19,10 +19,10 @@ ghost use Prim.Native.Nat.{_+_, _≤_, _<_};
 ghost use lib.ListN.{length};
 ghost use mathlib.Core.Bool.{true};
 ghost use Rattle.operation_spec.specs.Method.{toOp};
-ghost use Rattle.bucket_call_spec.specs.Call.{drawOf, bucketCall};
+ghost use Rattle.bucket_call_spec.specs.Call.{drawOf};
 ghost use Rattle.stash_laws.specs.Waiting.{Holds};
 ghost use Rattle.want_rounds.specs.Wanting.{storeAt};
-ghost use Rattle.call_ending.specs.Ending.{leftBy, endingWith};
+ghost use Rattle.call_ending.specs.Ending.{leftBy, endingCall};
 ghost use Rattle.call_core.specs.Run.{jobFor, Runs};
 
 // What the rounds of a call are for: a new node's tags come from the two draws after those of the fetch rounds, and from what is
@@ -72,7 +72,7 @@ pub fn run(
     trace: &mut [u16],
 ) -> Ran
     requires { ⌜ Runs job n (now w) (now tree) (now tape) (now trace) ⌝ }
-    ensures { λ r. ⌜ (leftBy (job .structure) (job .size) r (now (w .exit)) (now (tree .exit)) (now (trace .exit)) ≡ endingWith (job .structure) (job .size) (now (trace .entry)) (bucketCall (job .size) (job .rounds) (toOp (job .op)) (drawOf (job .size) (now (tape .entry))) (storeAt job n (now (w .entry)) (now (tree .entry))))) × (Holds (r .waiting) (now (w .exit)) × (r .ran ≡ true)) ⌝ }
+    ensures { λ r. ⌜ (leftBy (job .structure) (job .size) r (now (w .exit)) (now (tree .exit)) (now (trace .exit)) ≡ endingCall (job .structure) (job .size) (now (trace .entry)) (job .rounds) (toOp (job .op)) (drawOf (job .size) (now (tape .entry))) (storeAt job n (now (w .entry)) (now (tree .entry)))) × (Holds (r .waiting) (now (w .exit)) × (r .ran ≡ true)) ⌝ }
 {
     let mut s = [0u64; WORDS];
     let mut held = [0u64; ROW];

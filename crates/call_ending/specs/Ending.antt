@@ -2,11 +2,12 @@
 use mathlib.Core.Path.{_≡_}
 use mathlib.Core.Bool.{true}
 use mathlib.Core.List.{List, [], _++_}
-use Prim.Native.Nat.{ℕ, _+_, _≤_}
+use Prim.Native.Nat.{ℕ, max, _+_, _≤_}
 use lib.ListN.{length, take, drop}
 use Rattle.list_spec.specs.Distinct.{All}
 use Rattle.method_spec.specs.Node.{Ahead}
-use Rattle.method_spec.specs.Prog.{after}
+use Rattle.method_spec.specs.Prog.{done, after}
+use Rattle.method_spec.specs.Answer.{Structure, Op}
 use Rattle.method_spec.specs.Map.{Outcome}
 use Rattle.round_spec.specs.Round.{join}
 use Rattle.round_spec.specs.Whole.{IsTree, Ascending}
@@ -14,8 +15,9 @@ use Rattle.leaf_spec.specs.Convert.{fromLink, toLink, fromAhead, toAhead}
 use Rattle.leaf_spec.specs.Entries.{KeyLeft}
 use Rattle.leaf_spec.specs.Leaf.{leafFormat, ProperLeaf}
 use Rattle.word_round_laws.specs.Words.{wordCount}
-use Rattle.bucket_call_spec.specs.Fetch.{Left, Going, closing}
-use Rattle.bucket_call_spec.specs.Call.{afterPuts, putRounds, stepped}
+use Rattle.bucket_call_spec.specs.Fetch.{Left, Going, Round, closing}
+use Rattle.bucket_call_spec.specs.Call.{Store, afterPuts, putRounds, stepped, bucketCall}
+use Rattle.bucket_call_spec.specs.Peak.{roundsFrom, peakOf, callPeak}
 use Rattle.operation_spec.specs.Method.{toOp, aheadFor, outcomeIn}
 use Rattle.node_rows.specs.Row.{words as rowWords, fetches}
 use Rattle.node_rows.specs.Held.{Held, HeldFrom, nodesOf}
@@ -25,7 +27,7 @@ use Rattle.stash_laws.specs.Waiting.{waitingIn, Holds}
 use Rattle.one_round.specs.OneRound.{going}
 use Rattle.want_rounds.specs.declared.Job.{Job}
 use Rattle.want_rounds.specs.declared.Fetched.{Fetched}
-use Rattle.want_rounds.specs.Wanting.{heldBy, programOf}
+use Rattle.want_rounds.specs.Wanting.{heldBy, structureIn, programOf}
 use Rattle.call_ending.specs.declared.Ran.{Ran}
 
 -- What the rounds and the step of a call leave, of a store of that structure and size, with the waiting nodes' words, the tree and
@@ -36,20 +38,26 @@ leftBy structure size r words tree trace =
       state = saved structure size (r .mark) (r .entries) (r .root) (r .ahead) (waitingIn (r .waiting) words);
       reply = r .reply;
       leaves = r .leaves;
+      peak = r .peak;
       tree = tree;
       trace = trace;
     }
 
 -- The end of a call of a store of that structure and size, of what it leaves: `ending` of call_spec.
-abbrev pub endingWith : (structure size : ℕ) → List ℕ → Left → Ended
-endingWith structure size trace l =
+abbrev pub endingWith : (structure size : ℕ) → List ℕ → Left → (peak : ℕ) → Ended
+endingWith structure size trace l peak =
     record {
       state = saved structure size (l .mark) (l .entries) (fromLink (l .root)) (fromAhead (l .ahead)) (l .waiting);
       reply = replied (l .mark) (l .answer);
       leaves = length (l .leaves);
+      peak = peak;
       tree = l .tree;
       trace = l .leaves ++ drop (length (l .leaves)) trace;
     }
+
+-- The same of a whole call over buckets.
+abbrev pub endingCall : {s : Structure} → (structure size : ℕ) → List ℕ → (rounds : ℕ) → Op s → (draw : ℕ → ℕ) → Store → Ended
+endingCall structure k trace F op draw st = endingWith structure k trace (bucketCall k F op draw st) (callPeak k F op draw st)
 
 -- A call after its fetch rounds, with the leaves that these revealed.
 abbrev pub goingBy : Held → List ℕ → Fetched → (words tree trace : List ℕ) → Going
@@ -77,7 +85,7 @@ pub record ShutAs (j : Job) (f : Fetched) (h : Held) (froms words words′ : Lis
   pub holds : Holds (r .waiting) words′
   pub ends : (tree trace : List ℕ) → f .leaves ≤ length trace
       → leftBy (j .structure) (j .size) r words′ tree trace
-      ≡ endingWith (j .structure) (j .size) trace (closing (f .mark) (j .entries) (toLink (j .root)) (toAhead (j .spares .ahead)) (goingBy h froms f words tree trace))
+      ≡ endingWith (j .structure) (j .size) trace (closing (f .mark) (j .entries) (toLink (j .root)) (toAhead (j .spares .ahead)) (goingBy h froms f words tree trace)) (f .peak)
 
 -- The call is finished as the definition says it: after the step the put rounds.
 abbrev pub finishedBy : Job → (ℕ → ℕ) → Fetched → Held → (words tree trace : List ℕ) → Left
@@ -85,6 +93,12 @@ finishedBy j draw f h words tree trace =
     afterPuts (aheadOf j) (outcomeOf j h)
     (putRounds (j .size) draw (j .rounds) (j .puts) (outcomeOf j h)
     (stepped (outcomeOf j h) (going (f .waiting) words tree [] (take (f .leaves) trace))))
+
+-- Its put rounds, one by one.
+abbrev pub listedPuts : Job → (ℕ → ℕ) → Fetched → Held → (words tree trace : List ℕ) → List (Round (Outcome ℕ))
+listedPuts j draw f h words tree trace =
+    roundsFrom (structureIn j) (j .entries) (j .size) draw (j .rounds) (j .puts) (done (outcomeOf j h))
+    (stepped (outcomeOf j h) (going (f .waiting) words tree [] (take (f .leaves) trace)))
 
 -- What the step and the put rounds need: the nodes that wait then are proper and have room.
 pub record Finishes (j : Job) (f : Fetched) (h : Held) (words scratch tree : List ℕ) : Type 0 where
@@ -107,4 +121,5 @@ pub record FinishedAs (j : Job) (draw : ℕ → ℕ) (f : Fetched) (h : Held) (w
   pub holds : Holds (r .waiting) words′
   pub ran : r .ran ≡ true
   pub enough : j .rounds ≤ r .leaves
-  pub ends : leftBy (j .structure) (j .size) r words′ tree′ trace′ ≡ endingWith (j .structure) (j .size) trace (finishedBy j draw f h words tree trace)
+  pub ends : leftBy (j .structure) (j .size) r words′ tree′ trace′
+      ≡ endingWith (j .structure) (j .size) trace (finishedBy j draw f h words tree trace) (max (f .peak) (peakOf (listedPuts j draw f h words tree trace)))

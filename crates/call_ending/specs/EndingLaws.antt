@@ -3,7 +3,7 @@ use mathlib.Core.Path.{_≡_, refl, sym, _∙_, ap, ap₂}
 use mathlib.Core.Bool.{true}
 use mathlib.Core.List.{List, [], _++_}
 use mathlib.Core.Option.{none}
-use Prim.Native.Nat.{ℕ, _+_, _-_, _*_, _≤_}
+use Prim.Native.Nat.{ℕ, max, _+_, _-_, _*_, _≤_}
 use native.Mathlib.Decide.{ℕ-discrete}
 use native.Mathlib.Omega.{arith}
 use borrow.Author.Tests.{eq-eqb, ne-eqb}
@@ -22,6 +22,7 @@ use Rattle.leaf_spec.specs.Leaf.{leafFormat}
 use Rattle.bucket_call_spec.specs.Fetch as fetch
 use Rattle.bucket_call_spec.specs.Fetch.{Going, closing}
 use Rattle.bucket_call_spec.specs.Call.{afterPuts, putRounds, stepped}
+use Rattle.bucket_call_spec.specs.Peak.{roundsFrom, peakOf}
 use Rattle.slot_spec.specs.declared.Link as link
 use Rattle.slot_spec.specs.declared.Ahead as ahead
 use Rattle.state_spec.specs.declared.State.{State}
@@ -41,11 +42,11 @@ use Rattle.one_round.specs.OneRound.{going, endedWith}
 use Rattle.idle_rounds.specs.declared.idle.Idle.{Idle}
 use Rattle.want_rounds.specs.declared.Job.{Job}
 use Rattle.want_rounds.specs.declared.Fetched.{Fetched}
-use Rattle.want_rounds.specs.Wanting.{heldBy}
+use Rattle.want_rounds.specs.Wanting.{heldBy, structureIn}
 use Rattle.put_rounds.specs.Put.{Stepped, Puts}
 use Rattle.idle_rounds.specs.IdleLaws.{goes-on, stops-here}
 use Rattle.call_ending.specs.declared.Ran.{Ran}
-use Rattle.call_ending.specs.Ending.{leftBy, endingWith, outcomeOf, aheadOf, ShutAs, Finishes, finishedBy, FinishedAs}
+use Rattle.call_ending.specs.Ending.{leftBy, endingWith, outcomeOf, aheadOf, ShutAs, Finishes, finishedBy, listedPuts, FinishedAs}
 use Rattle.replies.specs.Answered.{answered}
 
 -- ---- parts alike
@@ -53,10 +54,10 @@ saved-same : {structure size m m′ n n′ : ℕ} {l l′ : link.Link} {a a′ :
     → saved structure size m n l a ws ≡ saved structure size m′ n′ l′ a′ ws′
 saved-same a b c d e = rw (a, b, c, d, e)
 
-ended-same : {s s′ : State} {p p′ : Reply} {n n′ : ℕ} {tree tree′ trace trace′ : List ℕ} → s ≡ s′ → p ≡ p′ → n ≡ n′ → tree ≡ tree′ → trace ≡ trace′
-    → _≡_ {A = Ended} (record { state = s; reply = p; leaves = n; tree = tree; trace = trace })
-    (record { state = s′; reply = p′; leaves = n′; tree = tree′; trace = trace′ })
-ended-same a b c d e = rw (a, b, c, d, e)
+ended-same : {s s′ : State} {p p′ : Reply} {n n′ q q′ : ℕ} {tree tree′ trace trace′ : List ℕ} → s ≡ s′ → p ≡ p′ → n ≡ n′ → q ≡ q′ → tree ≡ tree′ → trace ≡ trace′
+    → _≡_ {A = Ended} (record { state = s; reply = p; leaves = n; peak = q; tree = tree; trace = trace })
+    (record { state = s′; reply = p′; leaves = n′; peak = q′; tree = tree′; trace = trace′ })
+ended-same a b c d e f = rw (a, b, c, d, e, f)
 
 -- ---- the trace
 -- The first n numbers, and the rest.
@@ -81,14 +82,14 @@ module _ (j : Job) (f : Fetched) (words row froms : List ℕ) {row′ words′ :
   same-root = ap fromLink (moved .link)
 
   pub shut-ends : ShutAs j f (heldIn row (f .count)) froms words words′
-      (record { ran = true; mark = f .mark; entries = j .entries; root = l; ahead = j .spares .ahead; waiting = m; reply = Refused (f .mark); leaves = f .leaves })
+      (record { ran = true; mark = f .mark; entries = j .entries; root = l; ahead = j .spares .ahead; waiting = m; reply = Refused (f .mark); leaves = f .leaves; peak = f .peak })
   unfolding closing replied
   shut-ends =
       record {
         ran = refl;
         holds = joined .holds;
         ends = λ tree trace h.
-            ended-same (saved-same {a = j .spares .ahead} refl refl same-root refl same-waiting) refl (sym (numbers-first (f .leaves) trace h)) refl (first-and-rest (f .leaves) trace h);
+            ended-same (saved-same {a = j .spares .ahead} refl refl same-root refl same-waiting) refl (sym (numbers-first (f .leaves) trace h)) refl refl (first-and-rest (f .leaves) trace h);
       }
 
 -- ---- the step and the put rounds
@@ -144,6 +145,15 @@ module _ (j : Job) (draw : ℕ → ℕ) (f : Fetched) (h : Held) {words scratch 
         (sym waits-then)
         ∙ puts .rounds (take (f .leaves) trace) O
 
+    -- Their peak.
+    puts-peak : peakOf (listedPuts j draw f h words tree trace) ≡ r .peak
+    puts-peak =
+        ap
+        (λ (ws : List (Node ℕ)). peakOf
+        (roundsFrom (structureIn j) (j .entries) (j .size) draw (j .rounds) (j .puts) (done O) (record { tree = tree; waiting = ws; held = []; leaves = take (f .leaves) trace })))
+        (sym waits-then)
+        ∙ puts .peaked (structureIn j) (j .entries) (take (f .leaves) trace) O
+
     many : length draws ≡ r .shown
     many = draws-length draw (r .shown) (j .puts)
 
@@ -164,32 +174,39 @@ module _ (j : Job) (draw : ℕ → ℕ) (f : Fetched) (h : Held) {words scratch 
         ≡ saved (j .structure) (j .size) mark (O .entries) (fromLink (O .root)) (fromAhead (aheadOf j)) (waitingIn (r .waiting) words″)
     kept-as e = saved-same {ws = waitingIn (r .waiting) words″} (sym e) (ap (λ (x : Outcome ℕ). x .entries) made) (ap (λ (x : Outcome ℕ). fromLink (x .root)) made) (ap fromAhead known) refl
 
-    abbrev ran : Reply → Ran
-    ran p = record { ran = true; mark = r .mark; entries = o .entries; root = o .root; ahead = a; waiting = r .waiting; reply = p; leaves = j .rounds + r .shown }
+    abbrev most : ℕ
+    most = max (f .peak) (peakOf (listedPuts j draw f h words tree trace))
 
-    abbrev EndsAs : Reply → Type 0
-    EndsAs p = leftBy (j .structure) (j .size) (ran p) words″ tree″ trace″ ≡ endingWith (j .structure) (j .size) trace (finishedBy j draw f h words tree trace)
+    module _ {peak : ℕ} (raised : peak ≡ max (f .peak) (r .peak)) where
+      abbrev ran : Reply → Ran
+      ran p = record { ran = true; mark = r .mark; entries = o .entries; root = o .root; ahead = a; waiting = r .waiting; reply = p; leaves = j .rounds + r .shown; peak = peak }
 
-    -- A put round closed the store.
-    finish-shuts : {p : Reply} → (r .mark ≡ 0 → ⊥) → p ≡ Refused (r .mark) → EndsAs p
-    unfolding afterPuts replied
-    finish-shuts marked q =
-        ended-same (kept-as refl) q (sym leaves-many) refl trace-is
-        ∙ ap (endingWith (j .structure) (j .size) trace)
-        (sym
-        (ap (afterPuts (aheadOf j) O) (came-to ∙ stops-here (r .mark) end (done O) marked)
-        ∙ closing-none (r .mark) (O .entries) (O .root) (aheadOf j) (r .waiting) words″ tree″ leaves″))
+      abbrev EndsAs : Reply → Type 0
+      EndsAs p = leftBy (j .structure) (j .size) (ran p) words″ tree″ trace″ ≡ endingWith (j .structure) (j .size) trace (finishedBy j draw f h words tree trace) most
 
-    -- They all went on.
-    finish-answers : {p : Reply} → r .mark ≡ 0 → p ≡ replyOf (toAnswer (o .answer)) → EndsAs p
-    unfolding afterPuts replied
-    finish-answers went q =
-        ended-same (kept-as (sym went)) (q ∙ ap (λ (x : Outcome ℕ). replyOf (x .answer)) made) (sym leaves-many) refl trace-is
-        ∙ ap (endingWith (j .structure) (j .size) trace) (sym (ap (afterPuts (aheadOf j) O) (came-to ∙ goes-on (r .mark) end (done O) went)))
+      same-peak : peak ≡ most
+      same-peak = raised ∙ ap (max (f .peak)) (sym puts-peak)
 
-    pub finish-ends : {p : Reply} → p ≡ answered (r .mark) (toAnswer (o .answer)) → FinishedAs j draw f h words tree trace words″ tree″ trace″ (ran p)
-    finish-ends {p} q = record { holds = puts .holds; ran = refl; enough = omega arith; ends = go (ℕ-discrete (r .mark) 0) }
-      where
-        go : Dec (r .mark ≡ 0) → EndsAs p
-        go (yes e) = finish-answers e (q ∙ rw (eq-eqb (r .mark) 0 e))
-        go (no d) = finish-shuts d (q ∙ rw (ne-eqb (r .mark) 0 d))
+      -- A put round closed the store.
+      finish-shuts : {p : Reply} → (r .mark ≡ 0 → ⊥) → p ≡ Refused (r .mark) → EndsAs p
+      unfolding afterPuts replied
+      finish-shuts marked q =
+          ended-same (kept-as refl) q (sym leaves-many) same-peak refl trace-is
+          ∙ ap (λ (l : fetch.Left). endingWith (j .structure) (j .size) trace l most)
+          (sym
+          (ap (afterPuts (aheadOf j) O) (came-to ∙ stops-here (r .mark) end (done O) marked)
+          ∙ closing-none (r .mark) (O .entries) (O .root) (aheadOf j) (r .waiting) words″ tree″ leaves″))
+
+      -- They all went on.
+      finish-answers : {p : Reply} → r .mark ≡ 0 → p ≡ replyOf (toAnswer (o .answer)) → EndsAs p
+      unfolding afterPuts replied
+      finish-answers went q =
+          ended-same (kept-as (sym went)) (q ∙ ap (λ (x : Outcome ℕ). replyOf (x .answer)) made) (sym leaves-many) same-peak refl trace-is
+          ∙ ap (λ (l : fetch.Left). endingWith (j .structure) (j .size) trace l most) (sym (ap (afterPuts (aheadOf j) O) (came-to ∙ goes-on (r .mark) end (done O) went)))
+
+      pub finish-ends : {p : Reply} → p ≡ answered (r .mark) (toAnswer (o .answer)) → FinishedAs j draw f h words tree trace words″ tree″ trace″ (ran p)
+      finish-ends {p} q = record { holds = puts .holds; ran = refl; enough = omega arith; ends = go (ℕ-discrete (r .mark) 0) }
+        where
+          go : Dec (r .mark ≡ 0) → EndsAs p
+          go (yes e) = finish-answers e (q ∙ rw (eq-eqb (r .mark) 0 e))
+          go (no d) = finish-shuts d (q ∙ rw (ne-eqb (r .mark) 0 d))

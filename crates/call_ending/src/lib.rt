@@ -5,6 +5,7 @@ use node_rows::ROW;
 use operation_spec::Outcome;
 use put_rounds::put_rounds;
 use replies::reply_after;
+use round_close::greater;
 use slot_spec::Ahead;
 use slot_spec::Link;
 use stash::join::join_nodes;
@@ -26,7 +27,7 @@ ghost use Rattle.structures.specs.Operation.{LowHeld};
 ghost use Rattle.call_ending.specs.Ending.{outcomeOf, Shuts, ShutAs, Finishes, FinishedAs};
 
 // What a call leaves beside the words of the waiting nodes: whether it made its rounds or was refused, the mark, the entries, the
-// root link, what is known ahead, how many nodes wait, the reply, and how many leaves were revealed.
+// root link, what is known ahead, how many nodes wait, the reply, how many leaves were revealed, and the largest count at a round's close.
 pub struct Ran {
     pub ran: bool,
     pub mark: u8,
@@ -36,6 +37,7 @@ pub struct Ran {
     pub waiting: usize,
     pub reply: Reply,
     pub leaves: usize,
+    pub peak: usize,
 }
 
 // A fetch round closed the store: the held nodes join those waiting, as they were fetched, with only tags moved. What is known ahead
@@ -64,6 +66,7 @@ pub fn shut(
         waiting,
         reply: Reply::Refused(f.mark),
         leaves: f.leaves,
+        peak: f.peak,
     }
 }
 
@@ -116,6 +119,7 @@ pub fn finish(
     );
     let reply = reply_after(r.mark, answer);
     let leaves = job.rounds + r.shown;
+    let peak = greater(f.peak, r.peak);
     Ran {
         ran: true,
         mark: r.mark,
@@ -125,5 +129,6 @@ pub fn finish(
         waiting: r.waiting,
         reply,
         leaves,
+        peak,
     }
 }

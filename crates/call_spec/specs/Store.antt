@@ -14,6 +14,7 @@ use Rattle.leaf_spec.specs.Convert.{toLink, fromLink, toAhead, fromAhead, toNod
 use Rattle.bucket_call_spec.specs.Fetch.{Left}
 use Rattle.bucket_call_spec.specs.Call as bucket
 use Rattle.bucket_call_spec.specs.Call.{drawOf, bucketCall}
+use Rattle.bucket_call_spec.specs.Peak.{callPeak}
 use Rattle.operation_spec.specs.declared.Answer.the-variants.{Found, Absent, Replaced, New, Removed, Pushed, Popped, Added, Taken, Queued, Dequeued, Empty}
 use Rattle.state_spec.specs.declared.Place.{Place}
 use Rattle.state_spec.specs.declared.State.{State}
@@ -31,6 +32,7 @@ pub record Ended : Type 0 where
   pub state : State
   pub reply : Reply
   pub leaves : ℕ
+  pub peak : ℕ
   pub tree : List ℕ
   pub trace : List ℕ
 
@@ -78,16 +80,17 @@ stateLeft s l =
       places = placed (l .waiting);
     }
 
--- A refusal 1 to 7 or 17 changes nothing and reveals no leaf.
+-- A refusal 1 to 7 or 17 changes nothing and reveals no leaf; no round closes.
 abbrev pub refusing : ℕ → State → List ℕ → List ℕ → Ended
-refusing n s tree trace = record { state = s; reply = Refused n; leaves = 0; tree = tree; trace = trace }
+refusing n s tree trace = record { state = s; reply = Refused n; leaves = 0; peak = 0; tree = tree; trace = trace }
 
-abbrev pub ending : State → List ℕ → Left → Ended
-ending s trace l =
+abbrev pub ending : State → List ℕ → Left → (peak : ℕ) → Ended
+ending s trace l peak =
     record {
       state = stateLeft s l;
       reply = replied (l .mark) (l .answer);
       leaves = length (l .leaves);
+      peak = peak;
       tree = l .tree;
       trace = l .leaves ++ drop (length (l .leaves)) trace;
     }
@@ -99,7 +102,8 @@ callWith st s tree tape trace (some op) =
     pick (outOfKeys op (s .ahead .key)) (refusing 17 s tree trace)
     (pick (ltb (length tape) (draws st (s .size))) (refusing 6 s tree trace)
     (pick (ltb (length trace) (2 * rounds st (s .size))) (refusing 7 s tree trace)
-    (ending s trace (bucketCall (s .size) (rounds st (s .size)) op (drawOf (s .size) tape) (storeOf s tree)))))
+    (ending s trace (bucketCall (s .size) (rounds st (s .size)) op (drawOf (s .size) tape) (storeOf s tree))
+    (callPeak (s .size) (rounds st (s .size)) op (drawOf (s .size) tape) (storeOf s tree)))))
 
 -- One call: 1 closed mark, 2 unfit state, 3 tree length, 4 ticket length, then the structure's.
 unfoldable pub called : State → (tree ticket tape trace : List ℕ) → Ended

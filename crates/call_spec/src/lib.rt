@@ -13,4 +13,6 @@ pub struct Called {
     pub reply: Reply,
     // How many leaves were revealed: they are the first of the trace buffer.
     pub leaves: usize,
+    // The largest number of nodes waiting and held at the close of one of its rounds, 0 if none closed.
+    pub peak: usize,
 }

@@ -2,7 +2,7 @@
 use mathlib.Core.Path.{_≡_, refl, sym, _∙_, ap, subst}
 use mathlib.Core.List.{List, [], _++_}
 use mathlib.Core.Option.{none}
-use Prim.Native.Nat.{ℕ, _+_, _-_, _^_, _≤_, _<_}
+use Prim.Native.Nat.{ℕ, max, _+_, _-_, _^_, _≤_, _<_}
 use native.Mathlib.Nat.{sub-zero}
 use native.Mathlib.Omega.{arith}
 use lib.ListN.{length, take, drop, length-take, length-append}
@@ -18,7 +18,8 @@ use Rattle.one_round.specs.OneRound.{going}
 use Rattle.idle_rounds.specs.declared.idle.Idle.{Idle}
 use Rattle.want_rounds.specs.declared.Job.{Job}
 use Rattle.idle_rounds.specs.Idle.{Between, IdledAll}
-use Rattle.want_rounds.specs.Wanting.{heldBy, structureIn, programOf, Begins, Walked, Fetches}
+use Rattle.bucket_call_spec.specs.Peak.{peakOf}
+use Rattle.want_rounds.specs.Wanting.{heldBy, structureIn, programOf, listedFrom, Begins, Walked, Fetches}
 use Rattle.want_rounds.specs.WantingLaws.{rounds-left, done-rounds, walked-few}
 
 -- A program that wants none is done.
@@ -54,14 +55,14 @@ pub drop-on : (i n : ℕ) (xs ys : List ℕ) → drop i xs ≡ drop i ys → dro
 drop-on i n xs ys e = sym (drop-drop n i xs) ∙ ap (drop n) e ∙ drop-drop n i ys
 
 module _ (j : Job) (draw : ℕ → ℕ) (is-leaf : (d : ℕ) → draw d < 2 ^ j .size) {n : ℕ} {words₀ scratch₀ tree₀ : List ℕ} (b : Begins j draw n words₀ scratch₀ tree₀)
-    (trace₀ : List ℕ) {h : Held} {froms : List ℕ} {m : ℕ} {words scratch tree keys trace : List ℕ}
-    (inv : Walked j draw n words₀ tree₀ trace₀ h froms m words scratch tree keys trace)
+    (trace₀ : List ℕ) {h : Held} {froms : List ℕ} {m peak : ℕ} {words scratch tree keys trace : List ℕ}
+    (inv : Walked j draw n words₀ tree₀ trace₀ h froms m peak words scratch tree keys trace)
     (finished : wantedIn (after (programOf j) (nodesOf h)) ≡ none) (room : j .rounds ≤ length trace₀) where
-  pub rest-fetched : {words′ scratch′ tree′ trace′ : List ℕ} {r : Idle}
+  pub rest-fetched : {words′ scratch′ tree′ trace′ : List ℕ} {r : Idle} {peak′ : ℕ} → peak′ ≡ max peak (r .peak)
       → IdledAll (j .size) m draw (j .rounds - h .count) (h .count) (h .count) words tree trace (take (h .count - 0) keys) words′ scratch′ tree′ trace′ r
       → Fetches j draw n words₀ tree₀ trace₀ h froms words′ scratch′ tree′ trace′
-      (record { count = h .count; waiting = r .waiting; mark = r .mark; leaves = h .count + r .shown })
-  rest-fetched {words′} {scratch′} {tree′} {trace′} {r} idled =
+      (record { count = h .count; waiting = r .waiting; mark = r .mark; leaves = h .count + r .shown; peak = peak′ })
+  rest-fetched {words′} {scratch′} {tree′} {trace′} {r} raised idled =
       let same : take (h .count - 0) keys ≡ take (h .count) keys = rw (sub-zero (h .count)) in
       let i = h .count in
       let draws = drawsFrom draw (r .shown) i in
@@ -76,6 +77,12 @@ module _ (j : Job) (draw : ℕ → ℕ) (is-leaf : (d : ℕ) → draw d < 2 ^ j 
         outcome =
             rounds-left (structureIn j) (j .entries) (j .size) draw (programOf j) (going n words₀ tree₀ [] []) i (j .rounds) here q (inv .upto) (inv .so-far)
             ∙ rw (d .is, first) (done-rounds (structureIn j) (j .entries) (j .size) draw (j .rounds - i) i (d .outcome) here ∙ idled .rounds (heldBy h froms) (take i trace) (d .outcome) (inv .keys-are ∙ sym same));
+        peaked =
+            inv .peaks
+            ∙ ap (max peak)
+            (ap (λ (p : Prog ℕ (Outcome ℕ)). peakOf (listedFrom j draw i p here)) (d .is)
+            ∙ idled .peaked (structureIn j) (j .entries) (heldBy h froms) (take i trace) (d .outcome) (inv .keys-are ∙ sym same))
+            ∙ sym raised;
         finished = λ e. finished;
         counted = refl;
         few = walked-few j draw is-leaf b trace₀ inv;

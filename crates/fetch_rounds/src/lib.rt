@@ -2,6 +2,7 @@
 use idle_rounds::idle::idle_rounds;
 use node_rows::FETCHES;
 use node_rows::ROW;
+use round_close::greater;
 use stash_words::WORDS;
 use want_rounds::Fetched;
 use want_rounds::Job;
@@ -48,5 +49,6 @@ pub fn fetch_rounds(
     f.waiting = r.waiting;
     f.mark = r.mark;
     f.leaves = i + r.shown;
+    f.peak = greater(f.peak, r.peak);
     f
 }

@@ -6,11 +6,13 @@ use lib.ListN.{length}
 use lib.Seq.{sets}
 use Rattle.list_spec.specs.Distinct.{All}
 use Rattle.method_spec.specs.Prog.{done}
+use Rattle.method_spec.specs.Answer.{Structure}
 use Rattle.method_spec.specs.Map.{Outcome}
 use Rattle.method_spec.specs.Call.{drawsFrom}
 use Rattle.round_spec.specs.Whole.{IsTree}
 use Rattle.bucket_call_spec.specs.Fetch.{Held}
 use Rattle.bucket_call_spec.specs.Call.{putRounds}
+use Rattle.bucket_call_spec.specs.Peak.{roundsFrom, peakOf}
 use Rattle.leaf_spec.specs.Leaf.{ProperLeaf}
 use Rattle.stash_laws.specs.Waiting.{waitingIn}
 use Rattle.one_round.specs.OneRound.{going, endedWith, Rests}
@@ -28,11 +30,13 @@ abbrev pub keysHeld : List Held → List ℕ
 keysHeld hs = map (λ (h : Held). h .node .key) hs
 
 -- The rounds from draw `first` on came to mark and waiting nodes as said, for any nodes that are held under these keys, any leaves
--- revealed before and any outcome; each revealed its draw, in the trace from place `at` on.
+-- revealed before and any outcome; as rounds of a program that is done they have that peak; each revealed its draw, in the trace from place `at` on.
 pub record IdledAll (k n : ℕ) (draw : ℕ → ℕ) (count first at : ℕ) (words tree trace held words′ scratch′ tree′ trace′ : List ℕ) (r : Idle) : Type 0 where
   pub rounds : (hs : List Held) (ls : List ℕ) (o : Outcome ℕ) → keysHeld hs ≡ held
       → putRounds k draw count first o (going n words tree hs ls)
       ≡ endedWith (r .mark) (going (r .waiting) words′ tree′ hs (ls ++ drawsFrom draw (r .shown) first)) (done o)
+  pub peaked : (s : Structure) (e : ℕ) (hs : List Held) (ls : List ℕ) (o : Outcome ℕ) → keysHeld hs ≡ held
+      → peakOf (roundsFrom s e k draw count first (done o) (going n words tree hs ls)) ≡ r .peak
   pub revealed : trace′ ≡ sets trace at (drawsFrom draw (r .shown) first)
   pub rests : Rests (r .waiting) words′ scratch′ held
   pub no-more : r .shown ≤ count

@@ -3,7 +3,7 @@ use mathlib.Core.Path.{_≡_, refl, sym, _∙_, ap, subst}
 use mathlib.Core.Bool.{Bool, true, false}
 use mathlib.Core.List.{List, [], _∷_, _++_, map, append-assoc, append-nil}
 use mathlib.Core.Option.{Option, none, some}
-use Prim.Native.Nat.{ℕ, suc, _+_, _-_, _%_, _^_, _≤_, _<_}
+use Prim.Native.Nat.{ℕ, suc, max, _+_, _-_, _%_, _^_, _≤_, _<_}
 use native.Mathlib.Nat.{add-zero, add-suc, suc-add, sub-zero, mod-lt}
 use lib.Pow.{pow-pos, pow-mono}
 use native.Mathlib.Omega.{arith}
@@ -16,16 +16,18 @@ use Rattle.method_spec.specs.Node.{Node, absent}
 use Rattle.method_spec.specs.Prog.{Prog, done, root}
 use Rattle.method_spec.specs.Map.{Outcome}
 use Rattle.method_spec.specs.Answer as answer
+use Rattle.method_spec.specs.Answer.{Structure}
 use Rattle.method_spec.specs.Call.{drawsFrom}
 use Rattle.run_laws.specs.Calls.{draws-split, draws-length}
 use Rattle.round_spec.specs.Round.{Hand, readHalf, limit}
 use Rattle.round_spec.specs.Whole.{IsTree}
 use Rattle.round_laws.specs.NothingLost.{round-is-tree, round-proper}
 use Rattle.leaf_spec.specs.Leaf.{leafFormat, ProperLeaf}
-use Rattle.bucket_call_spec.specs.Fetch.{Held, Going, heldKeys, tooMany, written, Round, on, shut, atClose, idleRound}
+use Rattle.bucket_call_spec.specs.Fetch.{Held, Going, heldKeys, total, tooMany, written, Round, on, shut, atClose, idleRound, fetchRound}
 use Rattle.bucket_call_spec.specs.Call.{drawOf, putRounds}
+use Rattle.bucket_call_spec.specs.Peak.{roundsFrom, peakOf}
+use Rattle.peak_laws.specs.PeakLaws.{peakAt, peak-none, rounds-none, peak-goes, peak-shuts, done-round}
 use Rattle.leaf_laws.specs.Proper.{leaves-lawful}
-use Rattle.none_lost_laws.specs.Sound.{total}
 use Rattle.stash_laws.specs.WaitingLaws.{waiting-length}
 use Rattle.one_round.specs.declared.Rounded.{Rounded}
 use Rattle.one_round.specs.OneRound.{going, endedWith, Ready, Idled}
@@ -134,12 +136,15 @@ module _ {k n : ℕ} {words scratch tree held : List ℕ} (b : Between k n words
       }
 
 -- ---- the rounds, one by one
--- After i of the rounds: those that are left come to what all of them come to.
-pub record Idling (k n : ℕ) (draw : ℕ → ℕ) (count first at : ℕ) (words₀ tree₀ trace₀ held : List ℕ) (i m : ℕ) (words scratch tree trace : List ℕ) : Type 0 where
+-- After i of the rounds: those that are left come to what all of them come to, and the peak of all is that of these or of the i.
+pub record Idling (k n : ℕ) (draw : ℕ → ℕ) (count first at : ℕ) (words₀ tree₀ trace₀ held : List ℕ) (i m peak : ℕ) (words scratch tree trace : List ℕ) : Type 0 where
   pub upto : i ≤ count
   pub rest : (hs : List Held) (ls : List ℕ) (o : Outcome ℕ) → keysHeld hs ≡ held
       → putRounds k draw count first o (going n words₀ tree₀ hs ls)
       ≡ putRounds k draw (count - i) (first + i) o (going m words tree hs (ls ++ drawsFrom draw i first))
+  pub peaks : (s : Structure) (e : ℕ) (hs : List Held) (ls : List ℕ) (o : Outcome ℕ) → keysHeld hs ≡ held
+      → peakOf (roundsFrom s e k draw count first (done o) (going n words₀ tree₀ hs ls))
+      ≡ max peak (peakOf (roundsFrom s e k draw (count - i) (first + i) (done o) (going m words tree hs (ls ++ drawsFrom draw i first))))
   pub revealed : trace ≡ sets trace₀ at (drawsFrom draw i first)
   pub between : Between k m words scratch tree held
 
@@ -158,27 +163,30 @@ sets-one-more (a ∷ vs) l i v = rw (add-suc i (length vs), ← suc-add i (lengt
 module _ (k n : ℕ) (draw : ℕ → ℕ) (count first at : ℕ) (words₀ tree₀ trace₀ held : List ℕ) where
   -- Before the first.
   pub idling-begins : {scratch : List ℕ} → Between k n words₀ scratch tree₀ held
-      → Idling k n draw count first at words₀ tree₀ trace₀ held 0 n words₀ scratch tree₀ trace₀
+      → Idling k n draw count first at words₀ tree₀ trace₀ held 0 n 0 words₀ scratch tree₀ trace₀
   unfolding drawsFrom
   idling-begins b =
       record {
         upto = omega arith;
         rest = λ hs ls o e. rw (sub-zero count, add-zero first, append-nil ls);
+        peaks = λ s x hs ls o e. rw (sub-zero count, add-zero first, append-nil ls) (omega arith);
         revealed = refl;
         between = b;
       }
 
-  module _ {i m : ℕ} {words scratch tree trace : List ℕ} (inv : Idling k n draw count first at words₀ tree₀ trace₀ held i m words scratch tree trace) where
+  module _ {i m peak : ℕ} {words scratch tree trace : List ℕ} (inv : Idling k n draw count first at words₀ tree₀ trace₀ held i m peak words scratch tree trace) where
     pub idling-sized : length trace ≡ length trace₀
     idling-sized = ap length (inv .revealed) ∙ length-sets trace₀ at (drawsFrom draw i first)
 
     -- The last was made.
-    pub idling-ends : count ≤ i → IdledAll k n draw count first at words₀ tree₀ trace₀ held words scratch tree trace (record { mark = 0; waiting = m; shown = count })
+    pub idling-ends : count ≤ i → IdledAll k n draw count first at words₀ tree₀ trace₀ held words scratch tree trace (record { mark = 0; waiting = m; shown = count; peak = peak })
     idling-ends h =
         let all : i ≡ count = omega (arith, inv .upto) in
         let none : count - i ≡ 0 = omega arith in
         record {
           rounds = λ hs ls o e. inv .rest hs ls o e ∙ rw (none, all) (put-none k draw (first + count) o (going m words tree hs (ls ++ drawsFrom draw count first)));
+          peaked = λ s x hs ls o e.
+              inv .peaks s x hs ls o e ∙ rw (none, rounds-none s x k draw (first + i) (done o) (going m words tree hs (ls ++ drawsFrom draw i first)), peak-none (Outcome ℕ)) (omega arith);
           revealed = inv .revealed ∙ rw all;
           rests = inv .between .rests;
           no-more = omega arith;
@@ -186,7 +194,7 @@ module _ (k n : ℕ) (draw : ℕ → ℕ) (count first at : ℕ) (words₀ tree�
         }
 
     module _ {leaf : ℕ} {words′ scratch′ tree′ trace′ : List ℕ} {r : Rounded} (more : i < count) (drawn : leaf ≡ draw (first + i)) (is-leaf : leaf < 2 ^ k)
-        (stored : trace′ ≡ set trace (at + i) leaf) (round : Idled k leaf m words tree held words′ scratch′ tree′ r) where
+        (stored : trace′ ≡ set trace (at + i) leaf) (round : Idled k leaf m words tree held words′ scratch′ tree′ r) {peak′ : ℕ} (raised : peak′ ≡ max peak (r .count)) where
       left : count - i ≡ suc (count - (i + 1))
       left = omega arith
 
@@ -210,8 +218,19 @@ module _ (k n : ℕ) (draw : ℕ → ℕ) (count first at : ℕ) (words₀ tree�
           ∙ ap (λ (seen : List ℕ). endedWith (r .mark) (going (r .waiting) words′ tree′ hs seen) (done o))
           (append-assoc ls (drawsFrom draw i first) (leaf ∷ []) ∙ ap (λ (ds : List ℕ). ls ++ ds) (rw drawn (sym (draws-one-more draw i first))))
 
+      -- The round is the next of those that are listed, and has that count.
+      next-at : (s : Structure) (x : ℕ) (hs : List Held) (ls : List ℕ) (o : Outcome ℕ) → keysHeld hs ≡ held
+          → fetchRound s x k (draw (first + i)) (done o) (going m words tree hs (ls ++ drawsFrom draw i first)) ≡ endedWith (r .mark) (goingThen hs ls) (done o)
+      next-at s x hs ls o e = done-round s x k (draw (first + i)) o (going m words tree hs (ls ++ drawsFrom draw i first)) ∙ round-at hs ls o e
+
+      next-count : (s : Structure) (x : ℕ) (hs : List Held) (ls : List ℕ) (o : Outcome ℕ) → keysHeld hs ≡ held
+          → peakAt (fetchRound s x k (draw (first + i)) (done o) (going m words tree hs (ls ++ drawsFrom draw i first))) ≡ r .count
+      next-count s x hs ls o e =
+          ap peakAt (done-round s x k (draw (first + i)) o (going m words tree hs (ls ++ drawsFrom draw i first)))
+          ∙ rw (← drawn) (round .counted hs (ls ++ drawsFrom draw i first) (done o) e)
+
       pub idling-shuts : (r .mark ≡ 0 → ⊥)
-          → IdledAll k n draw count first at words₀ tree₀ trace₀ held words′ scratch′ tree′ trace′ (record { mark = r .mark; waiting = r .waiting; shown = i + 1 })
+          → IdledAll k n draw count first at words₀ tree₀ trace₀ held words′ scratch′ tree′ trace′ (record { mark = r .mark; waiting = r .waiting; shown = i + 1; peak = peak′ })
       idling-shuts h =
           record {
             rounds = λ hs ls o e.
@@ -219,13 +238,18 @@ module _ (k n : ℕ) (draw : ℕ → ℕ) (count first at : ℕ) (words₀ tree�
                 (put-shuts k draw (count - (i + 1)) (first + i) o (going m words tree hs (ls ++ drawsFrom draw i first)) (goingThen hs ls) (r .mark)
                 (round-at hs ls o e ∙ stops-here (r .mark) (goingThen hs ls) (done o) h)
                 ∙ sym (stops-here (r .mark) (goingThen hs ls) (done o) h));
+            peaked = λ s x hs ls o e.
+                inv .peaks s x hs ls o e ∙ rw left
+                (peak-shuts s x k draw (count - (i + 1)) (first + i) (done o) (going m words tree hs (ls ++ drawsFrom draw i first)) (goingThen hs ls) (r .mark)
+                (next-at s x hs ls o e ∙ stops-here (r .mark) (goingThen hs ls) (done o) h) peak
+                ∙ ap (max peak) (next-count s x hs ls o e) ∙ sym raised);
             revealed = revealed-one-more;
             rests = round .rests;
             no-more = omega arith;
             all-shown = λ e. absurd (h e);
           }
 
-      pub idling-goes : r .mark ≡ 0 → Idling k n draw count first at words₀ tree₀ trace₀ held (i + 1) (r .waiting) words′ scratch′ tree′ trace′
+      pub idling-goes : r .mark ≡ 0 → Idling k n draw count first at words₀ tree₀ trace₀ held (i + 1) (r .waiting) peak′ words′ scratch′ tree′ trace′
       idling-goes h =
           record {
             upto = omega arith;
@@ -233,6 +257,11 @@ module _ (k n : ℕ) (draw : ℕ → ℕ) (count first at : ℕ) (words₀ tree�
                 inv .rest hs ls o e ∙ rw (left, later)
                 (put-goes k draw (count - (i + 1)) (first + i) o (going m words tree hs (ls ++ drawsFrom draw i first)) (goingThen hs ls)
                 (round-at hs ls o e ∙ goes-on (r .mark) (goingThen hs ls) (done o) h));
+            peaks = λ s x hs ls o e.
+                inv .peaks s x hs ls o e ∙ rw (left, later)
+                (peak-goes s x k draw (count - (i + 1)) (first + i) (done o) (going m words tree hs (ls ++ drawsFrom draw i first)) (goingThen hs ls) (done o)
+                (next-at s x hs ls o e ∙ goes-on (r .mark) (goingThen hs ls) (done o) h) peak
+                ∙ ap (λ (c : ℕ). max c (peakOf (roundsFrom s x k draw (count - (i + 1)) (suc (first + i)) (done o) (goingThen hs ls)))) (ap (max peak) (next-count s x hs ls o e) ∙ sym raised));
             revealed = revealed-one-more;
             between = between-again (inv .between) is-leaf round h;
           }

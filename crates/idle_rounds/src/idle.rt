@@ -1,5 +1,6 @@
 // Rounds that want none: each reveals its draw.
 use one_round::idle_round;
+use round_close::greater;
 use stash_words::WORDS;
 use tree_paths::leaves;
 ghost use mathlib.Core.Path.{_≡_};
@@ -8,12 +9,13 @@ ghost use lib.ListN.{length};
 ghost use Rattle.bucket_call_spec.specs.Call.{drawOf};
 ghost use Rattle.idle_rounds.specs.Idle.{Between, IdledAll};
 
-// How rounds that want none ended: mark 0, or 8 damage or 9 overflow, how many nodes wait then, and how many leaves these rounds
-// revealed.
+// How rounds that want none ended: mark 0, or 8 damage or 9 overflow, how many nodes wait then, how many leaves these rounds
+// revealed, and the largest count at the close of one of them.
 pub struct Idle {
     pub mark: u8,
     pub waiting: usize,
     pub shown: usize,
+    pub peak: usize,
 }
 
 fn wide(x: u16) -> usize
@@ -48,16 +50,19 @@ pub fn idle_rounds(
     ensures { λ r. ⌜ IdledAll size n (drawOf size (now (tape .entry))) count first at (now (w .entry)) (now (tree .entry)) (now (trace .entry)) (now (held .entry)) (now (w .exit)) (now (s .exit)) (now (tree .exit)) (now (trace .exit)) r ⌝ }
 {
     let mut waiting = n;
+    let mut peak = 0;
     let mut i = 0;
     while i < count {
         let leaf = draw_at(tape, first + i, size);
         trace[at + i] = leaf as u16;
         let r = idle_round(w, waiting, s, tree, size, leaf, held);
+        peak = greater(peak, r.count);
         if r.mark != 0 {
             return Idle {
                 mark: r.mark,
                 waiting: r.waiting,
                 shown: i + 1,
+                peak,
             };
         }
         waiting = r.waiting;
@@ -67,5 +72,6 @@ pub fn idle_rounds(
         mark: 0,
         waiting,
         shown: count,
+        peak,
     }
 }

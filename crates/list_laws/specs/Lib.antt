@@ -5,3 +5,4 @@ pub mod DistinctLaws
 pub mod SortingLaws
 pub mod Merging
 pub mod AscendingLaws
+pub mod LargestLaws

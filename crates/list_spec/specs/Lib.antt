@@ -3,3 +3,4 @@ pub mod Perm
 pub mod Distinct
 pub mod Ascending
 pub mod Sorting
+pub mod Largest

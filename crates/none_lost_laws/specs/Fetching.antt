@@ -26,7 +26,7 @@ use Rattle.method_spec.specs.Plain.{Pair}
 use Rattle.method_spec.specs.Safe.{Within, stops, asks as asks-within}
 use Rattle.round_spec.specs.Round.{Hand, keysOf, readHalf, limit}
 use Rattle.leaf_spec.specs.Leaf.{leafFormat, ProperLeaf}
-use Rattle.bucket_call_spec.specs.Fetch.{Held, Going, heldKeys, wishFor, revealing, written, Round, on, shut, atClose, tookRound, wantRound, fetchRound, fetchRounds}
+use Rattle.bucket_call_spec.specs.Fetch.{Held, Going, heldKeys, wishFor, revealing, written, Round, on, shut, atClose, tookRound, wantRound, fetchRound, fetchRounds, total}
 use Rattle.round_spec.specs.Whole.{listed}
 use Rattle.round_laws.specs.ReadHalf.{read-grants}
 use Rattle.round_laws.specs.NothingLost.{taken-proper}
@@ -36,7 +36,7 @@ use Rattle.none_lost_laws.specs.Yields.{Yields, asks}
 use Rattle.leaf_spec.specs.Entries.{pairOf}
 use Rattle.none_lost_laws.specs.AtHand.{pairsOf}
 use Rattle.none_lost_laws.specs.Given.{Given, Leads, leads-more, AskedFrom}
-use Rattle.none_lost_laws.specs.Sound.{nodesIn, total, Sound, After, goes, closes, close-after, damage-after, idle-after, written-sound, written-total, one-more}
+use Rattle.none_lost_laws.specs.Sound.{nodesIn, Sound, After, goes, closes, close-after, damage-after, idle-after, written-sound, written-total, one-more}
 
 -- The fetch tests ask nothing of a node's own tag.
 test-retag : (s : Structure) (entries : ℕ) (w : Want ℕ) (n : Node ℕ) (t : ℕ) → test s entries w (retag t n) ≡ test s entries w n

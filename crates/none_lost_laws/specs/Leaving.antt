@@ -14,7 +14,7 @@ use Rattle.method_spec.specs.Map.{Outcome}
 use Rattle.method_spec.specs.Plain.{Pair}
 use Rattle.round_spec.specs.Round.{join, limit}
 use Rattle.leaf_spec.specs.Leaf.{leafFormat, ProperLeaf}
-use Rattle.bucket_call_spec.specs.Fetch.{Held, Going, movedNode, movedNodes, closing, Round, on}
+use Rattle.bucket_call_spec.specs.Fetch.{Held, Going, movedNode, movedNodes, closing, Round, on, total}
 use Rattle.bucket_call_spec.specs.Call.{afterPuts}
 use Rattle.round_spec.specs.Whole.{contents}
 use Rattle.round_laws.specs.Lists.{join-perm}
@@ -22,7 +22,7 @@ use Rattle.round_laws.specs.Room.{join-length}
 use Rattle.none_lost_laws.specs.Fitting.{LinkFits, fit-of-link}
 use Rattle.leaf_spec.specs.Entries.{pairOf}
 use Rattle.none_lost_laws.specs.AtHand.{pairs-left}
-use Rattle.none_lost_laws.specs.Sound.{nodesIn, entriesWith, total, Sound, After, goes, closes, placesFor}
+use Rattle.none_lost_laws.specs.Sound.{nodesIn, entriesWith, Sound, After, goes, closes, placesFor}
 use Rattle.none_lost_laws.specs.Moved.{moved-entries, moved-root, moved-proper}
 use Rattle.none_lost_laws.specs.Putting.{Resting}
 use Rattle.none_lost_laws.specs.Ends.{Keeps, Closed, Answered}

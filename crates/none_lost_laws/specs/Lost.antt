@@ -29,7 +29,7 @@ use Rattle.run_laws.specs.HeapWithin.{heap-rounds}
 use Rattle.run_laws.specs.EnoughRounds.{mostWanted, program-within}
 use Rattle.round_spec.specs.Round.{join, limit}
 use Rattle.leaf_spec.specs.Leaf.{leafFormat, ProperLeaf}
-use Rattle.bucket_call_spec.specs.Fetch.{Going, closing, Round, on, shut, fetchRounds}
+use Rattle.bucket_call_spec.specs.Fetch.{Going, closing, Round, on, shut, fetchRounds, total}
 use Rattle.bucket_call_spec.specs.Call.{fetchedBy, aheadThen, Store, putRounds, afterPuts, stepped, afterFetches, bucketCall}
 use Rattle.none_lost_laws.specs.Fitting.{LinkFits, link-of-fit}
 use Rattle.none_lost_laws.specs.Yields.{yields-done, yields-map, yields-both}
@@ -37,7 +37,7 @@ use Rattle.leaf_spec.specs.Entries.{OpFits, KeyLeft}
 use Rattle.none_lost_laws.specs.Changes.{valueIn, Answers, takenOut, broughtIn, mostHigh, seenIn, Made}
 use Rattle.none_lost_laws.specs.ProgramYields.{program-yields}
 use Rattle.none_lost_laws.specs.Present.{program-seeks}
-use Rattle.none_lost_laws.specs.Sound.{entriesWith, total, Sound, After, goes, closes}
+use Rattle.none_lost_laws.specs.Sound.{entriesWith, Sound, After, goes, closes}
 use Rattle.none_lost_laws.specs.Fetching.{Fetching, fetches-after}
 use Rattle.none_lost_laws.specs.Putting.{Resting, puts-after, step-entries, step-total, step-sound}
 use Rattle.none_lost_laws.specs.Ends.{highest, FitStore, entriesBefore, keyOf, Keeps, Closed, StepEnds, Ends, before-step, after-step}

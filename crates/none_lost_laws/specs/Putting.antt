@@ -16,7 +16,7 @@ use Rattle.method_spec.specs.Map.{Outcome}
 use Rattle.method_spec.specs.Plain.{Pair}
 use Rattle.round_spec.specs.Round.{join, limit}
 use Rattle.leaf_spec.specs.Leaf.{leafFormat, ProperLeaf}
-use Rattle.bucket_call_spec.specs.Fetch.{Held, Going, Round, on, shut, idleRound}
+use Rattle.bucket_call_spec.specs.Fetch.{Held, Going, Round, on, shut, idleRound, total}
 use Rattle.bucket_call_spec.specs.Call.{putRounds, stepped}
 use Rattle.round_spec.specs.Whole.{contents}
 use Rattle.round_laws.specs.Lists.{join-perm}
@@ -25,7 +25,7 @@ use Rattle.none_lost_laws.specs.Fitting.{fits-is-proper}
 use Rattle.leaf_spec.specs.Entries.{pairOf}
 use Rattle.none_lost_laws.specs.AtHand.{pairsOf, pairs-three}
 use Rattle.none_lost_laws.specs.Changes.{takenOut, broughtIn, mostHigh, seen, seenIn, Made}
-use Rattle.none_lost_laws.specs.Sound.{nodesIn, entriesWith, total, Sound, After, goes, closes, idle-after}
+use Rattle.none_lost_laws.specs.Sound.{nodesIn, entriesWith, Sound, After, goes, closes, idle-after}
 
 -- ---- the put rounds
 -- Nothing is held, and the program is done.

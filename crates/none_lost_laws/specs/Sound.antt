@@ -20,7 +20,7 @@ use Rattle.method_spec.specs.Prog.{Prog}
 use Rattle.method_spec.specs.Plain.{Pair}
 use Rattle.round_spec.specs.Round.{Wish, Hand, keysOf, readHalf, limit}
 use Rattle.leaf_spec.specs.Leaf.{leafFormat, ProperLeaf}
-use Rattle.bucket_call_spec.specs.Fetch.{Held, Going, revealing, written, tooMany, heldKeys, Round, on, shut, atClose, idleRound}
+use Rattle.bucket_call_spec.specs.Fetch.{Held, Going, revealing, written, total, tooMany, heldKeys, Round, on, shut, atClose, idleRound}
 use Rattle.round_spec.specs.Whole.{listed, IsTree, contents}
 use Rattle.round_laws.specs.ReadHalf.{found, read-half-says, read-grants, hand-perm}
 use Rattle.round_laws.specs.NothingLost.{round-is-tree, round-proper, nothing-lost}
@@ -40,10 +40,6 @@ entriesWith k tree others = pairsOf (contents leafFormat k tree ++ others)
 
 abbrev pub entriesIn : ℕ → Going → List Pair
 entriesIn k g = entriesWith k (g .tree) (g .waiting ++ nodesIn (g .held))
-
--- How many nodes wait or are held.
-abbrev pub total : Going → ℕ
-total g = length (g .waiting) + length (g .held)
 
 -- The places that a round needs: for those that a round leaves, one new node and a path's. For sizes up to 8 they are 101.
 abbrev pub placesFor : ℕ → ℕ

@@ -29,9 +29,11 @@ use Rattle.word_round_laws.specs.JoinLaws.{none-twice-perm}
 use Rattle.word_round_laws.specs.KeepLaws.{takenKeys, read-distinct, write-distinct, write-holds}
 use Rattle.path_reader.specs.declared.Looked.{Looked}
 use Rattle.path_reader.specs.declared.Wish.{Wish}
+use Rattle.round_close.specs.declared.Close.{Close}
 use Rattle.stash_laws.specs.Waiting.{wordsFor, InWidths, waitingIn}
 use Rattle.stash_laws.specs.WaitingLaws.{write-words, waiting-are, holds-them}
-use Rattle.bucket_call_spec.specs.Fetch.{Held, Going, on, shut, atClose, written, tooMany}
+use Rattle.bucket_call_spec.specs.Fetch.{Held, Going, total, on, shut, atClose, written, tooMany}
+use Rattle.peak_laws.specs.PeakLaws.{peakAt, peak-close}
 use Rattle.one_round.specs.OneRound.{going, endedWith, Ready, Rests}
 use Rattle.one_round.specs.ReadyLaws.{ready-leaves}
 use Rattle.one_round.specs.HandLaws.{InHand}
@@ -51,6 +53,10 @@ module _ {k leaf n : ℕ} {words scratch tree held after : List ℕ} (ready : Re
         inside = inside;
         leaves = looked .leaves good (ready-leaves ready);
       }
+
+-- A round's close as `close_of` gives it.
+abbrev pub closing : (waiting held : ℕ) → Close
+closing waiting held = record { count = waiting + held; mark = pick (overflows waiting held) 9 0 }
 
 ended-at-close : (b : Bool) (g : Going) (p : Prog ℕ (Outcome ℕ)) → pick b (shut 9 g) (on g p) ≡ endedWith (pick b 9 0) g p
 ended-at-close true g p = refl
@@ -118,3 +124,9 @@ module _ {k leaf n : ℕ} {w : Option round.Wish} {words scratch tree held : Lis
       ∙ ap (λ (b : Bool). pick b (shut 9 g) (on g p)) many
       ∙ ended-at-close (overflows left count) g p
       ∙ ap (λ (x : ℕ). endedWith x g p) (sym marked)
+
+  -- What it counts then.
+  pub settled-counts : (hs hs′ : List Held) (ls : List ℕ) (p : Prog ℕ (Outcome ℕ)) (held′ count : ℕ) → length hs′ ≡ held′ → count ≡ left + held′
+      → peakAt (atClose (written k leaf (i .hand .waiting) hs′ (going n words tree hs ls)) p) ≡ count
+  settled-counts hs hs′ ls p held′ count sized counted =
+      peak-close (written k leaf (i .hand .waiting) hs′ (going n words tree hs ls)) p ∙ omega (arith, settled-count)

@@ -1,15 +1,15 @@
 -- A round that wants none: it finds damage, or it goes through.
 use mathlib.Core.Path.{_≡_, sym, _∙_, ap, subst}
 use mathlib.Core.Bool.{true, false}
-use mathlib.Core.List.{List, _++_, append-nil}
+use mathlib.Core.List.{List, _++_, map, append-nil}
 use mathlib.Core.Option.{none, some}
 use Prim.Native.Nat.{ℕ, _≤_}
 use native.Mathlib.Omega.{arith}
 use lib.ListN.{length, length-map}
-use Rattle.list_spec.specs.Choice.{pick}
 use Rattle.method_spec.specs.Node.{Node}
 use Rattle.method_spec.specs.Prog.{Prog}
-use Rattle.round_spec.specs.Round.{Hand, readHalf, overflows}
+use Rattle.method_spec.specs.Map.{Outcome}
+use Rattle.round_spec.specs.Round.{Hand, readHalf}
 use Rattle.round_laws.specs.ReadHalf.{read-grants}
 use Rattle.leaf_spec.specs.Leaf.{leafFormat}
 use Rattle.word_round_laws.specs.Words.{places, wordCount}
@@ -19,10 +19,12 @@ use Rattle.word_round_laws.specs.KeepLaws.{takenKeys}
 use Rattle.path_reader.specs.declared.Looked.{Looked}
 use Rattle.path_reader.specs.declared.Wish.the-variants.{Nothing}
 use Rattle.stash_laws.specs.Waiting.{waitingIn}
+use Rattle.peak_laws.specs.PeakLaws.{peakAt, peak-damage}
+use Rattle.round_close.specs.declared.Close.{Close}
 use Rattle.bucket_call_spec.specs.Fetch.{Held, Going, shut, atClose, written, revealing, heldKeys, idleRound}
 use Rattle.one_round.specs.OneRound.{going, Ready, Rests, Idled}
 use Rattle.one_round.specs.HandLaws.{looked-damage, looked-hand}
-use Rattle.one_round.specs.CloseLaws.{settled-rests, settled-close}
+use Rattle.one_round.specs.CloseLaws.{closing, settled-rests, settled-close, settled-counts}
 
 -- ---- the definition's two ways
 module _ {A : Type 0} (k leaf : ℕ) (p : Prog ℕ A) (g : Going) where
@@ -44,28 +46,34 @@ ready-rests ready scratch′ sized =
 module _ {k leaf n : ℕ} {words scratch tree held after : List ℕ} (r : Looked) (ready : Ready k leaf n words scratch tree held)
     (looked : LookedFor k leaf Nothing n words tree held after r) where
   -- Damage: nothing was written.
-  pub idle-damage : r .ok ≡ false → Idled k leaf n words tree held words after tree (record { mark = 8; waiting = n })
+  pub idle-damage : r .ok ≡ false → Idled k leaf n words tree held words after tree (record { mark = 8; waiting = n; count = 0 })
   idle-damage bad =
+      let shuts : (hs : List Held) (ls : List ℕ) (p : Prog ℕ (Outcome ℕ)) → map (λ (h : Held). h .node .key) hs ≡ held
+      → idleRound k leaf p (going n words tree hs ls) ≡ shut 8 (revealing leaf (going n words tree hs ls)) =
+      λ hs ls p keys. idle-damaged k leaf p (going n words tree hs ls)
+      (ap (λ (ks : List ℕ). readHalf leafFormat k tree leaf none ks (waitingIn n words)) keys ∙ looked-damage Nothing r ready looked bad) in
       record {
-        round =
-            λ hs ls p keys. idle-damaged k leaf p (going n words tree hs ls)
-            (ap (λ (ks : List ℕ). readHalf leafFormat k tree leaf none ks (waitingIn n words)) keys ∙ looked-damage Nothing r ready looked bad);
+        round = shuts;
+        counted = λ hs ls p keys. ap peakAt (shuts hs ls p keys) ∙ peak-damage (Outcome ℕ) (revealing leaf (going n words tree hs ls));
         rests = ready-rests ready after (looked .sized);
       }
 
-  pub idle-goes : {scratch′ words′ tree′ : List ℕ} {left : ℕ} (mark : ℕ) → r .ok ≡ true
-      → Settled k leaf (r .count) false 0 after tree scratch′ words′ tree′ left → mark ≡ pick (overflows left (length held)) 9 0
-      → Idled k leaf n words tree held words′ scratch′ tree′ (record { mark = mark; waiting = left })
-  idle-goes {scratch′} {words′} {tree′} {left} mark good settled marked =
+  pub idle-goes : {scratch′ words′ tree′ : List ℕ} {left : ℕ} (close : Close) → r .ok ≡ true
+      → Settled k leaf (r .count) false 0 after tree scratch′ words′ tree′ left → close ≡ closing left (length held)
+      → Idled k leaf n words tree held words′ scratch′ tree′ (record { mark = close .mark; waiting = left; count = close .count })
+  idle-goes {scratch′} {words′} {tree′} {left} close good settled closed =
       let i = looked-hand Nothing r ready looked good in
       let nothing : i .hand .taken ≡ none = read-grants leafFormat k tree leaf none held (waitingIn n words) (i .hand) (i .read) in
       let room : r .count ≤ places = omega (arith, looked .within, ready .small, ready .few) in
       let same : held ++ takenKeys leafFormat (i .hand .taken) ≡ held = rw nothing (append-nil held) in
+      let closes : (hs : List Held) (ls : List ℕ) (p : Prog ℕ (Outcome ℕ)) → map (λ (h : Held). h .node .key) hs ≡ held
+      → idleRound k leaf p (going n words tree hs ls) ≡ atClose (written k leaf (i .hand .waiting) hs (going n words tree hs ls)) p =
+      λ hs ls p keys. idle-undamaged k leaf p (going n words tree hs ls) (i .hand)
+      (ap (λ (ks : List ℕ). readHalf leafFormat k tree leaf none ks (waitingIn n words)) keys ∙ i .read) in
+      let many : (hs : List Held) → map (λ (h : Held). h .node .key) hs ≡ held → length hs ≡ length held =
+      λ hs keys. sym (length-map hs (λ (h : Held). h .node .key)) ∙ ap length keys in
       record {
-        round =
-            λ hs ls p keys. idle-undamaged k leaf p (going n words tree hs ls) (i .hand)
-            (ap (λ (ks : List ℕ). readHalf leafFormat k tree leaf none ks (waitingIn n words)) keys ∙ i .read)
-            ∙ settled-close ready i settled room hs hs ls p (length held) mark
-            (sym (length-map hs (λ (h : Held). h .node .key)) ∙ ap length keys) marked;
+        round = λ hs ls p keys. closes hs ls p keys ∙ settled-close ready i settled room hs hs ls p (length held) (close .mark) (many hs keys) (ap (λ (c : Close). c .mark) closed);
+        counted = λ hs ls p keys. ap peakAt (closes hs ls p keys) ∙ settled-counts ready i settled room hs hs ls p (length held) (close .count) (many hs keys) (ap (λ (c : Close). c .count) closed);
         rests = subst (Rests left words′ scratch′) same (settled-rests ready i settled room);
       }

@@ -18,6 +18,7 @@ use Rattle.leaf_spec.specs.Convert.{toNode}
 use Rattle.word_round_laws.specs.Words.{wordCount}
 use Rattle.stash_laws.specs.Waiting.{waitingIn, Holds}
 use Rattle.bucket_call_spec.specs.Fetch.{Held, Going, Round, on, shut, idleRound, wantRound}
+use Rattle.peak_laws.specs.PeakLaws.{peakAt}
 use Rattle.state_spec.specs.Ticket.{structureOf}
 use Rattle.operation_spec.specs.declared.Want.{Want}
 use Rattle.operation_spec.specs.Method.{toFrom, toWant}
@@ -55,10 +56,12 @@ pub record Rests (n : ℕ) (words scratch held : List ℕ) : Type 0 where
   pub order : Ascending leafFormat (waitingIn n words)
   pub apart : noneTwice (keysWaiting n words ++ held) ≡ true
 
--- A round of that leaf that wants none, whatever program goes on after it.
+-- A round of that leaf that wants none, whatever program goes on after it; and what it counts at its close.
 pub record Idled (k leaf n : ℕ) (words tree held words′ scratch′ tree′ : List ℕ) (r : Rounded) : Type 0 where
   pub round : (hs : List Held) (ls : List ℕ) (p : Prog ℕ (Outcome ℕ)) → map (λ (h : Held). h .node .key) hs ≡ held
       → idleRound k leaf p (going n words tree hs ls) ≡ endedWith (r .mark) (going (r .waiting) words′ tree′ hs (ls ++ (leaf ∷ []))) p
+  pub counted : (hs : List Held) (ls : List ℕ) (p : Prog ℕ (Outcome ℕ)) → map (λ (h : Held). h .node .key) hs ≡ held
+      → peakAt (idleRound k leaf p (going n words tree hs ls)) ≡ r .count
   pub rests : Rests (r .waiting) words′ scratch′ held
 
 -- A round that wants a node: it is held from then on, under the round's draw d as its tag.
@@ -74,6 +77,8 @@ pub record Wanted (structure entries k n : ℕ) (want : Want) (words tree held w
       ≡ endedWith (r .mark)
       (going (r .waiting) words′ tree′ (hs ++ heldToo (r .taken) (takenAs want d (toNode (r .node)))) (ls ++ (want .link .tag ∷ [])))
       (c (retag d (toNode (r .node))))
+  pub counted : (hs : List Held) (ls : List ℕ) (d : ℕ) (c : Node ℕ → Prog ℕ (Outcome ℕ)) → map (λ (h : Held). h .node .key) hs ≡ held
+      → peakAt (wantRound (structureOf structure) entries k d (toWant want) c (going n words tree hs ls)) ≡ r .count
   pub goes-on : r .mark ≡ 0 → r .taken ≡ true
   pub tested : r .taken ≡ true → test (structureOf structure) entries (toWant want) (toNode (r .node)) ≡ true
   pub rests : Rests (r .waiting) words′ scratch′ (held ++ heldToo (r .taken) (r .node .key))

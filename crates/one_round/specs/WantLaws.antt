@@ -6,7 +6,6 @@ use mathlib.Core.Option.{Option, none, some}
 use Prim.Native.Nat.{ℕ, _+_, _≤_}
 use native.Mathlib.Omega.{arith}
 use lib.ListN.{length, take, getD, length-map, length-append}
-use Rattle.list_spec.specs.Choice.{pick}
 use Rattle.slot_spec.specs.declared.Node as node
 use Rattle.slot_spec.specs.declared.Slot.{Slot}
 use Rattle.method_spec.specs.Node.{Node, retag}
@@ -14,7 +13,7 @@ use Rattle.method_spec.specs.Prog.{Want, Prog}
 use Rattle.method_spec.specs.Map.{Outcome}
 use Rattle.method_spec.specs.Answer.{Structure}
 use Rattle.method_spec.specs.Call.{test}
-use Rattle.round_spec.specs.Round.{Hand, readHalf, overflows}
+use Rattle.round_spec.specs.Round.{Hand, readHalf}
 use Rattle.leaf_spec.specs.Leaf.{leafFormat}
 use Rattle.leaf_spec.specs.Convert.{toNode}
 use Rattle.word_round_laws.specs.Words.{places}
@@ -26,13 +25,15 @@ use Rattle.path_reader.specs.declared.Looked.{Looked}
 use Rattle.path_reader.specs.declared.Wish as wish
 use Rattle.path_reader.specs.declared.Wish.the-variants as wished
 use Rattle.stash_laws.specs.Waiting.{waitingIn}
+use Rattle.peak_laws.specs.PeakLaws.{peakAt, peak-damage}
+use Rattle.round_close.specs.declared.Close.{Close}
 use Rattle.bucket_call_spec.specs.Fetch.{Held, Going, shut, atClose, written, revealing, heldKeys, wishFor, tookRound, wantRound}
 use Rattle.state_spec.specs.Ticket.{structureOf}
 use Rattle.operation_spec.specs.declared.Want as want
 use Rattle.operation_spec.specs.Method.{toWant}
 use Rattle.one_round.specs.OneRound.{going, takenAs, Ready, Rests, Wanted}
 use Rattle.one_round.specs.HandLaws.{InHand, looked-damage, looked-hand, taken-node}
-use Rattle.one_round.specs.CloseLaws.{settled-rests, settled-close}
+use Rattle.one_round.specs.CloseLaws.{closing, settled-rests, settled-close, settled-counts}
 use Rattle.one_round.specs.IdleLaws.{ready-rests}
 
 -- ---- the definition's three ways
@@ -75,17 +76,18 @@ module _ {k n : ℕ} {words scratch tree held after : List ℕ} (structure entri
   want-shut : (found : node.Node)
       → ((hs : List Held) (ls : List ℕ) (d : ℕ) (c : Node ℕ → Prog ℕ (Outcome ℕ)) → map (λ (h : Held). h .node .key) hs ≡ held
       → wantRound (structureOf structure) entries k d (toWant w) c (going n words tree hs ls) ≡ shut 8 (revealing leaf (going n words tree hs ls)))
-      → Wanted structure entries k n w words tree held words after tree (record { mark = 8; waiting = n; taken = false; node = found })
+      → Wanted structure entries k n w words tree held words after tree (record { mark = 8; waiting = n; count = 0; taken = false; node = found })
   want-shut found shuts =
       record {
         round = λ hs ls d c keys. rw (append-nil hs) (shuts hs ls d c keys);
+        counted = λ hs ls d c keys. ap peakAt (shuts hs ls d c keys) ∙ peak-damage (Outcome ℕ) (revealing leaf (going n words tree hs ls));
         goes-on = λ e. let z : ⊥ = omega arith in absurd z;
         tested = λ e. cc;
         rests = rw (append-nil held) (ready-rests ready after (looked .sized));
       }
 
   pub want-damage : (found : node.Node) → r .ok ≡ false
-      → Wanted structure entries k n w words tree held words after tree (record { mark = 8; waiting = n; taken = false; node = found })
+      → Wanted structure entries k n w words tree held words after tree (record { mark = 8; waiting = n; count = 0; taken = false; node = found })
   want-damage found bad =
       want-shut found
       (λ hs ls d c keys. want-damaged (structureOf structure) entries k d (toWant w) c (going n words tree hs ls)
@@ -102,27 +104,34 @@ module _ {k n : ℕ} {words scratch tree held after : List ℕ} (structure entri
     in-hand-taken = taken-node (r .at) (r .count) after (r .node) in-hand (looked .inside refl good) (looked .node refl good)
 
     pub want-untested : (found : node.Node) → test (structureOf structure) entries (toWant w) (toNode (r .node)) ≡ false
-        → Wanted structure entries k n w words tree held words after tree (record { mark = 8; waiting = n; taken = false; node = found })
+        → Wanted structure entries k n w words tree held words after tree (record { mark = 8; waiting = n; count = 0; taken = false; node = found })
     want-untested found failed =
         want-shut found
         (λ hs ls d c keys. want-failed (structureOf structure) entries k d (toWant w) c (going n words tree hs ls) (in-hand .hand) (toNode (r .node))
         (with-held hs ls (some (in-hand .hand)) keys (in-hand .read)) in-hand-taken failed)
 
-    pub want-goes : {scratch′ words′ tree′ : List ℕ} {left : ℕ} (mark : ℕ) → test (structureOf structure) entries (toWant w) (toNode (r .node)) ≡ true
-        → Settled k leaf (r .count) true (r .at) after tree scratch′ words′ tree′ left → mark ≡ pick (overflows left (length held + 1)) 9 0
-        → Wanted structure entries k n w words tree held words′ scratch′ tree′ (record { mark = mark; waiting = left; taken = true; node = r .node })
-    want-goes {scratch′} {words′} {tree′} {left} mark passed settled marked =
+    pub want-goes : {scratch′ words′ tree′ : List ℕ} {left : ℕ} (close : Close) → test (structureOf structure) entries (toWant w) (toNode (r .node)) ≡ true
+        → Settled k leaf (r .count) true (r .at) after tree scratch′ words′ tree′ left → close ≡ closing left (length held + 1)
+        → Wanted structure entries k n w words tree held words′ scratch′ tree′ (record { mark = close .mark; waiting = left; count = close .count; taken = true; node = r .node })
+    want-goes {scratch′} {words′} {tree′} {left} close passed settled closed =
         let i = in-hand in
         let room : r .count ≤ places = omega (arith, looked .within, ready .small, ready .few) in
         let same : takenKeys leafFormat (i .hand .taken) ≡ r .node .key ∷ [] = ap (takenKeys leafFormat) in-hand-taken in
+        let heldThen : List Held → ℕ → List Held = λ hs d. hs ++ (takenAs w d (toNode (r .node)) ∷ []) in
+        let closes : (hs : List Held) (ls : List ℕ) (d : ℕ) (c : Node ℕ → Prog ℕ (Outcome ℕ)) → map (λ (h : Held). h .node .key) hs ≡ held
+        → wantRound (structureOf structure) entries k d (toWant w) c (going n words tree hs ls)
+        ≡ atClose (written k leaf (i .hand .waiting) (heldThen hs d) (going n words tree hs ls)) (c (retag d (toNode (r .node)))) =
+        λ hs ls d c keys. want-taken (structureOf structure) entries k d (toWant w) c (going n words tree hs ls) (i .hand) (toNode (r .node))
+        (with-held hs ls (some (i .hand)) keys (i .read)) in-hand-taken passed in
+        let many : (hs : List Held) (d : ℕ) → map (λ (h : Held). h .node .key) hs ≡ held → length (heldThen hs d) ≡ length held + 1 =
+        λ hs d keys. length-append hs (takenAs w d (toNode (r .node)) ∷ []) ∙ ap (λ (x : ℕ). x + 1) (sym (length-map hs (λ (h : Held). h .node .key)) ∙ ap length keys) in
         record {
           round =
-              λ hs ls d c keys. want-taken (structureOf structure) entries k d (toWant w) c (going n words tree hs ls) (i .hand) (toNode (r .node))
-              (with-held hs ls (some (i .hand)) keys (i .read)) in-hand-taken passed
-              ∙ settled-close ready i settled room hs (hs ++ (takenAs w d (toNode (r .node)) ∷ [])) ls (c (retag d (toNode (r .node)))) (length held + 1) mark
-              (length-append hs (takenAs w d (toNode (r .node)) ∷ [])
-              ∙ ap (λ (x : ℕ). x + 1) (sym (length-map hs (λ (h : Held). h .node .key)) ∙ ap length keys))
-              marked;
+              λ hs ls d c keys. closes hs ls d c keys
+              ∙ settled-close ready i settled room hs (heldThen hs d) ls (c (retag d (toNode (r .node)))) (length held + 1) (close .mark) (many hs d keys) (ap (λ (x : Close). x .mark) closed);
+          counted =
+              λ hs ls d c keys. ap peakAt (closes hs ls d c keys)
+              ∙ settled-counts ready i settled room hs (heldThen hs d) ls (c (retag d (toNode (r .node)))) (length held + 1) (close .count) (many hs d keys) (ap (λ (x : Close). x .count) closed);
           goes-on = λ e. refl;
           tested = λ e. passed;
           rests = subst (λ (ks : List ℕ). Rests left words′ scratch′ (held ++ ks)) same (settled-rests ready i settled room);

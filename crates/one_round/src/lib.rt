@@ -5,7 +5,7 @@ use operation_spec::Want;
 use path_reader::Wish;
 use path_reader::look;
 use path_slots::PATH_SLOTS;
-use round_close::mark_at_close;
+use round_close::close_of;
 use slot_fields::key_of;
 use slot_spec::Node;
 use stash_words::WORDS;
@@ -16,16 +16,19 @@ ghost use Rattle.list_spec.specs.Ascending.{ascending};
 ghost use Rattle.stash_laws.specs.Waiting.{Holds};
 ghost use Rattle.one_round.specs.OneRound.{keysWaiting, Ready, Idled, Wanted};
 
-// How a round that wants none ended: mark 0, or 8 damage or 9 overflow, and how many nodes wait then.
+// How a round that wants none ended: mark 0, or 8 damage or 9 overflow, how many nodes wait then, and how many wait and are held at its
+// close, 0 with damage.
 pub struct Rounded {
     pub mark: u8,
     pub waiting: usize,
+    pub count: usize,
 }
 
 // How a round that wants a node ended; and whether the node was taken out, and the node as it was found.
 pub struct Took {
     pub mark: u8,
     pub waiting: usize,
+    pub count: usize,
     pub taken: bool,
     pub node: Node,
 }
@@ -50,12 +53,15 @@ pub fn idle_round(
         return Rounded {
             mark: 8,
             waiting: n,
+            count: 0,
         };
     }
     let left = settle(s, r.count, false, 0, w, tree, size, leaf, &from, r.full);
+    let close = close_of(left, held.len());
     Rounded {
-        mark: mark_at_close(left, held.len()),
+        mark: close.mark,
         waiting: left,
+        count: close.count,
     }
 }
 
@@ -94,6 +100,7 @@ pub fn want_round(
         return Took {
             mark: 8,
             waiting: n,
+            count: 0,
             taken: false,
             node,
         };
@@ -102,14 +109,17 @@ pub fn want_round(
         return Took {
             mark: 8,
             waiting: n,
+            count: 0,
             taken: false,
             node,
         };
     }
     let left = settle(s, r.count, true, r.at, w, tree, size, leaf, &from, r.full);
+    let close = close_of(left, held.len() + 1);
     Took {
-        mark: mark_at_close(left, held.len() + 1),
+        mark: close.mark,
         waiting: left,
+        count: close.count,
         taken: true,
         node,
     }

@@ -7,6 +7,7 @@ use lib.ListN.{length}
 use lib.Seq.{sets}
 use Rattle.list_spec.specs.Distinct.{All}
 use Rattle.method_spec.specs.Prog.{done}
+use Rattle.method_spec.specs.Answer.{Structure}
 use Rattle.method_spec.specs.Map.{Outcome}
 use Rattle.method_spec.specs.Call.{drawsFrom}
 use Rattle.round_spec.specs.Round.{noneTwice}
@@ -14,6 +15,7 @@ use Rattle.round_spec.specs.Whole.{IsTree}
 use Rattle.list_spec.specs.Ascending.{ascending}
 use Rattle.word_round_laws.specs.Words.{wordCount}
 use Rattle.bucket_call_spec.specs.Call.{putRounds}
+use Rattle.bucket_call_spec.specs.Peak.{roundsFrom, peakOf}
 use Rattle.leaf_spec.specs.Leaf.{ProperLeaf}
 use Rattle.stash_laws.specs.Waiting.{waitingIn, Holds}
 use Rattle.one_round.specs.OneRound.{going, endedWith, keysWaiting}
@@ -30,11 +32,12 @@ pub record Stepped (k n : ℕ) (words scratch tree : List ℕ) : Type 0 where
   pub few : n ≤ 65
   pub twice : ascending (keysWaiting n words) ≡ false → noneTwice (keysWaiting n words) ≡ false
 
--- The F put rounds, from draw `first` on, came to mark and waiting nodes as said, for any leaves revealed before and any outcome; their leaves follow
--- those of the F fetch rounds in the trace.
+-- The F put rounds, from draw `first` on, came to mark and waiting nodes as said, for any leaves revealed before and any outcome, and have that peak;
+-- their leaves follow those of the F fetch rounds in the trace.
 pub record Puts (k n : ℕ) (draw : ℕ → ℕ) (F first : ℕ) (words tree trace words′ tree′ trace′ : List ℕ) (r : Idle) : Type 0 where
   pub rounds : (ls : List ℕ) (o : Outcome ℕ) → putRounds k draw F first o (going n words tree [] ls)
       ≡ endedWith (r .mark) (going (r .waiting) words′ tree′ [] (ls ++ drawsFrom draw (r .shown) first)) (done o)
+  pub peaked : (s : Structure) (e : ℕ) (ls : List ℕ) (o : Outcome ℕ) → peakOf (roundsFrom s e k draw F first (done o) (going n words tree [] ls)) ≡ r .peak
   pub revealed : trace′ ≡ sets trace F (drawsFrom draw (r .shown) first)
   pub holds : Holds (r .waiting) words′
   pub no-more : r .shown ≤ F

@@ -6,12 +6,16 @@ use Prim.Native.Nat.{ℕ, suc, _+_, _-_, _≤_}
 use native.Mathlib.Omega.{arith}
 use lib.ListN.{set}
 use Rattle.method_spec.specs.Prog.{done}
+use Rattle.method_spec.specs.Map.{Outcome}
 use Rattle.method_spec.specs.Call.{drawsFrom}
 use Rattle.round_laws.specs.ReadHalf.{distinct-none-twice}
 use Rattle.list_spec.specs.Ascending.{ascending}
 use Rattle.round_laws.specs.Sorted.{ascending-distinct}
 use Rattle.leaf_spec.specs.Leaf.{leafFormat}
+use Rattle.bucket_call_spec.specs.Fetch.{Going, shut, idleRound, fetchRound}
 use Rattle.bucket_call_spec.specs.Call.{putRounds}
+use Rattle.bucket_call_spec.specs.Peak.{roundsFrom, peakOf}
+use Rattle.peak_laws.specs.PeakLaws.{peakAt, peak-damage, done-round, rounds-shuts}
 use Rattle.one_round.specs.OneRound.{going, keysWaiting}
 use Rattle.one_round.specs.TwiceLaws.{twice-shuts}
 use Rattle.stash_laws.specs.Waiting.{waitingIn}
@@ -44,6 +48,7 @@ module _ (k n : ℕ) (draw : ℕ → ℕ) (F first : ℕ) (words tree trace : Li
   puts-idled i =
       record {
         rounds = λ ls o. i .rounds [] ls o refl;
+        peaked = λ s e ls o. i .peaked s e [] ls o refl;
         revealed = i .revealed;
         holds = i .rests .holds;
         no-more = i .no-more;
@@ -52,16 +57,25 @@ module _ (k n : ℕ) (draw : ℕ → ℕ) (F first : ℕ) (words tree trace : Li
 
   -- A key that stands twice is damage to the first round.
   pub puts-twice : {scratch : List ℕ} → Stepped k n words scratch tree → ascending (keysWaiting n words) ≡ false → 1 ≤ F → (leaf : ℕ) → leaf ≡ draw first
-      → Puts k n draw F first words tree trace words tree (set trace F leaf) (record { mark = 8; waiting = n; shown = 1 })
+      → Puts k n draw F first words tree trace words tree (set trace F leaf) (record { mark = 8; waiting = n; shown = 1; peak = 0 })
   puts-twice b e some leaf drawn =
       let one : drawsFrom draw 1 first ≡ leaf ∷ [] = draws-one draw first ∙ ap (λ (d : ℕ). d ∷ []) (sym drawn) in
+      let more : F ≡ suc (F - 1) = omega arith in
+      let here : List ℕ → Going = going n words tree [] in
+      let shuts : (ls : List ℕ) (o : Outcome ℕ) → idleRound k (draw first) (done o) (here ls) ≡ shut 8 (here (ls ++ (draw first ∷ []))) =
+      λ ls o. twice-shuts k (draw first) (done o) (here ls) refl (b .twice e) in
       record {
         rounds = λ ls o.
-            let more : F ≡ suc (F - 1) = omega arith in
-            ap (λ (m : ℕ). putRounds k draw m first o (going n words tree [] ls)) more
-            ∙ put-shuts k draw (F - 1) first o (going n words tree [] ls) (going n words tree [] (ls ++ (draw first ∷ []))) 8
-            (twice-shuts k (draw first) (done o) (going n words tree [] ls) refl (b .twice e))
+            ap (λ (m : ℕ). putRounds k draw m first o (here ls)) more
+            ∙ put-shuts k draw (F - 1) first o (here ls) (here (ls ++ (draw first ∷ []))) 8 (shuts ls o)
             ∙ rw (one, drawn);
+        peaked = λ s x ls o.
+            let first-shuts : fetchRound s x k (draw first) (done o) (here ls) ≡ shut 8 (here (ls ++ (draw first ∷ []))) =
+            done-round s x k (draw first) o (here ls) ∙ shuts ls o in
+            ap (λ (m : ℕ). peakOf (roundsFrom s x k draw m first (done o) (here ls))) more
+            ∙ ap peakOf (rounds-shuts s x k draw (F - 1) first (done o) (here ls) (here (ls ++ (draw first ∷ []))) 8 first-shuts)
+            ∙ ap peakAt first-shuts
+            ∙ peak-damage (Outcome ℕ) (here (ls ++ (draw first ∷ [])));
         revealed = rw one;
         holds = b .holds;
         no-more = some;

@@ -31,6 +31,7 @@ pub fn put_rounds(
             mark: 8,
             waiting: n,
             shown: 1,
+            peak: 0,
         };
     }
     idle_rounds(

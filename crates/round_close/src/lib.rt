@@ -1,6 +1,6 @@
-// The close of a round: how many nodes may wait and be held then.
+// The close of a round: how many nodes wait and are held then, and how many may.
 ghost use mathlib.Core.Path.{_≡_};
-ghost use Prim.Native.Nat.{_+_, _^_, _<_};
+ghost use Prim.Native.Nat.{max, _+_, _^_, _<_};
 ghost use Rattle.list_spec.specs.Choice.{pick};
 ghost use Rattle.round_spec.specs.Round.{overflows};
 
@@ -24,4 +24,27 @@ pub fn mark_at_close(waiting: usize, held: usize) -> u8
         return 9;
     }
     0
+}
+
+// A round's close: how many nodes wait and are held then, and the mark.
+pub struct Close {
+    pub count: usize,
+    pub mark: u8,
+}
+
+pub fn close_of(waiting: usize, held: usize) -> Close
+    requires { ⌜ waiting + held < 2 ^ 64 ⌝ }
+    ensures { λ r. ⌜ r ≡ record { count = waiting + held; mark = pick (overflows waiting held) 9 0 } ⌝ }
+{
+    Close {
+        count: waiting + held,
+        mark: mark_at_close(waiting, held),
+    }
+}
+
+// The greater of two counts.
+pub fn greater(a: usize, b: usize) -> usize
+    ensures { λ r. ⌜ r ≡ max a b ⌝ }
+{
+    if a < b { b } else { a }
 }

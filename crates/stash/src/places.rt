@@ -1,4 +1,4 @@
-// One place of a state: loaded into the words, and saved from them; and how many are saved.
+// One place of a state: loaded into the words, and saved from them.
 use super::words_of;
 use slot_fields::node_of;
 use stash_words::WORDS;
@@ -9,7 +9,7 @@ use state_places::place_good;
 use state_spec::Place;
 ghost use mathlib.Core.Path.{_≡_};
 ghost use mathlib.Core.Bool.{_&&_};
-ghost use Prim.Native.Nat.{max, _≤_, _<_};
+ghost use Prim.Native.Nat.{_≤_, _<_};
 ghost use lib.Dec.{leb};
 ghost use lib.ListN.{length, getD};
 ghost use Rattle.state_spec.specs.Fit.{placeGood, noPlace};
@@ -17,13 +17,6 @@ ghost use Rattle.call_spec.specs.Store.{placed};
 ghost use Rattle.word_round_laws.specs.Words.{places, wordCount};
 ghost use Rattle.stash_laws.specs.Waiting.{waitingIn, Holds};
 ghost use Rattle.stash.specs.Stash.{PlaceLoaded};
-
-// The greater of two numbers.
-pub fn greater(a: usize, b: usize) -> usize
-    ensures { λ r. ⌜ r ≡ max a b ⌝ }
-{
-    if a < b { b } else { a }
-}
 
 // Whether a used place is good and its key at least `least`, one more than the key before it.
 fn used_fits(p: Place, size: usize, least: u64) -> bool

@@ -3,7 +3,7 @@ use mathlib.Core.Path.{_≡_, refl, _∙_, ap, subst}
 use mathlib.Core.Bool.{true, false}
 use mathlib.Core.List.{List}
 use mathlib.Core.Option.{none, some}
-use Prim.Native.Nat.{ℕ, _+_, _^_, _≤_, _<_}
+use Prim.Native.Nat.{ℕ, max, _+_, _^_, _≤_, _<_}
 use native.Mathlib.Omega.{arith}
 use lib.ListN.{length, take, set}
 use Rattle.method_spec.specs.Node.{retag}
@@ -24,8 +24,8 @@ use Rattle.want_rounds.specs.WantingLaws.{all-fetched, walked-damaged, w
 
 module _ {j : Job} {draw : ℕ → ℕ} {n : ℕ} {words₀ tree₀ trace₀ : List ℕ} {h : Held} {froms words scratch tree keys trace : List ℕ} {r : Fetched} where
   -- None is wanted any more.
-  pub walks-on : {m leaves : ℕ} → r ≡ record { count = h .count; waiting = m; mark = 0; leaves = leaves }
-      → Walked j draw n words₀ tree₀ trace₀ h froms m words scratch tree keys trace
+  pub walks-on : {m leaves peak : ℕ} → r ≡ record { count = h .count; waiting = m; mark = 0; leaves = leaves; peak = peak }
+      → Walked j draw n words₀ tree₀ trace₀ h froms m peak words scratch tree keys trace
       → wantedIn (after (programOf j) (nodesOf h)) ≡ none
       → Walks j draw n words₀ tree₀ trace₀ h froms words scratch tree keys trace r
   walks-on e walked finished = rw e (record { counted = refl; goes = λ z. walked; finished = λ z. finished; stops = λ z. absurd (z refl) })
@@ -42,8 +42,8 @@ pub not-taken : {structure entries k n : ℕ} {want : Want} {words tree held wor
 not-taken {r = r} round t e = let g : r .taken ≡ true = round .goes-on e in let z : _≡_ {A = ℕ} 0 1 = cc in omega arith
 
 module _ (j : Job) (draw : ℕ → ℕ) (is-leaf : (d : ℕ) → draw d < 2 ^ j .size) {n : ℕ} {words₀ scratch₀ tree₀ : List ℕ} (b : Begins j draw n words₀ scratch₀ tree₀)
-    (trace₀ : List ℕ) {h : Held} {froms : List ℕ} {m : ℕ} {words scratch tree keys trace : List ℕ}
-    (inv : Walked j draw n words₀ tree₀ trace₀ h froms m words scratch tree keys trace) where
+    (trace₀ : List ℕ) {h : Held} {froms : List ℕ} {m peak : ℕ} {words scratch tree keys trace : List ℕ}
+    (inv : Walked j draw n words₀ tree₀ trace₀ h froms m peak words scratch tree keys trace) where
   -- After the last fetch round.
   pub walked-all : j .rounds ≤ h .count → wantedIn (after (programOf j) (nodesOf h)) ≡ none
   walked-all e =
@@ -53,7 +53,8 @@ module _ (j : Job) (draw : ℕ → ℕ) (is-leaf : (d : ℕ) → draw d < 2 ^ j 
       all-fetched j draw is-leaf b here q (subst (λ (i : ℕ). fetched j draw i n words₀ tree₀ ≡ on here q) same (inv .so-far))
 
   module _ (want : Want) (asked : wantedIn (after (programOf j) (nodesOf h)) ≡ some (toWant want)) {words′ scratch′ tree′ : List ℕ} {r : Took} (more : h .count < j .rounds)
-      (round : Wanted (j .structure) (j .entries) (j .size) m want words tree (take (h .count) keys) words′ scratch′ tree′ r) (room : h .count < length trace₀) where
+      (round : Wanted (j .structure) (j .entries) (j .size) m want words tree (take (h .count) keys) words′ scratch′ tree′ r) (room : h .count < length trace₀)
+      {peak′ : ℕ} (raised : peak′ ≡ max peak (r .count)) where
     abbrev shown : List ℕ
     shown = set trace (h .count) (want .link .tag)
 
@@ -61,10 +62,10 @@ module _ (j : Job) (draw : ℕ → ℕ) (is-leaf : (d : ℕ) → draw d < 2 ^ j 
     keysNow = set keys (h .count) (r .node .key)
 
     -- Damage.
-    pub walks-damaged : {f : Fetched} → f ≡ record { count = h .count; waiting = r .waiting; mark = r .mark; leaves = h .count + 1 } → r .taken ≡ false
+    pub walks-damaged : {f : Fetched} → f ≡ record { count = h .count; waiting = r .waiting; mark = r .mark; leaves = h .count + 1; peak = peak′ } → r .taken ≡ false
         → Walks j draw n words₀ tree₀ trace₀ h froms words′ scratch′ tree′ keys shown f
     walks-damaged e t =
-        walks-stop e (not-taken round t) (walked-damaged j draw is-leaf b trace₀ inv want asked more round t room)
+        walks-stop e (not-taken round t) (walked-damaged j draw is-leaf b trace₀ inv want asked more round raised t room)
 
     module _ {h′ : Held} {x : node.Node} {d : ℕ} (v : ℕ) (is : h′ ≡ record { nodes = set (h .nodes) (h .count) x; count = h .count + 1 })
         (same : x ≡ record { key = r .node .key; value = r .node .value; tag = d; left = r .node .left; right = r .node .right })
@@ -76,11 +77,11 @@ module _ (j : Job) (draw : ℕ → ℕ) (is-leaf : (d : ℕ) → draw d < 2 ^ j 
       same-key = ap (λ (n : node.Node). n .key) same
 
       -- Overflow.
-      pub walks-overflow : {f : Fetched} → f ≡ record { count = h .count + 1; waiting = r .waiting; mark = r .mark; leaves = h .count + 1 } → (r .mark ≡ 0 → ⊥)
+      pub walks-overflow : {f : Fetched} → f ≡ record { count = h .count + 1; waiting = r .waiting; mark = r .mark; leaves = h .count + 1; peak = peak′ } → (r .mark ≡ 0 → ⊥)
           → Walks j draw n words₀ tree₀ trace₀ h′ (set froms (h .count) v) words′ scratch′ tree′ keysNow shown f
       walks-overflow e marked =
-          walks-stop e marked (rw is (walked-overflows j draw is-leaf b trace₀ inv want asked more round x same-node v from-is taken room marked))
+          walks-stop e marked (rw is (walked-overflows j draw is-leaf b trace₀ inv want asked more round raised x same-node v from-is taken room marked))
 
       -- One round more.
-      pub walked-next : r .mark ≡ 0 → Walked j draw n words₀ tree₀ trace₀ h′ (set froms (h .count) v) (r .waiting) words′ scratch′ tree′ keysNow shown
-      walked-next e = rw (is, ← same-key) (walked-on j draw is-leaf b trace₀ inv want asked more round x same-node v from-is taken room e)
+      pub walked-next : r .mark ≡ 0 → Walked j draw n words₀ tree₀ trace₀ h′ (set froms (h .count) v) (r .waiting) peak′ words′ scratch′ tree′ keysNow shown
+      walked-next e = rw (is, ← same-key) (walked-on j draw is-leaf b trace₀ inv want asked more round raised x same-node v from-is taken room e)

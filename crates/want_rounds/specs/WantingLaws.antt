@@ -3,8 +3,8 @@ use mathlib.Core.Path.{_≡_, refl, sym, _∙_, ap, ap₂, subst}
 use mathlib.Core.Bool.{Bool, true, false}
 use mathlib.Core.List.{List, [], _∷_, _++_, map, map-append, append-nil}
 use mathlib.Core.Option.{Option, none, some}
-use Prim.Native.Nat.{ℕ, zero, suc, _+_, _-_, _^_, _≤_, _<_}
-use native.Mathlib.Nat.{add-zero, zero-add}
+use Prim.Native.Nat.{ℕ, zero, suc, max, _+_, _-_, _^_, _≤_, _<_}
+use native.Mathlib.Nat.{add-zero, zero-add, sub-zero}
 use native.Mathlib.Numerals.{add-one}
 use native.Mathlib.Omega.{arith}
 use lib.ListN.{length, take, drop, set, length-set, length-take}
@@ -28,17 +28,19 @@ use Rattle.leaf_spec.specs.Leaf.{leafFormat, ProperLeaf}
 use Rattle.bucket_call_spec.specs.Call.{putRounds, aheadThen}
 use Rattle.round_spec.specs.Whole.{IsTree}
 use Rattle.bucket_call_spec.specs.Fetch as fetch
-use Rattle.bucket_call_spec.specs.Fetch.{Going, heldKeys, tooMany, revealing, written, Round, on, shut, atClose, idleRound, wantRound, fetchRound, fetchRounds}
+use Rattle.bucket_call_spec.specs.Fetch.{Going, heldKeys, total, tooMany, revealing, written, Round, on, shut, atClose, idleRound, wantRound, fetchRound, fetchRounds}
 use Rattle.none_lost_laws.specs.Yields.{Yields, asks}
 use Rattle.none_lost_laws.specs.Given.{Given, AskedFrom}
-use Rattle.none_lost_laws.specs.Sound.{total, goes}
+use Rattle.none_lost_laws.specs.Sound.{goes}
 use Rattle.none_lost_laws.specs.Ends.{highest}
 use Rattle.none_lost_laws.specs.Lost.{FetchEnds, fetch-rounds, never-left-wanting}
 use Rattle.want_rounds.specs.Splits.{goesOn, fetches-none, fetches-next, fetches-split}
 use Rattle.idle_rounds.specs.Idle.{Between, keysHeld}
 use Rattle.idle_rounds.specs.IdleLaws.{put-none, put-goes, put-shuts, goes-on, stops-here, between-ready}
 use Rattle.want_rounds.specs.declared.Job.{Job}
-use Rattle.want_rounds.specs.Wanting.{heldBy, structureIn, programOf, storeAt, fetched, Begins, Walked, Fetches}
+use Rattle.bucket_call_spec.specs.Peak.{roundsFrom, peakOf}
+use Rattle.peak_laws.specs.PeakLaws.{peakAt, wanting-round, peak-goes, peak-shuts}
+use Rattle.want_rounds.specs.Wanting.{heldBy, structureIn, programOf, storeAt, fetched, listedFrom, listedBy, Begins, Walked, Fetches}
 use Rattle.operation_spec.specs.declared.Want as code
 use Rattle.slot_spec.specs.declared.Node as node
 use Rattle.leaf_spec.specs.Convert.{toLink, toAhead, toNode}
@@ -218,8 +220,8 @@ stored-later : (i : ℕ) (trace trace₀ : List ℕ) (v : ℕ) → drop i trace 
 stored-later i trace trace₀ v e = drop-set-lt (suc i) trace i v (omega arith) ∙ drop-more i trace trace₀ e
 
 module _ (j : Job) (draw : ℕ → ℕ) (is-leaf : (d : ℕ) → draw d < 2 ^ j .size) {n : ℕ} {words₀ scratch₀ tree₀ : List ℕ} (b : Begins j draw n words₀ scratch₀ tree₀)
-    (trace₀ : List ℕ) {h : Held} {froms : List ℕ} {m : ℕ} {words scratch tree keys trace : List ℕ}
-    (inv : Walked j draw n words₀ tree₀ trace₀ h froms m words scratch tree keys trace) where
+    (trace₀ : List ℕ) {h : Held} {froms : List ℕ} {m peak : ℕ} {words scratch tree keys trace : List ℕ}
+    (inv : Walked j draw n words₀ tree₀ trace₀ h froms m peak words scratch tree keys trace) where
   abbrev here : Going
   here = going m words tree (heldBy h froms) (take (h .count) trace)
 
@@ -262,7 +264,7 @@ module _ (j : Job) (draw : ℕ → ℕ) (is-leaf : (d : ℕ) → draw d < 2 ^ j 
     want-ready = between-ready walked-between (want .link .tag) (now-midway .leads (toWant want) (there .then) (there .is))
 
     module _ {words′ scratch′ tree′ : List ℕ} {r : Took} (more : h .count < j .rounds)
-        (round : Wanted (j .structure) (j .entries) (j .size) m want words tree (take (h .count) keys) words′ scratch′ tree′ r) where
+        (round : Wanted (j .structure) (j .entries) (j .size) m want words tree (take (h .count) keys) words′ scratch′ tree′ r) {peak′ : ℕ} (raised : peak′ ≡ max peak (r .count)) where
       abbrev fetchedNode : Node ℕ
       fetchedNode = retag (draw (h .count)) (toNode (r .node))
 
@@ -275,14 +277,38 @@ module _ (j : Job) (draw : ℕ → ℕ) (is-leaf : (d : ℕ) → draw d < 2 ^ j 
       one-leaf-more : h .count < length trace₀ → take (h .count) trace ++ (want .link .tag ∷ []) ≡ take (h .count + 1) trace′
       one-leaf-more k = rw (add-one (h .count)) (sym (take-suc-set trace (h .count) (want .link .tag) (omega (arith, inv .trace-sized))))
 
+      this-round : (taken : Bool) → r .taken ≡ taken → h .count < length trace₀
+          → wantRound (structureIn j) (j .entries) (j .size) (draw (h .count)) (toWant want) (there .then) here
+          ≡ endedWith (r .mark) (ended (heldBy h froms ++ heldToo taken (takenAs want (draw (h .count)) (toNode (r .node))))) (there .then fetchedNode)
+      this-round taken t k =
+          rw (← b .structure-is, ← one-leaf-more k, ← t)
+          (round .round (heldBy h froms) (take (h .count) trace) (draw (h .count)) (there .then) (inv .keys-are))
+
       next-round : (taken : Bool) → r .taken ≡ taken → h .count < length trace₀
           → fetched j draw (h .count + 1) n words₀ tree₀
           ≡ endedWith (r .mark) (ended (heldBy h froms ++ heldToo taken (takenAs want (draw (h .count)) (toNode (r .node))))) (there .then fetchedNode)
       next-round taken t k =
           round-more (structureIn j) (j .entries) (j .size) draw (programOf j) (going n words₀ tree₀ [] []) (h .count) here (toWant want) (there .then)
           (inv .so-far ∙ ap (on here) (there .is))
-          ∙ rw (← b .structure-is, ← one-leaf-more k, ← t)
-          (round .round (heldBy h froms) (take (h .count) trace) (draw (h .count)) (there .then) (inv .keys-are))
+          ∙ this-round taken t k
+
+      -- The same round as the next of those that are listed, and what it counts.
+      abbrev listedRound : Round (Outcome ℕ)
+      listedRound = fetchRound (structureIn j) (j .entries) (j .size) (draw (h .count)) (after (programOf j) (nodesOf h)) here
+
+      listed-wants : listedRound ≡ wantRound (structureIn j) (j .entries) (j .size) (draw (h .count)) (toWant want) (there .then) here
+      listed-wants =
+          ap (λ (q : Prog ℕ (Outcome ℕ)). fetchRound (structureIn j) (j .entries) (j .size) (draw (h .count)) q here) (there .is)
+          ∙ wanting-round (structureIn j) (j .entries) (j .size) (draw (h .count)) (toWant want) (there .then) here
+
+      most-then : max peak (peakAt listedRound) ≡ peak′
+      most-then =
+          ap (λ (x : Round (Outcome ℕ)). max peak (peakAt x)) listed-wants
+          ∙ ap (max peak) (rw (← b .structure-is) (round .counted (heldBy h froms) (take (h .count) trace) (draw (h .count)) (there .then) (inv .keys-are)))
+          ∙ sym raised
+
+      rounds-then : j .rounds - h .count ≡ suc (j .rounds - (h .count + 1))
+      rounds-then = omega arith
 
       trace-later : drop (h .count + 1) trace′ ≡ drop (h .count + 1) trace₀
       trace-later = rw (add-one (h .count)) (stored-later (h .count) trace trace₀ (want .link .tag) (inv .untouched))
@@ -295,13 +321,18 @@ module _ (j : Job) (draw : ℕ → ℕ) (is-leaf : (d : ℕ) → draw d < 2 ^ j 
           → heldBy h′ froms′ ≡ heldBy h froms ++ heldToo taken (takenAs want (draw (h .count)) (toNode (r .node)))
           → h′ .count ≤ fetches → length (h′ .nodes) ≡ places → length froms′ ≡ fetches → Lows 100 (nodesOf h′)
           → keysHeld (heldBy h′ froms′) ≡ take (h .count) keys ++ heldToo taken (r .node .key)
-          → Fetches j draw n words₀ tree₀ trace₀ h′ froms′ words′ scratch′ tree′ trace′ (record { count = h′ .count; waiting = r .waiting; mark = r .mark; leaves = h .count + 1 })
+          → Fetches j draw n words₀ tree₀ trace₀ h′ froms′ words′ scratch′ tree′ trace′ (record { count = h′ .count; waiting = r .waiting; mark = r .mark; leaves = h .count + 1; peak = peak′ })
       closed-here h′ froms′ taken t marked k same few row-sized froms-sized low keys-same =
           record {
             outcome =
                 closed-early (structureIn j) (j .entries) (j .size) draw (programOf j) (going n words₀ tree₀ [] []) (h .count + 1) (j .rounds) (r .mark) (ended (heldBy h′ froms′)) (omega arith)
                 (next-round taken t k ∙ rw (← same) (stops-here (r .mark) (ended (heldBy h′ froms′)) (there .then fetchedNode) marked))
                 ∙ sym (stops-here (r .mark) (ended (heldBy h′ froms′)) (after (programOf j) (nodesOf h′)) marked);
+            peaked =
+                inv .peaks ∙ rw rounds-then
+                (peak-shuts (structureIn j) (j .entries) (j .size) draw (j .rounds - (h .count + 1)) (h .count) (after (programOf j) (nodesOf h)) here (ended (heldBy h′ froms′)) (r .mark)
+                (listed-wants ∙ this-round taken t k ∙ rw (← same) (stops-here (r .mark) (ended (heldBy h′ froms′)) (there .then fetchedNode) marked)) peak
+                ∙ most-then);
             finished = λ e. absurd (marked e);
             counted = refl;
             few = few;
@@ -317,7 +348,7 @@ module _ (j : Job) (draw : ℕ → ℕ) (is-leaf : (d : ℕ) → draw d < 2 ^ j 
 
       -- Damage: nothing was taken out.
       pub walked-damaged : r .taken ≡ false → h .count < length trace₀
-          → Fetches j draw n words₀ tree₀ trace₀ h froms words′ scratch′ tree′ trace′ (record { count = h .count; waiting = r .waiting; mark = r .mark; leaves = h .count + 1 })
+          → Fetches j draw n words₀ tree₀ trace₀ h froms words′ scratch′ tree′ trace′ (record { count = h .count; waiting = r .waiting; mark = r .mark; leaves = h .count + 1; peak = peak′ })
       walked-damaged t k =
           closed-here h froms false t (λ e. let q : true ≡ false = sym (round .goes-on e) ∙ t in let z : _≡_ {A = ℕ} 0 1 = cc in absurd (omega arith)) k (sym (append-nil (heldBy h froms))) walked-few (inv .row-sized) (inv .froms-sized) (inv .low)
           (inv .keys-are ∙ sym (append-nil (take (h .count) keys)))
@@ -370,21 +401,32 @@ module _ (j : Job) (draw : ℕ → ℕ) (is-leaf : (d : ℕ) → draw d < 2 ^ j 
 
         -- Overflow: the node was taken out.
         pub walked-overflows : (r .mark ≡ 0 → ⊥)
-            → Fetches j draw n words₀ tree₀ trace₀ heldMore fromsMore words′ scratch′ tree′ trace′ (record { count = h .count + 1; waiting = r .waiting; mark = r .mark; leaves = h .count + 1 })
+            → Fetches j draw n words₀ tree₀ trace₀ heldMore fromsMore words′ scratch′ tree′ trace′ (record { count = h .count + 1; waiting = r .waiting; mark = r .mark; leaves = h .count + 1; peak = peak′ })
         walked-overflows marked =
             closed-here heldMore fromsMore true taken marked k held-more-is (omega (arith, inv .upto, at-most j draw is-leaf b)) row-kept froms-kept low-more keys-more
 
+        went : r .mark ≡ 0
+            → endedWith (r .mark) (ended (heldBy h froms ++ heldToo true (takenAs want (draw (h .count)) (toNode (r .node))))) (there .then fetchedNode)
+            ≡ on (ended (heldBy heldMore fromsMore)) (after (programOf j) (nodesOf heldMore))
+        went e =
+            rw (← held-more-is) (goes-on (r .mark) (ended (heldBy heldMore fromsMore)) (there .then fetchedNode) e)
+            ∙ ap (on (ended (heldBy heldMore fromsMore))) (sym (ap (after (programOf j)) nodes-more ∙ after-more (programOf j) (nodesOf h) fetchedNode (there .is)))
+
         -- The call goes on.
-        pub walked-on : r .mark ≡ 0 → Walked j draw n words₀ tree₀ trace₀ heldMore fromsMore (r .waiting) words′ scratch′ tree′ keysMore trace′
+        pub walked-on : r .mark ≡ 0 → Walked j draw n words₀ tree₀ trace₀ heldMore fromsMore (r .waiting) peak′ words′ scratch′ tree′ keysMore trace′
         walked-on e =
             let keys-first : take (h .count + 1) keysMore ≡ take (h .count) keys ++ (r .node .key ∷ []) =
             rw (add-one (h .count)) (take-suc-set keys (h .count) (x .key) (omega (arith, inv .keys-sized, inv .upto, at-most j draw is-leaf b)))
             ∙ ap (λ (key : ℕ). take (h .count) keys ++ (key ∷ [])) (ap (λ (m : Node ℕ). m .key) is) in
             record {
               upto = omega arith;
-              so-far =
-                  next-round true taken k ∙ rw (← held-more-is) (goes-on (r .mark) (ended (heldBy heldMore fromsMore)) (there .then fetchedNode) e)
-                  ∙ ap (on (ended (heldBy heldMore fromsMore))) (sym (ap (after (programOf j)) nodes-more ∙ after-more (programOf j) (nodesOf h) fetchedNode (there .is)));
+              so-far = next-round true taken k ∙ went e;
+              peaks =
+                  inv .peaks ∙ rw rounds-then
+                  (peak-goes (structureIn j) (j .entries) (j .size) draw (j .rounds - (h .count + 1)) (h .count) (after (programOf j) (nodesOf h)) here (ended (heldBy heldMore fromsMore))
+                  (after (programOf j) (nodesOf heldMore)) (listed-wants ∙ this-round true taken k ∙ went e) peak
+                  ∙ ap₂ (λ (p i : ℕ). max p (peakOf (roundsFrom (structureIn j) (j .entries) (j .size) draw (j .rounds - (h .count + 1)) i (after (programOf j) (nodesOf heldMore)) (ended (heldBy heldMore fromsMore)))))
+                  most-then (sym (add-one (h .count))));
               rests = rw keys-first (rw taken at (round .rests));
               keys-are = keys-more ∙ sym keys-first;
               low = low-more;
@@ -398,7 +440,7 @@ module _ (j : Job) (draw : ℕ → ℕ) (is-leaf : (d : ℕ) → draw d < 2 ^ j 
 -- ---- before the first
 module _ (j : Job) (draw : ℕ → ℕ) {n : ℕ} {words scratch tree : List ℕ} (b : Begins j draw n words scratch tree) (trace : List ℕ) where
   pub walked-begins : (h : Held) (froms keys : List ℕ) → h .count ≡ 0 → length (h .nodes) ≡ places → length froms ≡ fetches → length keys ≡ fetches
-      → Walked j draw n words tree trace h froms n words scratch tree keys trace
+      → Walked j draw n words tree trace h froms n 0 words scratch tree keys trace
   unfolding heldOf
   walked-begins h froms keys zero-held row-sized froms-sized keys-sized =
       record {
@@ -407,6 +449,7 @@ module _ (j : Job) (draw : ℕ → ℕ) {n : ℕ} {words scratch tree : List ℕ
             rw zero-held
             (fetches-none (structureIn j) (j .entries) (j .size) draw 0 (programOf j) (going n words tree [] [])
             ∙ ap (on (going n words tree [] [])) (sym (after-none (programOf j))));
+        peaks = rw (zero-held, sub-zero (j .rounds), after-none (programOf j)) (omega arith);
         rests = rw zero-held (b .rests);
         keys-are = rw zero-held;
         low = rw zero-held tt;

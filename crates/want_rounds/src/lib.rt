@@ -8,6 +8,7 @@ use one_round::want_round;
 use operation_spec::Op;
 use operation_spec::Spares;
 use operation_spec::Wanted;
+use round_close::greater;
 use slot_spec::Link;
 use stash_words::WORDS;
 use structures::wanted;
@@ -30,23 +31,25 @@ pub struct Job {
     pub puts: usize,
 }
 
-// What the fetch rounds came to: how many nodes are held and how many wait, mark 0, or 8 damage or 9 overflow, and how many leaves
-// were revealed.
+// What the fetch rounds came to: how many nodes are held and how many wait, mark 0, or 8 damage or 9 overflow, how many leaves were
+// revealed, and the largest count at the close of a round.
 pub struct Fetched {
     pub count: usize,
     pub waiting: usize,
     pub mark: u8,
     pub leaves: usize,
+    pub peak: usize,
 }
 
-fn came_to(count: usize, waiting: usize, mark: u8, leaves: usize) -> Fetched
-    ensures { λ r. ⌜ r ≡ record { count = count; waiting = waiting; mark = mark; leaves = leaves } ⌝ }
+fn came_to(count: usize, waiting: usize, mark: u8, leaves: usize, peak: usize) -> Fetched
+    ensures { λ r. ⌜ r ≡ record { count = count; waiting = waiting; mark = mark; leaves = leaves; peak = peak } ⌝ }
 {
     Fetched {
         count,
         waiting,
         mark,
         leaves,
+        peak,
     }
 }
 
@@ -74,10 +77,11 @@ pub fn want_rounds(
     let spares = job.spares;
     let mut count = 0;
     let mut waiting = n;
+    let mut peak = 0;
     while count < job.rounds {
         let next = wanted(op, job.limit, job.entries, root, spares, held, count, made);
         let Wanted::Fetch(want) = next else {
-            return came_to(count, waiting, 0, count);
+            return came_to(count, waiting, 0, count, peak);
         };
         let link = want.link;
         let from = want.from;
@@ -93,8 +97,9 @@ pub fn want_rounds(
             job.size,
             &keys[0..count],
         );
+        peak = greater(peak, r.count);
         if !r.taken {
-            return came_to(count, r.waiting, r.mark, count + 1);
+            return came_to(count, r.waiting, r.mark, count + 1, peak);
         }
         let mut node = r.node;
         node.tag = draw_at(tape, count, job.size) as u16;
@@ -103,9 +108,9 @@ pub fn want_rounds(
         keys[count] = node.key;
         count += 1;
         if r.mark != 0 {
-            return came_to(count, r.waiting, r.mark, count);
+            return came_to(count, r.waiting, r.mark, count, peak);
         }
         waiting = r.waiting;
     }
-    came_to(count, waiting, 0, count)
+    came_to(count, waiting, 0, count, peak)
 }

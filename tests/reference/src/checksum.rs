@@ -18,8 +18,8 @@ impl Checksum {
         self.0 = sum;
     }
 
-    /// Joins the numbers of a call's line: its word's, its value or cause,
-    /// and its leaves.
+    /// Joins the numbers of a call's line: its word's, its value or cause, and
+    /// its leaves; then its peak.
     #[inline]
     pub fn join_call(&mut self, outcome: Outcome, trace: &[u16]) {
         self.join(word_number(outcome.answer));
@@ -27,6 +27,7 @@ impl Checksum {
         for &leaf in &trace[..outcome.leaves] {
             self.join(u64::from(leaf));
         }
+        self.join(outcome.peak as u64);
     }
 }
 

@@ -115,7 +115,7 @@ pub fn input(seed: u64) -> Vec<u8> {
     match plan(seed) {
         Plan::Uniform => input.some_calls(Tape::Uniform),
         Plan::FewLeaves => input.growing_calls(Tape::FewLeaves),
-        Plan::SkewedLeaves => match input.random.below(2) {
+        Plan::SkewedLeaves => match input.random.below(3) {
             0 => input.growing_calls(Tape::SkewedLeaves),
             _ => input.crowd(),
         },
@@ -201,9 +201,29 @@ impl Input {
     /// About as many nodes wait as may, and calls fetch what lies in the tree, so
     /// that they overflow in fetch rounds too.
     fn crowd(&mut self) {
+        match fetch_rounds(self.structure, self.size) {
+            1 => self.crowd_then_take(),
+            _ => self.fill_and_gather(),
+        }
+        self.some_calls(Tape::Near);
+    }
+
+    /// Fills the tree; then whatever calls fetch comes to one path.
+    fn fill_and_gather(&mut self) {
+        let (add, _) = self.add_and_take();
+        self.call_on_each_key(add);
+        self.tape = Tape::Near;
+        self.growth = 0;
+        for _ in 0..self.capacity() {
+            self.any_call();
+        }
+    }
+
+    /// An add fetches none here.
+    fn crowd_then_take(&mut self) {
         let (add, take) = self.add_and_take();
-        let far = self.random.pick(&[67, 68, 68, 69]);
-        let near = [1 + self.random.below(4), self.random.below(5)];
+        let far = self.random.pick(&[67, 68, 68, 68, 68, 69]);
+        let near = [1 + self.random.below(4), 1 + self.random.below(4)];
         for (tape, calls) in [
             (Tape::Near, near[0]),
             (Tape::Far, far),
@@ -219,7 +239,6 @@ impl Input {
             let (key, value) = (self.key(), self.value());
             self.call(take, key, value);
         }
-        self.some_calls(Tape::Near);
     }
 
     fn call_on_each_key(&mut self, kind: u8) {

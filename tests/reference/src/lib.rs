@@ -5,11 +5,15 @@
 //! - `fast`: the same store written for speed, over fixed arrays.
 //! - `origin`: the origin rule, a machine with no buckets and no tape.
 //! - `walk`, `readout`, `listing`: what the programs print.
-//! - `inputs`, `random`: random inputs of the walk program, from seeds.
+//! - `inputs`, `damaged`, `random`: random inputs of the walk program and of
+//!   `damaged_calls`, from seeds.
+//! - `counts`: what the calls of random inputs met.
 //! - `record`, `stores`: closed stores as bytes, and random ones from seeds.
 //! - `checksum`: what the benchmark compares, and `paths` prints.
 
 pub mod checksum;
+pub mod counts;
+pub mod damaged;
 pub mod fast;
 pub mod inputs;
 pub mod listing;

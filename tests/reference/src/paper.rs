@@ -177,11 +177,14 @@ impl Answer {
     }
 }
 
-/// What a call returns: its answer, and how many leaves it revealed.
+/// What a call returns: its answer, how many leaves it revealed, and its peak:
+/// the largest number of nodes waiting and held at the close of one of its
+/// rounds, 0 if none closed.
 #[derive(Clone, Copy, Debug, PartialEq, Eq)]
 pub struct Outcome {
     pub answer: Answer,
     pub leaves: usize,
+    pub peak: usize,
 }
 
 impl Outcome {
@@ -189,6 +192,7 @@ impl Outcome {
         Outcome {
             answer: Answer::Refused(cause),
             leaves: 0,
+            peak: 0,
         }
     }
 }

@@ -2,7 +2,7 @@
 //! of the store as soon as a call has closed it.
 
 use crate::paper::*;
-use crate::walk::{open, Input, Next};
+use crate::walk::{open, Call, Input, Next};
 use crate::Store;
 use std::io::{self, Read, Write};
 
@@ -18,7 +18,11 @@ pub fn run<S: Store>(
     mut output: impl Write,
     mut errors: impl Write,
 ) -> io::Result<()> {
-    let (file, short) = closing_file::<S>(Input(input))?;
+    let input = Input {
+        bytes: input,
+        damages: false,
+    };
+    let (file, short) = closing_file::<S>(input)?;
     if let Some(file) = file {
         output.write_all(&file)?;
         return output.flush();
@@ -40,8 +44,8 @@ fn closing_file<S: Store>(mut input: Input<impl Read>) -> io::Result<(Option<Vec
     }
     let numbers = tape_length(structure, size);
     loop {
-        let (ticket, tape) = match input.call(numbers)? {
-            Next::Call(ticket, tape) => (ticket, tape),
+        let Call { ticket, tape, .. } = match input.call(numbers)? {
+            Next::Call(call) => call,
             Next::Short => return Ok((None, true)),
             Next::End => return Ok((None, false)),
         };

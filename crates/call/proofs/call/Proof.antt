@@ -22,7 +22,7 @@ use Rattle.call.proofs.call.Tie as tie
 use Rattle.call.proofs.call.Reads as reads
 use Rattle.call.proofs.call.Lts as lts
 use Rattle.call_core.proofs.call_words.Reads as call-words-reads
-use Rattle.stash.proofs.places.greater.Reads as greater-reads
+use Rattle.round_close.proofs.greater.Reads as greater-reads
 use Rattle.stash.proofs.places.load_place.Reads as load-place-reads
 use Rattle.stash.proofs.places.saved_place.Reads as saved-place-reads
 use Rattle.fitness.proofs.head_refusal.Reads as head-refusal-reads
@@ -68,7 +68,7 @@ sized c = sym (length-map (c .args .t1 .places) _) ∙ (c .good .0 .1 .1 .1 .1 .
 
 -- A place does not fit: refused.
 unfit : (c : tie.Else1 Inv-loop μ-loop Inv-loop2 μ-loop2 Inv-loop3 μ-loop3) → placesFit (c .before .before .before .before .before .before .before .before .args .t1) ≡ false
-    → (let a = c .before .before .before .before .before .before .before .before .args in endedAs (record { state = a .t1; reply = Refused 2; leaves = 0 }) (a .tree .now) (a .trace .now) ≡ called (a .t1) (a .tree .now) (a .ticket .now) (a .tape .now) (a .trace .now))
+    → (let a = c .before .before .before .before .before .before .before .before .args in endedAs (record { state = a .t1; reply = Refused 2; leaves = 0; peak = 0 }) (a .tree .now) (a .trace .now) ≡ called (a .t1) (a .tree .now) (a .ticket .now) (a .tape .now) (a .trace .now))
 unfit c e =
     let a = c .before .before .before .before .before .before .before .before .args in
     refuses (a .t1) (a .tree .now) (a .ticket .now) (a .tape .now) (a .trace .now) refl (refused-2 (a .t1) (a .tree .now) (a .ticket .now) (a .tape .now) (a .trace .now) (unmarked c) (fit-by-places (a .t1) (fit-head c) e))
@@ -95,7 +95,7 @@ returns c =
     let a = c .before .before .before .before .before .before .before .before .args in
     let h = c .before .head-refusal in
     refuses (a .t1) (a .tree .now) (a .ticket .now) (a .tape .now) (a .trace .now)
-    (ap (λ (n : ℕ). record { state = a .t1; reply = Refused n; leaves = 0 }) (h .ensures))
+    (ap (λ (n : ℕ). record { state = a .t1; reply = Refused n; leaves = 0; peak = 0 }) (h .ensures))
     (head-refused (a .t1) (a .tree .now) (a .ticket .now) (a .tape .now) (a .trace .now) (λ e. omega (arith, e, h .ensures, c .if1 .taken)))
 
 cast-size : tie.Need-cast-size Inv-loop μ-loop Inv-loop2 μ-loop2 Inv-loop3 μ-loop3

@@ -47,6 +47,9 @@ add-leaves c =
     let s = c .before .before .before .before .before .before .before .before .before .before .before .before .before .before .before .before .before .before .before .before .before .before .before .before in
     omega (arith, c .before .before .before .before .before .before .before .put-rounds .ensures .no-more, s .pre .0 .few-rounds)
 
+greater-requires : tie.Need-greater-requires
+greater-requires c κs = search needs
+
 same-length : tie.Need-same-length
 same-length c = search needs
 
@@ -55,13 +58,13 @@ same-length-2 c = search needs
 
 returns : tie.Need-returns
 returns c =
-    let s = c .before .before .before .before .before .before .before .before .before .before .before .before .before .before .before .before .before .before .before .before .before .before .before .before in
+    let s = c .before .before .before .before .before .before .before .before .before .before .before .before .before .before .before .before .before .before .before .before .before .before .before .before .before in
     let a = s .args in
-    let p = c .before .before .before .before .before .before .before in
-    let ahead = c .before .before .before .before .before .before .before .before .before .before .before .before .before .before .before .before in
+    let p = c .before .before .before .before .before .before .before .before in
+    let ahead = c .before .before .before .before .before .before .before .before .before .before .before .before .before .before .before .before .before in
     let step = ahead .before .step-of in
     finish-ends (a .job) (drawOf (a .job .size) (a .tape .now)) (a .f) (heldIn (a .held .now) (a .f .count)) (a .trace .now) (s .pre .0) (s .pre .1 .1 .1) (step .result) _ (step .ensures .0)
-    (ahead .ahead-after .result) (ahead .ahead-after .ensures) (c .before .before .before .before .before .before .before .before .before .before .before .before .join-nodes .ensures) (p .put-rounds .ensures) (c .before .before .reply-after .ensures)
+    (ahead .ahead-after .result) (ahead .ahead-after .ensures) (c .before .before .before .before .before .before .before .before .before .before .before .before .before .join-nodes .ensures) (p .put-rounds .ensures) (c .greater .ensures) (c .before .before .before .reply-after .ensures)
 
 pub finish-spec : {M : Type 1} → statement M
 finish-spec =
@@ -73,6 +76,7 @@ finish-spec =
     put-rounds-requires
     reply-after-requires
     add-leaves
+    greater-requires
     same-length
     same-length-2
     returns)

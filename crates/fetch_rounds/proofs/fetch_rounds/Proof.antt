@@ -40,7 +40,7 @@ module _ (c : tie.After-struct-known2) where
   no-mark : f .mark ≡ 0
   no-mark = omega (arith, c .before .if1 .left)
 
-  abbrev inv : Walked job draw (start .args .n) (start .args .w .now) (start .args .tree .now) (start .args .trace .now) (heldIn (walked .want-rounds .last .1 .1 .1 .1 .1 .0) (f .count)) (walked .want-rounds .last .1 .1 .1 .1 .1 .1 .0) (f .waiting)
+  abbrev inv : Walked job draw (start .args .n) (start .args .w .now) (start .args .tree .now) (start .args .trace .now) (heldIn (walked .want-rounds .last .1 .1 .1 .1 .1 .0) (f .count)) (walked .want-rounds .last .1 .1 .1 .1 .1 .1 .0) (f .waiting) (f .peak)
       (walked .want-rounds .last .1 .0) (walked .want-rounds .last .1 .1 .1 .0) (walked .want-rounds .last .1 .1 .1 .1 .0) (walked .want-rounds .last .1 .1 .1 .1 .1 .1 .1 .1 .0) (walked .want-rounds .last .1 .1 .1 .1 .1 .1 .1 .1 .1 .1 .0)
   inv = walked .want-rounds .ensures .0 .goes no-mark
 
@@ -89,6 +89,9 @@ idle-rounds-requires c κs =
 add-f : tie.Need-add-f
 add-f c = search needs
 
+greater-requires : tie.Need-greater-requires
+greater-requires c κs = search needs
+
 same-length-4 : tie.Need-same-length-4
 same-length-4 c = search needs
 
@@ -100,10 +103,10 @@ same-length-6 c = search needs
 
 returns-2 : tie.Need-returns-2
 returns-2 c =
-    let k = c .before .before .before .before .before .before .before .before .before .before .before .before in
+    let k = c .before .before .before .before .before .before .before .before .before .before .before .before .before in
     let s = start k in (
       rest-fetched (job k) (draw k) (is-leaf k) (s .pre .0) (s .args .trace .now) (inv k) (walked k .want-rounds .ensures .0 .finished (no-mark k)) (omega (arith, s .pre .1 .1 .1 .1 .1))
-          (c .before .before .before .before .before .idle-rounds .ensures),
+          (c .greater .ensures) (c .before .before .before .before .before .before .idle-rounds .ensures),
       walked k .want-rounds .ensures .1,
     )
 
@@ -122,6 +125,7 @@ fetch-rounds-spec =
     part-idle-rounds-end
     idle-rounds-requires
     add-f
+    greater-requires
     same-length-4
     same-length-5
     same-length-6

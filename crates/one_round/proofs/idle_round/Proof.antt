@@ -33,8 +33,8 @@ settle-requires c κs =
       look .ensures .1 good,
     )
 
-mark-at-close-requires : tie.Need-mark-at-close-requires
-mark-at-close-requires c κs = search needs
+close-of-requires : tie.Need-close-of-requires
+close-of-requires c κs = search needs
 
 same-length-2 : tie.Need-same-length-2
 same-length-2 c = search needs
@@ -44,8 +44,8 @@ returns-2 c =
     let b = c .before .before .before .before .before .before .before .before .before .before .before .before .before .before .before .before .before in
     let look = c .before .before .before .before .before .before .before .before .before .before .look in
     let settle = c .before .before .before .settle in
-    idle-goes (look .result) (b .pre) (look .ensures .0) (c .mark-at-close .result)
-    (not-false (look .result .ok) (c .before .before .before .before .before .before .before .before .if1 .left)) (settle .ensures) (c .mark-at-close .ensures)
+    idle-goes (look .result) (b .pre) (look .ensures .0) (c .close-of .result)
+    (not-false (look .result .ok) (c .before .before .before .before .before .before .before .before .if1 .left)) (settle .ensures) (c .close-of .ensures)
 
 pub idle-round-spec : {M : Type 1} → statement M
 idle-round-spec =
@@ -55,6 +55,6 @@ idle-round-spec =
     same-length
     returns
     settle-requires
-    mark-at-close-requires
+    close-of-requires
     same-length-2
     returns-2)

@@ -50,13 +50,13 @@ settle-requires c κs =
       look .ensures .1 good,
     )
 
-add-mark-at-close : tie.Need-add-mark-at-close
-add-mark-at-close c =
+add-close-of : tie.Need-add-close-of
+add-close-of c =
     let b = c .before .before .before .before .before .before .before .before .before .before .before .before .before .before .before .before .before .before .before .before .before in
     omega (arith, b .pre .few)
 
-mark-at-close-requires : tie.Need-mark-at-close-requires
-mark-at-close-requires c κs =
+close-of-requires : tie.Need-close-of-requires
+close-of-requires c κs =
     let b = c .before .before .before .before .before .before .before .before .before .before .before .before .before .before .before .before .before .before .before .before .before in
     let look = c .before .before .before .before .before .before .before .before .before .before .before .before .look in
     omega (arith, c .before .before .settle .ensures .fewer, look .ensures .0 .within, b .pre .few, b .pre .small)
@@ -72,9 +72,9 @@ returns-3 c =
     let passes = c .before .before .before .before .before .before .before .before .before .passes in
     let settle = c .before .before .before .settle in
     want-goes (a .structure) (a .entries) (a .want) (look .result) (b .pre) (look .ensures .0)
-    (not-false (look .result .ok) (c .before .before .before .before .before .before .before .before .before .before .if1 .left)) (c .mark-at-close .result)
+    (not-false (look .result .ok) (c .before .before .before .before .before .before .before .before .before .before .if1 .left)) (c .close-of .result)
     (sym (passes .ensures) ∙ not-false (passes .result) (c .before .before .before .before .before .before .before .before .if2 .left)) (settle .ensures)
-    (c .mark-at-close .ensures)
+    (c .close-of .ensures)
 
 pub want-round-spec : {M : Type 1} → statement M
 want-round-spec =
@@ -88,7 +88,7 @@ want-round-spec =
     same-length-2
     returns-2
     settle-requires
-    add-mark-at-close
-    mark-at-close-requires
+    add-close-of
+    close-of-requires
     same-length-3
     returns-3)

@@ -2,7 +2,7 @@ use mathlib.Core.Path.{_≡_, refl, sym, _∙_, ap}
 use mathlib.Core.Bool.{true}
 use mathlib.Core.List.{List}
 use mathlib.Core.Option.{none, some}
-use Prim.Native.Nat.{ℕ, _+_, _-_, _^_, _≤_, _<_}
+use Prim.Native.Nat.{ℕ, max, _+_, _-_, _^_, _≤_, _<_}
 use native.Mathlib.Nat.{sub-zero}
 use lib.ListN.{length, take, length-set}
 use borrow.Author.Tests.{not-true, not-false}
@@ -35,11 +35,11 @@ use Rattle.want_rounds.proofs.came_to.Reads as came-to-reads
 use Rattle.structures.proofs.wanted.Reads as wanted-reads
 
 abbrev Inv-loop : tie.InvT-loop
-Inv-loop job w₀ n s₀ tree₀ held₀ froms₀ made₀ keys₀ tape trace₀ op root spares count₀ waiting₀ w s tree held froms made keys trace count waiting =
-    Walked job (drawOf (job .size) tape) n w₀ tree₀ trace₀ (heldIn held count) froms waiting w s tree keys trace × RowsSized held made
+Inv-loop job w₀ n s₀ tree₀ held₀ froms₀ made₀ keys₀ tape trace₀ op root spares count₀ waiting₀ peak₀ w s tree held froms made keys trace count waiting peak =
+    Walked job (drawOf (job .size) tape) n w₀ tree₀ trace₀ (heldIn held count) froms waiting peak w s tree keys trace × RowsSized held made
 
 abbrev μ-loop : tie.MeasureT-loop
-μ-loop job w₀ n s₀ tree₀ held₀ froms₀ made₀ keys₀ tape trace₀ op root spares count₀ waiting₀ w s tree held froms made keys trace count waiting = job .rounds - count
+μ-loop job w₀ n s₀ tree₀ held₀ froms₀ made₀ keys₀ tape trace₀ op root spares count₀ waiting₀ peak₀ w s tree held froms made keys trace count waiting peak = job .rounds - count
 
 -- ---- at the loop
 module _ (c : tie.At-loop Inv-loop μ-loop) where
@@ -110,13 +110,16 @@ module _ (c : tie.After-want-round Inv-loop μ-loop) where
 -- ---- once the new tag is drawn
 module _ (c : tie.After-draw-at Inv-loop μ-loop) where
   abbrev rounded : tie.After-want-round Inv-loop μ-loop
-  rounded = c .before .before .before .before .before .before
+  rounded = c .before .before .before .before .before .before .before
 
   abbrev took : tie.After-link Inv-loop μ-loop
   took = linked rounded
 
   place : looped took .loop .count < 33
   place = omega (arith, more took, most (looped took))
+
+  raised : c .before .before .before .before .greater .result ≡ max (looped took .loop .peak) (rounded .want-round .result .count)
+  raised = c .before .before .before .before .greater .ensures
 
   taken : rounded .want-round .result .taken ≡ true
   taken = not-false (rounded .want-round .result .taken) (c .before .before .if2 .left)
@@ -186,35 +189,38 @@ want-round-requires c κs =
     let l = looped k in
     rw (sub-zero (l .loop .count)) (want-ready (job l) (draw l) (is-leaf l) (start l .pre .0) (start l .args .trace .now) (l .loop .inv .0) (want k) (asked k))
 
+greater-requires : tie.Need-greater-requires Inv-loop μ-loop
+greater-requires c κs = search needs
+
 add-came-to : tie.Need-add-came-to Inv-loop μ-loop
-add-came-to c = omega (arith, few (looped (linked (c .before .before .before .before))))
+add-came-to c = omega (arith, few (looped (linked (c .before .before .before .before .before))))
 
 came-to-requires-2 : tie.Need-came-to-requires-2 Inv-loop μ-loop
 came-to-requires-2 c κs = search needs
 
 same-length-4 : tie.Need-same-length-4 Inv-loop μ-loop
-same-length-4 c = search (needs, tree-kept (looped (linked (c .before .before .before .before .before))))
+same-length-4 c = search (needs, tree-kept (looped (linked (c .before .before .before .before .before .before))))
 
 same-length-5 : tie.Need-same-length-5 Inv-loop μ-loop
-same-length-5 c = keys-kept (looped (linked (c .before .before .before .before .before)))
+same-length-5 c = keys-kept (looped (linked (c .before .before .before .before .before .before)))
 
 same-length-6 : tie.Need-same-length-6 Inv-loop μ-loop
-same-length-6 c = simp length-set (looped (linked (c .before .before .before .before .before)) .loop .inv .0 .trace-sized)
+same-length-6 c = simp length-set (looped (linked (c .before .before .before .before .before .before)) .loop .inv .0 .trace-sized)
 
 returns-2 : tie.Need-returns-2 Inv-loop μ-loop
 returns-2 c =
-    let a = c .before .before .before .before .before in
+    let a = c .before .before .before .before .before .before in
     let k = linked a in
     let l = looped k in (
       rw (c .came-to2 .ensures)
-          (walks-damaged (job l) (draw l) (is-leaf l) (start l .pre .0) (start l .args .trace .now) (l .loop .inv .0) (want k) (asked k) (more k) (round a) (room k) refl
+          (walks-damaged (job l) (draw l) (is-leaf l) (start l .pre .0) (start l .args .trace .now) (l .loop .inv .0) (want k) (asked k) (more k) (round a) (room k) (c .before .before .before .greater .ensures) refl
           (not-true (a .want-round .result .taken) (c .before .if2 .taken))),
       (l .loop .inv .1 .0, made-sized k),
     )
 
 draw-at-requires : tie.Need-draw-at-requires Inv-loop μ-loop
 draw-at-requires c κs =
-    let k = linked (c .before .before .before .before .before) in
+    let k = linked (c .before .before .before .before .before .before) in
     let l = looped k in
     (omega (arith, more k, start l .pre .1 .1 .1 .1 .0), start l .pre .0 .small)
 
@@ -264,7 +270,7 @@ returns-3 c =
     let k = took d in
     let l = looped k in (
       rw (c .came-to3 .ensures)
-          (walks-overflow (job l) (draw l) (is-leaf l) (start l .pre .0) (start l .args .trace .now) (l .loop .inv .0) (want k) (asked k) (more k) (round (rounded d)) (room k) (c .before .before .before .word-of .result)
+          (walks-overflow (job l) (draw l) (is-leaf l) (start l .pre .0) (start l .args .trace .now) (l .loop .inv .0) (want k) (asked k) (more k) (round (rounded d)) (room k) (raised d) (c .before .before .before .word-of .result)
           (ap (λ (ns : List node.Node). record { nodes = ns; count = l .loop .count + 1 }) (h .set-node .ensures .0)) refl (d .draw-at .ensures .0) (c .before .before .before .word-of .ensures) (taken d) refl (λ e. omega (arith, e, c .before .if3 .taken))),
       (h .set-node .ensures .1, made-sized k),
     )
@@ -278,7 +284,7 @@ loop-again c =
     let d = drawn h in
     let k = took d in
     let l = looped k in (
-      walked-next (job l) (draw l) (is-leaf l) (start l .pre .0) (start l .args .trace .now) (l .loop .inv .0) (want k) (asked k) (more k) (round (rounded d)) (room k) (c .before .before .word-of .result)
+      walked-next (job l) (draw l) (is-leaf l) (start l .pre .0) (start l .args .trace .now) (l .loop .inv .0) (want k) (asked k) (more k) (round (rounded d)) (room k) (raised d) (c .before .before .word-of .result)
           (ap (λ (ns : List node.Node). record { nodes = ns; count = l .loop .count + 1 }) (h .set-node .ensures .0)) refl (d .draw-at .ensures .0) (c .before .before .word-of .ensures) (taken d) (omega (arith, c .if3 .left)),
       (h .set-node .ensures .1, made-sized k),
     )
@@ -324,6 +330,7 @@ want-rounds-spec =
     part-want-round-start
     part-want-round-end
     want-round-requires
+    greater-requires
     add-came-to
     came-to-requires-2
     same-length-4

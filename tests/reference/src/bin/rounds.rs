@@ -31,7 +31,8 @@ fn main() {
         let (ticket, tape) = read_call(call, tape_length(structure, size));
         let mut trace = vec![0; 2 * fetch_rounds(structure, size)];
         let outcome = plain::call(&mut state, &mut tree, &ticket, &tape, &mut trace);
-        println!("{call}\n  {}", walk::line(outcome, &trace));
+        let line = walk::answer_line(outcome, &trace[..outcome.leaves]);
+        print!("{call}\n  {line}  peak {}\n", outcome.peak);
         if !only_last || at + 1 == calls.len() {
             print_store(&state, &tree);
         }

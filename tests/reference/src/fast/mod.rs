@@ -39,12 +39,16 @@ pub fn call(
         _ => queue::call(&mut rounds, ticket),
     };
     rounds.end();
-    let leaves = rounds.leaves;
+    let Rounds { leaves, peak, .. } = rounds;
     let answer = result.unwrap_or_else(|cause| {
         state.mark = cause;
         Answer::Refused(cause)
     });
-    Outcome { answer, leaves }
+    Outcome {
+        answer,
+        leaves,
+        peak,
+    }
 }
 
 /// The causes 1 to 5, 17, 6 and 7, in order.

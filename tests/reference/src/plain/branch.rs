@@ -1,6 +1,7 @@
-//! What the steps of a heap and of a put and the calls of a queue can meet, for
-//! the random runs to count.
+//! What the steps of a heap, of a put and of a queue can meet, and what damage
+//! a round can find, for the random runs to count.
 
+use crate::paper::{HEAP, MAP, QUEUE, STACK};
 use Branch::*;
 
 #[derive(Clone, Copy, Debug, PartialEq, Eq)]
@@ -42,16 +43,37 @@ pub enum Branch {
     OutOfEmptied,
     OutOfLast,
     OutBeforeOthers,
-    OverflowInFetch,
-    OverflowInPut,
+    BadSlot,
+    KeyTwice,
+    WantedMissing,
+    WantedTag,
+    /// Of a structure.
+    WantedUnsound(u8),
 }
 
-/// The branches in groups, all with their names.
-pub const BRANCHES: [(&str, &[(Branch, &str)]); 3] = [
+/// Branches in groups, all with their names.
+pub type Groups = [(&'static str, &'static [(Branch, &'static str)])];
+
+pub const STEPS: &Groups = &[
     ("branches of the heap", &OF_THE_HEAP),
     ("branches of a put", &OF_A_PUT),
     ("branches of the queue", &OF_THE_QUEUE),
 ];
+pub const DAMAGE_FOUND: &Groups = &[("damage found", &OF_DAMAGE)];
+
+impl Branch {
+    /// Its group and its name.
+    pub fn name(self) -> (&'static str, &'static str) {
+        let named = STEPS
+            .iter()
+            .chain(DAMAGE_FOUND)
+            .find_map(|(group, branches)| {
+                let found = branches.iter().find(|(branch, _)| *branch == self);
+                found.map(|(_, name)| (*group, *name))
+            });
+        named.expect("each is in a group")
+    }
+}
 
 const OF_THE_HEAP: [(Branch, &str); 20] = [
     (AddToEmpty, "add to an empty heap"),
@@ -88,7 +110,7 @@ const OF_A_PUT: [(Branch, &str); 9] = [
     (FullReplacesInSizeOne, "replaced on a full map of size 1"),
 ];
 
-const OF_THE_QUEUE: [(Branch, &str); 10] = [
+const OF_THE_QUEUE: [(Branch, &str); 8] = [
     (InToFresh, "in on a fresh queue"),
     (InAfterEmptied, "in on an emptied queue"),
     (InBehindOthers, "in behind others"),
@@ -97,6 +119,24 @@ const OF_THE_QUEUE: [(Branch, &str); 10] = [
     (OutOfEmptied, "out on an emptied queue"),
     (OutOfLast, "out of the last one"),
     (OutBeforeOthers, "out with others left"),
-    (OverflowInFetch, "overflow in a fetch round"),
-    (OverflowInPut, "overflow in a put round"),
+];
+
+const OF_DAMAGE: [(Branch, &str); 8] = [
+    (BadSlot, "a bad slot"),
+    (KeyTwice, "a key twice"),
+    (WantedMissing, "a wanted node missing"),
+    (WantedTag, "a wanted node with another tag"),
+    (WantedUnsound(MAP), "a wanted node that fails a map's tests"),
+    (
+        WantedUnsound(STACK),
+        "a wanted node that fails a stack's tests",
+    ),
+    (
+        WantedUnsound(HEAP),
+        "a wanted node that fails a heap's tests",
+    ),
+    (
+        WantedUnsound(QUEUE),
+        "a wanted node that fails a queue's tests",
+    ),
 ];

@@ -10,7 +10,7 @@ mod slot;
 mod stack;
 mod state;
 
-pub use branch::{Branch, BRANCHES};
+pub use branch::{Branch, Groups, DAMAGE_FOUND, STEPS};
 pub use read_out::read_out;
 pub use slot::{passes, path, read_slot, write_slot, Node, Reading, Side};
 pub use state::{open, State};
@@ -26,20 +26,32 @@ pub fn call(
     tape: &[u16],
     trace: &mut [u16],
 ) -> Outcome {
-    call_with_branches(state, tree, ticket, tape, trace).0
+    call_and_met(state, tree, ticket, tape, trace).0
 }
 
-/// A call, and what a put, a heap or a queue met in it.
-pub fn call_with_branches(
+/// What a call met, for the random runs to count.
+#[derive(Default)]
+pub struct Met {
+    /// Of the steps of a put, a heap and a queue alone; and the damage found.
+    pub branches: Vec<Branch>,
+    /// How many nodes waited before the first round.
+    pub waiting: usize,
+    /// How many nodes waited or were held at each round's close.
+    pub closes: Vec<usize>,
+}
+
+/// A call, and what it met.
+pub fn call_and_met(
     state: &mut State,
     tree: &mut [u8],
     ticket: &[u8],
     tape: &[u16],
     trace: &mut [u16],
-) -> (Outcome, Vec<Branch>) {
+) -> (Outcome, Met) {
     if let Some(cause) = refusal(state, tree, ticket, tape, trace) {
-        return (Outcome::refused(cause), vec![]);
+        return (Outcome::refused(cause), Met::default());
     }
+    let waiting = state.count;
     let mut run = Run {
         structure: state.structure,
         size: state.size,
@@ -52,6 +64,7 @@ pub fn call_with_branches(
         tape,
         trace,
         leaves: 0,
+        closes: vec![],
         branches: vec![],
     };
     let result = run.rounds(Ticket::read(ticket));
@@ -65,8 +78,17 @@ pub fn call_with_branches(
         state.mark = cause;
         Answer::Refused(cause)
     });
-    let leaves = run.leaves;
-    (Outcome { answer, leaves }, run.branches)
+    let outcome = Outcome {
+        answer,
+        leaves: run.leaves,
+        peak: run.closes.iter().copied().max().unwrap_or(0),
+    };
+    let met = Met {
+        branches: run.branches,
+        waiting,
+        closes: run.closes,
+    };
+    (outcome, met)
 }
 
 /// The first of the causes 1 to 5, 17, 6 and 7 that holds.

@@ -53,7 +53,9 @@ pub struct Run<'a> {
     pub tape: &'a [u16],
     pub trace: &'a mut [u16],
     pub leaves: usize,
-    /// What the step met, and a queue's overflow.
+    /// The number waiting and held at each round's close.
+    pub closes: Vec<usize>,
+    /// What the step met, and the damage that a round found.
     pub branches: Vec<Branch>,
 }
 
@@ -102,10 +104,13 @@ impl Run<'_> {
         let at = pool
             .iter()
             .position(|node| node.key == link.key)
-            .ok_or(DAMAGE)?;
+            .ok_or_else(|| self.damage(Branch::WantedMissing))?;
         let mut node = pool.remove(at);
+        if node.tag != link.tag {
+            return Err(self.damage(Branch::WantedTag));
+        }
         if !self.wanted_is_sound(&way, link, &node) {
-            return Err(DAMAGE);
+            return Err(self.damage(Branch::WantedUnsound(self.structure)));
         }
         node.tag = draw;
         self.link_mut(&way).tag = draw;
@@ -136,14 +141,14 @@ impl Run<'_> {
     }
 
     /// The path's nodes together with those waiting, in key order.
-    fn read_path(&self, leaf: u16) -> Result<Vec<Node>, u8> {
+    fn read_path(&mut self, leaf: u16) -> Result<Vec<Node>, u8> {
         let mut pool = self.waiting.clone();
         for bucket in path(leaf, self.size) {
             for slot in self.tree[bucket_bytes(bucket)].chunks(SLOT_BYTES) {
                 match read_slot(slot, self.size, Some(bucket)) {
                     Reading::Node(node) => pool.push(node),
                     Reading::Empty => {}
-                    Reading::Bad => return Err(DAMAGE),
+                    Reading::Bad => return Err(self.damage(Branch::BadSlot)),
                 }
             }
         }
@@ -152,19 +157,24 @@ impl Run<'_> {
         keys.extend(self.held.iter().map(|held| held.node.key));
         keys.sort();
         if keys.windows(2).any(|pair| pair[0] == pair[1]) {
-            return Err(DAMAGE);
+            return Err(self.damage(Branch::KeyTwice));
         }
         Ok(pool)
     }
 
+    /// The tests of its structure.
     fn wanted_is_sound(&self, way: &[Side], link: Link, node: &Node) -> bool {
-        node.tag == link.tag
-            && match self.structure {
-                MAP => map::is_sound(node, link) && self.is_between(way, node.key),
-                STACK => stack::is_sound(node),
-                HEAP => heap::is_sound(node, self.entries),
-                _ => queue::is_sound(node),
-            }
+        match self.structure {
+            MAP => map::is_sound(node, link) && self.is_between(way, node.key),
+            STACK => stack::is_sound(node),
+            HEAP => heap::is_sound(node, self.entries),
+            _ => queue::is_sound(node),
+        }
+    }
+
+    fn damage(&mut self, found: Branch) -> u8 {
+        self.branches.push(found);
+        DAMAGE
     }
 
     /// Whether the key lies strictly between the keys passed on the way.
@@ -219,17 +229,15 @@ impl Run<'_> {
         self.waiting = pool;
     }
 
+    /// A round that overflows closes too.
     fn close_round(&mut self) -> Result<(), u8> {
-        if self.waiting.len() + self.held.len() <= WAITING_LIMIT {
-            return Ok(());
+        let number = self.waiting.len() + self.held.len();
+        self.closes.push(number);
+        if number <= WAITING_LIMIT {
+            Ok(())
+        } else {
+            Err(OVERFLOW)
         }
-        if self.structure == QUEUE {
-            self.branches.push(match self.leaves {
-                1 => Branch::OverflowInFetch,
-                _ => Branch::OverflowInPut,
-            });
-        }
-        Err(OVERFLOW)
     }
 
     /// More nodes wait; one whose key waits already stands second.

@@ -1,4 +1,4 @@
-use mathlib.Core.Path.{refl}
+use mathlib.Core.Path.{refl, _∙_}
 use Rattle.call_core.specs.RunLaws.{run-shuts, run-ends-shut, run-finishes, run-ends-finished}
 use borrow.Author.Needs.{needs}
 use native.Mathlib.Omega.{arith}
@@ -44,7 +44,7 @@ finish-requires c κs =
     (run-finishes ok (f .0) (omega (arith, c .before .before .before .before .before .before .before .if1 .left)), (f .1, (ok .tape-long, omega (arith, ok .trace-long, f .0 .trace-sized))))
 
 same-length-3 : tie.Need-same-length-3
-same-length-3 c = search needs
+same-length-3 c = c .before .before .before .tree2 .given ∙ c .before .before .before .before .before .before .before .before .before .before .before .before .before .before .before .before .before .before .tree .given
 
 same-length-4 : tie.Need-same-length-4
 same-length-4 c = search needs

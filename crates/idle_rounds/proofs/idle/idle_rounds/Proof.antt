@@ -13,11 +13,11 @@ use Rattle.one_round.proofs.idle_round.Reads as idle-round-reads
 use Rattle.idle_rounds.proofs.idle.draw_at.Reads as draw-at-reads
 
 abbrev Inv-loop : tie.InvT-loop
-Inv-loop w₀ n s₀ tree₀ size held tape first count trace₀ at waiting₀ i₀ w s tree trace waiting i =
-    Idling size n (drawOf size (tape)) count first at (w₀) (tree₀) (trace₀) (held) i waiting (w) (s) (tree) (trace)
+Inv-loop w₀ n s₀ tree₀ size held tape first count trace₀ at waiting₀ peak₀ i₀ w s tree trace waiting peak i =
+    Idling size n (drawOf size (tape)) count first at (w₀) (tree₀) (trace₀) (held) i waiting peak (w) (s) (tree) (trace)
 
 abbrev μ-loop : tie.MeasureT-loop
-μ-loop w₀ n s₀ tree₀ size held tape first count trace₀ at waiting₀ i₀ w s tree trace waiting i = count - i
+μ-loop w₀ n s₀ tree₀ size held tape first count trace₀ at waiting₀ peak₀ i₀ w s tree trace waiting peak i = count - i
 
 loop-holds : tie.Need-loop-holds Inv-loop μ-loop
 loop-holds c =
@@ -49,23 +49,26 @@ slice-write-trace c =
 idle-round-requires : tie.Need-idle-round-requires Inv-loop μ-loop
 idle-round-requires c κs = between-ready (c .before .before .before .before .before .loop .inv .between) (c .before .before .before .draw-at .result) (c .before .before .before .draw-at .ensures .1 .0)
 
-add-t25 : tie.Need-add-t25 Inv-loop μ-loop
-add-t25 c = search needs
+greater-requires : tie.Need-greater-requires Inv-loop μ-loop
+greater-requires c κs = search needs
+
+add-t26 : tie.Need-add-t26 Inv-loop μ-loop
+add-t26 c = search needs
 
 same-length : tie.Need-same-length Inv-loop μ-loop
 same-length c = search needs
 
 same-length-2 : tie.Need-same-length-2 Inv-loop μ-loop
 same-length-2 c =
-    let s = c .before .before .before .before .before .before .before .before .before .before .before .before .before .before .before in
+    let s = c .before .before .before .before .before .before .before .before .before .before .before .before .before .before .before .before in
     let a = s .args in
-    length-set (c .before .before .before .before .before .before .before .before .before .before .loop .trace) (a .at + c .before .before .before .before .before .before .before .before .before .before .loop .i) (c .before .before .before .before .before .before .before .before .draw-at .result) ∙ idling-sized (a .size) (a .n) (drawOf (a .size) (a .tape .now)) (a .count) (a .first) (a .at) (a .w .now) (a .tree .now) (a .trace .now) (a .held .now) (c .before .before .before .before .before .before .before .before .before .before .loop .inv)
+    length-set (c .before .before .before .before .before .before .before .before .before .before .before .loop .trace) (a .at + c .before .before .before .before .before .before .before .before .before .before .before .loop .i) (c .before .before .before .before .before .before .before .before .before .draw-at .result) ∙ idling-sized (a .size) (a .n) (drawOf (a .size) (a .tape .now)) (a .count) (a .first) (a .at) (a .w .now) (a .tree .now) (a .trace .now) (a .held .now) (c .before .before .before .before .before .before .before .before .before .before .before .loop .inv)
 
 returns : tie.Need-returns Inv-loop μ-loop
 returns c =
-    let s = c .before .before .before .before .before .before .before .before .before .before .before .before .before .before .before in
+    let s = c .before .before .before .before .before .before .before .before .before .before .before .before .before .before .before .before in
     let a = s .args in
-    idling-shuts (a .size) (a .n) (drawOf (a .size) (a .tape .now)) (a .count) (a .first) (a .at) (a .w .now) (a .tree .now) (a .trace .now) (a .held .now) (c .before .before .before .before .before .before .before .before .before .before .loop .inv) (omega arith) (c .before .before .before .before .before .before .before .before .draw-at .ensures .0) (c .before .before .before .before .before .before .before .before .draw-at .ensures .1 .0) refl (c .before .before .before .before .idle-round .ensures) (λ e. omega (arith, e, c .if1 .taken))
+    idling-shuts (a .size) (a .n) (drawOf (a .size) (a .tape .now)) (a .count) (a .first) (a .at) (a .w .now) (a .tree .now) (a .trace .now) (a .held .now) (c .before .before .before .before .before .before .before .before .before .before .before .loop .inv) (omega arith) (c .before .before .before .before .before .before .before .before .before .draw-at .ensures .0) (c .before .before .before .before .before .before .before .before .before .draw-at .ensures .1 .0) refl (c .before .before .before .before .before .idle-round .ensures) (c .before .before .greater .ensures) (λ e. omega (arith, e, c .if1 .taken))
 
 add-i : tie.Need-add-i Inv-loop μ-loop
 add-i c = search needs
@@ -75,9 +78,9 @@ loop-less c = search needs
 
 loop-again : tie.Need-loop-again Inv-loop μ-loop
 loop-again c =
-    let s = c .before .before .before .before .before .before .before .before .before .before .before .before .before .before .before in
+    let s = c .before .before .before .before .before .before .before .before .before .before .before .before .before .before .before .before in
     let a = s .args in
-    idling-goes (a .size) (a .n) (drawOf (a .size) (a .tape .now)) (a .count) (a .first) (a .at) (a .w .now) (a .tree .now) (a .trace .now) (a .held .now) (c .before .before .before .before .before .before .before .before .before .before .loop .inv) (omega arith) (c .before .before .before .before .before .before .before .before .draw-at .ensures .0) (c .before .before .before .before .before .before .before .before .draw-at .ensures .1 .0) refl (c .before .before .before .before .idle-round .ensures) (omega (arith, c .if1 .left))
+    idling-goes (a .size) (a .n) (drawOf (a .size) (a .tape .now)) (a .count) (a .first) (a .at) (a .w .now) (a .tree .now) (a .trace .now) (a .held .now) (c .before .before .before .before .before .before .before .before .before .before .before .loop .inv) (omega arith) (c .before .before .before .before .before .before .before .before .before .draw-at .ensures .0) (c .before .before .before .before .before .before .before .before .before .draw-at .ensures .1 .0) refl (c .before .before .before .before .before .idle-round .ensures) (c .before .before .greater .ensures) (omega (arith, c .if1 .left))
 
 same-length-3 : tie.Need-same-length-3 Inv-loop μ-loop
 same-length-3 c = search needs
@@ -108,7 +111,8 @@ idle-rounds-spec =
     mul-trace
     slice-write-trace
     idle-round-requires
-    add-t25
+    greater-requires
+    add-t26
     same-length
     same-length-2
     returns

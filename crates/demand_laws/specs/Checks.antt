@@ -15,6 +15,7 @@ use Rattle.method_spec.specs.Answer.{Structure, Op}
 use Rattle.method_spec.specs.Rounds.{rounds, draws}
 use Rattle.bucket_call_spec.specs.Fetch.{Left}
 use Rattle.bucket_call_spec.specs.Call.{drawOf, bucketCall}
+use Rattle.bucket_call_spec.specs.Peak.{callPeak}
 use Rattle.state_spec.specs.declared.State.{State}
 use Rattle.state_spec.specs.Fit.{fits}
 use Rattle.state_spec.specs.Ticket.{ticketLength, opIn, structureOf, outOfKeys}
@@ -34,6 +35,10 @@ module _ (st : Structure) (s : State) (tree ticket tape trace : List ℕ) where
   abbrev pub leftBy : Op st → Left
   leftBy op = bucketCall (s .size) (rounds st (s .size)) op (drawOf (s .size) tape) (storeOf s tree)
 
+  -- Their peak.
+  abbrev pub peakBy : Op st → ℕ
+  peakBy op = callPeak (s .size) (rounds st (s .size)) op (drawOf (s .size) tape) (storeOf s tree)
+
   -- What a call comes to: refusal 1, 2 or 3, one that what it brings decides, or, on a fit state and a tree of its size, the
   -- rounds, with a key for what it stores.
   pub data Verdict (e : Ended) : Type 0 where
@@ -42,7 +47,7 @@ module _ (st : Structure) (s : State) (tree ticket tape trace : List ℕ) where
     other-tree : (length tree ≡ treeLength (s .size) → ⊥) → e ≡ refusing 3 s tree trace → Verdict e
     ill-brought : (n : ℕ) → IllBrought n → e ≡ refusing n s tree trace → Verdict e
     counts : fits s ≡ true → length tree ≡ treeLength (s .size) → (op : Op st) → opIn st ticket ≡ some op
-        → outOfKeys op (s .ahead .key) ≡ false → e ≡ ending s trace (leftBy op) → Verdict e
+        → outOfKeys op (s .ahead .key) ≡ false → e ≡ ending s trace (leftBy op) (peakBy op) → Verdict e
 
   -- ---- the checks of what the call brings
 
@@ -50,7 +55,7 @@ module _ (st : Structure) (s : State) (tree ticket tape trace : List ℕ) where
     by-room : (op : Op st) → opIn st ticket ≡ some op → (gone short few : Bool) → outOfKeys op (s .ahead .key) ≡ gone
         → Verdict
         (pick gone (refusing 17 s tree trace)
-        (pick short (refusing 6 s tree trace) (pick few (refusing 7 s tree trace) (ending s trace (leftBy op)))))
+        (pick short (refusing 6 s tree trace) (pick few (refusing 7 s tree trace) (ending s trace (leftBy op) (peakBy op)))))
     by-room op e true short few g = ill-brought 17 (inr refl) refl
     by-room op e false true few g = ill-brought 6 (inl (omega arith, omega arith)) refl
     by-room op e false false true g = ill-brought 7 (inl (omega arith, omega arith)) refl

@@ -8,7 +8,7 @@ use mathlib.Core.List.{List, [], _∷_, _++_}
 use lib.ListN.{length, take, drop}
 use Rattle.method_spec.specs.Answer.{Answer, found, absent, replaced, new, removed, pushed, popped, added, taken, queued, dequeued, empty, full}
 use Rattle.bucket_call_spec.specs.Fetch.{Left}
-use Rattle.call_spec.specs.Store.{refusing, ending, replied, replyOf}
+use Rattle.call_spec.specs.Store.{stateLeft, refusing, ending, replied, replyOf}
 use Rattle.demand_spec.specs.History.{Brought, Kept, callOn, leftBy, history, finally, changesNothing, early, counted, replies, traceOf}
 use Rattle.demand_laws.specs.Marks.{Ends, closes, answers}
 use Rattle.demand_laws.specs.Refusals.{refused-closed}
@@ -70,14 +70,14 @@ first-part {A} (x ∷ xs) ys = ap {B = List A} (λ zs. x ∷ zs) (first-part xs 
 
 -- The store after a call whose rounds left that.
 abbrev pub next : Kept → Brought → Left → Kept
-next s b l = leftBy (ending (s .state) (b .trace) l)
+next s b l = record { state = stateLeft (s .state) l; tree = l .tree }
 
-module _ (s : Kept) (b : Brought) (bs : List Brought) (l : Left) (ends : Ends l) (e : callOn s b ≡ ending (s .state) (b .trace) l) where
+module _ (s : Kept) (b : Brought) (bs : List Brought) (l : Left) (ends : Ends l) {peak : ℕ} (e : callOn s b ≡ ending (s .state) (b .trace) l peak) where
   pub late-finally : finally s (b ∷ bs) ≡ finally (next s b l) bs
   unfolding finally
   late-finally = rw e
 
-  pub late-history : history s (b ∷ bs) ≡ ending (s .state) (b .trace) l ∷ history (next s b l) bs
+  pub late-history : history s (b ∷ bs) ≡ ending (s .state) (b .trace) l peak ∷ history (next s b l) bs
   unfolding history
   late-history = rw e
 

@@ -35,7 +35,7 @@ use Rattle.demand_laws.specs.Checks.{IllBrought, ill-changes}
 use Rattle.demand_laws.specs.OpenStates.{stateOf, keptOf}
 use Rattle.demand_laws.specs.HistorySteps.{Refuses, early-finally, early-history, early-counted, early-replies, early-trace, next, late-finally, late-history, late-counted, late-replies, late-trace, closed-finally, closed-counted, closed-replies, closed-trace}
 use Rattle.demand_laws.specs.SoundReplies.{Sound, Undamaged, early-sound, late-sound, reply-of-answer, closed-sound}
-use Rattle.demand_laws.specs.ListSteps.{leaving, Step, refused, runs, left-open, step}
+use Rattle.demand_laws.specs.ListSteps.{leaving, peaking, Step, refused, runs, left-open, step}
 
 -- ---- runs over buckets
 
@@ -132,7 +132,7 @@ module _ (st : Structure) (k : ℕ) where
         )
 
     module _ (op : Op st) (asks : opIn st (b .ticket) ≡ some op) (fits : OpFits op) (keyed : KeyLeft op (s .ahead .key))
-        (e : callOn here b ≡ ending (stateOf st k s) (b .trace) (leaving st k s b op)) where
+        (e : callOn here b ≡ ending (stateOf st k s) (b .trace) (leaving st k s b op) (peaking st k s b op)) where
       abbrev left : Left
       left = leaving st k s b op
 
@@ -159,7 +159,7 @@ module _ (st : Structure) (k : ℕ) where
             store = λ m. late-finally here b bs left ends e ∙ later .store m;
             sound =
                 subst (All Sound) (sym (late-history here b bs left ends e))
-                (all-cons {P = Sound} (late-sound here b left ends mark) (later .sound));
+                (all-cons {P = Sound} (late-sound here b left (peaking st k s b op) ends mark) (later .sound));
           }
 
       -- The list with that call first, from what the others brought that count.

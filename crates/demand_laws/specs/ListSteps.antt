@@ -13,6 +13,7 @@ use Rattle.method_spec.specs.Call.{capacity, Memory}
 use Rattle.method_laws.specs.Represented.{Held}
 use Rattle.bucket_call_spec.specs.Fetch.{Left}
 use Rattle.bucket_call_spec.specs.Call.{Store, drawOf, bucketCall}
+use Rattle.bucket_call_spec.specs.Peak.{callPeak}
 use Rattle.leaf_spec.specs.Entries.{OpFits, KeyLeft}
 use Rattle.bucket_call_spec.specs.Simulates.{Simulates}
 use Rattle.simulation_laws.specs.Relation as relation
@@ -36,10 +37,14 @@ module _ (st : Structure) (k : ℕ) where
   abbrev pub leaving : Store → Brought → Op st → Left
   leaving s b op = bucketCall k (rounds st k) op (drawOf k (b .tape)) s
 
+  -- Their peak.
+  abbrev pub peaking : Store → Brought → Op st → ℕ
+  peaking s b op = callPeak k (rounds st k) op (drawOf k (b .tape)) s
+
   pub data Step (s : Store) (b : Brought) : Type 0 where
     refused : (n : ℕ) → IllBrought n → Refuses (keptOf st k s) b n → Step s b
     runs : (op : Op st) → opIn st (b .ticket) ≡ some op → OpFits op → KeyLeft op (s .ahead .key)
-        → callOn (keptOf st k s) b ≡ ending (stateOf st k s) (b .trace) (leaving s b op) → Step s b
+        → callOn (keptOf st k s) b ≡ ending (stateOf st k s) (b .trace) (leaving s b op) (peaking s b op) → Step s b
 
   -- A call whose mark is 0 leaves the open state of the store that it leaves.
   pub left-open : (s : Store) (b : Brought) (l : Left) → l .mark ≡ 0
@@ -70,5 +75,5 @@ module _ (st : Structure) (k : ℕ) where
         go (counts fit sized op h keyed e) =
             runs op h (op-fits st (b .ticket) bytes op h) (key-left op (s .ahead .key) (sim .known .key) keyed)
             (e
-            ∙ ap (λ (x : Store). ending (stateOf st k s) (b .trace) (bucketCall k (rounds st k) op (drawOf k (b .tape)) x))
+            ∙ ap (λ (x : Store). ending (stateOf st k s) (b .trace) (leaving x b op) (peaking x b op))
             (store-back st k s))

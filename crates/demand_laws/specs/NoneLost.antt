@@ -33,7 +33,7 @@ use Rattle.fitness_laws.specs.Tickets.{op-fits, key-left}
 use Rattle.leaf_spec.specs.Entries.{pairOf}
 use Rattle.demand_spec.specs.History.{pairsIn}
 use Rattle.demand_laws.specs.Marks.{Closing}
-use Rattle.demand_laws.specs.Checks.{Verdict, closed, unfit, other-tree, ill-brought, counts, leftBy, verdict}
+use Rattle.demand_laws.specs.Checks.{Verdict, closed, unfit, other-tree, ill-brought, counts, leftBy, peakBy, verdict}
 use Rattle.demand_laws.specs.Refusals.{same-number}
 use Rattle.demand_laws.specs.OpenStates.{placed-back}
 use Rattle.demand_spec.specs.Demands.{NoneLost}
@@ -52,7 +52,7 @@ module _ (s : State) (tree ticket tape trace : List ℕ) where
     fit : fits s ≡ true
     sized : length tree ≡ treeLength (s .size)
     keyed : outOfKeys op (s .ahead .key) ≡ false
-    ends : called s tree ticket tape trace ≡ ending s trace (leftBy structure s tree ticket tape trace op)
+    ends : called s tree ticket tape trace ≡ ending s trace (leftBy structure s tree ticket tape trace op) (peakBy structure s tree ticket tape trace op)
 
   -- It is none of the refusals 1 to 7 and 17.
   not-early : {m n : ℕ} → (m ≤ 7) ⊎ (m ≡ 17) → Closing n → called s tree ticket tape trace ≡ refusing m s tree trace
@@ -84,7 +84,7 @@ module _ (s : State) (tree ticket tape trace : List ℕ) where
             fit = fit;
             sized = sized;
             keyed = ap (λ (x : Op structure). outOfKeys x (s .ahead .key)) (sym same) ∙ keyed;
-            ends = e ∙ ap (λ (x : Op structure). ending s trace (leftBy structure s tree ticket tape trace x)) same;
+            ends = e ∙ ap (λ (x : Op structure). ending s trace (leftBy structure s tree ticket tape trace x) (peakBy structure s tree ticket tape trace x)) same;
           }
 
   -- The pairs that the call leaves.

@@ -34,8 +34,8 @@ early-sound n (inr (inr h)) s b m r = let e = same-number r in omega arith
 abbrev pub Undamaged : Left → Type 0
 Undamaged l = (l .mark ≡ 0) ⊎ (l .mark ≡ 9)
 
-pub late-sound : (s : Kept) (b : Brought) (l : Left) → Ends l → Undamaged l → Sound (ending (s .state) (b .trace) l)
-late-sound s b l ends mark n r = go mark (counted-number l ends n r)
+pub late-sound : (s : Kept) (b : Brought) (l : Left) (peak : ℕ) → Ends l → Undamaged l → Sound (ending (s .state) (b .trace) l peak)
+late-sound s b l peak ends mark n r = go mark (counted-number l ends n r)
   where
     go : Undamaged l → (Closing n × (l .mark ≡ n)) ⊎ (n ≡ 10) → Neither n
     go (inl m) (inl x) = omega arith

@@ -41,7 +41,7 @@ use Rattle.demand_spec.specs.Demands.{openedStore, method, before, asked, left,
 use Rattle.demand_laws.specs.OpenStates.{stateOf, keptOf, store-back}
 use Rattle.demand_laws.specs.NoneLost.{pairs-left}
 use Rattle.demand_laws.specs.Fresh.{opened-empty}
-use Rattle.demand_laws.specs.ListSteps.{leaving, Step, refused, runs, step}
+use Rattle.demand_laws.specs.ListSteps.{leaving, peaking, Step, refused, runs, step}
 use Rattle.demand_laws.specs.OpenedRuns.{method-held, matches, left-store}
 
 -- ---- lists of calls
@@ -122,7 +122,7 @@ module _ (st : Structure) (k : ℕ) (s : Store) (m : Memory ℕ) (b : Brought) w
     pub asks : opIn st (b .ticket) ≡ some op
     pub fits : OpFits op
     pub keyed : KeyLeft op (s .ahead .key)
-    pub ends : callOn here b ≡ roundsEnd (stateOf st k s) (b .trace) (l op)
+    pub ends : callOn here b ≡ roundsEnd (stateOf st k s) (b .trace) (l op) (peaking st k s b op)
     pub overflow : Overflowed k m (came op s) (l op) (r op)
 
   -- The pairs that it left.
@@ -134,7 +134,7 @@ module _ (st : Structure) (k : ℕ) (s : Store) (m : Memory ℕ) (b : Brought) w
     pub overflows : Bytes (b .ticket) → (callOn here b .state .mark ≡ 0 → ⊥) → Overflows
     overflows bytes shut = go (step st k positive small s m sim t held b bytes)
       where
-        in-rounds : (op : Op st) → opIn st (b .ticket) ≡ some op → OpFits op → KeyLeft op (s .ahead .key) → callOn here b ≡ roundsEnd (stateOf st k s) (b .trace) (l op)
+        in-rounds : (op : Op st) → opIn st (b .ticket) ≡ some op → OpFits op → KeyLeft op (s .ahead .key) → callOn here b ≡ roundsEnd (stateOf st k s) (b .trace) (l op) (peaking st k s b op)
             → Overflowed k m (came op s) (l op) (r op) ⊎ Matches k (l op) (r op) → Overflows
         in-rounds op asks fits keyed e (inl x) = record { op = op; asks = asks; fits = fits; keyed = keyed; ends = e; overflow = x }
         in-rounds op asks fits keyed e (inr x) = absurd (shut (ap (λ (y : Ended). y .state .mark) e ∙ x .mark))

@@ -29,7 +29,7 @@ use Rattle.fitness_laws.specs.FitState.{fit-state}
 use Rattle.fitness_laws.specs.FitStores.{fit-store}
 use Rattle.fitness_laws.specs.Tickets.{op-fits}
 use Rattle.full_put_laws.specs.Earlier.{earlierPrograms, callWithPrograms, calledWith}
-use Rattle.full_put_laws.specs.FullPut.{fullPut, OnlyValue, same-call, only-value}
+use Rattle.full_put_laws.specs.FullPut.{fullPut, OnlyValue, same-call, same-peak, only-value, put-peak}
 
 -- ---- definitions
 -- The operation that a ticket asks is a put of a present key on a full map.
@@ -45,18 +45,23 @@ fullPutCall s tree ticket tape = presentOnFull s tree tape (structureOf (s .stru
 pub data AsksPut (key value : ℕ) : (st : Structure) → Option (Op st) → Type 0 where
   asks-put : AsksPut key value map (some (put key value))
 
--- The earlier call and this one: one refusal 1 to 7, which changes nothing; or they ended with what differs in the one value and the answer.
+-- The earlier call and this one: one refusal 1 to 7, which changes nothing; or they ended with what differs in the one value and the answer, and with
+-- the same peak.
 pub data Compares (s : State) (tree trace : List ℕ) (st : Structure) (o : Option (Op st)) : (earlier now : Ended) → Type 0 where
   both-refused : (m : ℕ) → m ≤ 7 → Compares s tree trace st o (refusing m s tree trace) (refusing m s tree trace)
-  other-value : (key value : ℕ) {earlier now : Left} → AsksPut key value st o → OnlyValue (s .size) key value earlier now
-      → Compares s tree trace st o (ending s trace earlier) (ending s trace now)
+  other-value : (key value : ℕ) {earlier now : Left} {before peak : ℕ} → AsksPut key value st o → OnlyValue (s .size) key value earlier now → peak ≡ before
+      → Compares s tree trace st o (ending s trace earlier before) (ending s trace now peak)
 
 -- ---- every other call
 with-same : (st : Structure) (s : State) (tree tape trace : List ℕ) (o : Option (Op st)) → presentOnFull s tree tape st o ≡ false
     → callWith st s tree tape trace o ≡ callWithPrograms earlierPrograms st s tree tape trace o
 unfolding callWith callWithPrograms presentOnFull
 with-same st s tree tape trace none e = refl
-with-same st s tree tape trace (some op) e = rw (same-call (s .size) (rounds st (s .size)) op (drawOf (s .size) tape) (storeOf s tree) e)
+with-same st s tree tape trace (some op) e =
+    rw (
+      same-call (s .size) (rounds st (s .size)) op (drawOf (s .size) tape) (storeOf s tree) e,
+      same-peak (s .size) (rounds st (s .size)) op (drawOf (s .size) tape) (storeOf s tree) e,
+    )
 
 -- A call is as it was, every byte, unless it is a put of a present key on a full map.
 pub as-before : (s : State) (tree ticket tape trace : List ℕ) → fullPutCall s tree ticket tape ≡ false
@@ -80,7 +85,8 @@ module _ (s : State) (tree tape trace : List ℕ) where
       refused-or (ltb (length tape) (draws map (s .size))) 6 (omega arith)
       (λ long. refused-or (ltb (length trace) (2 * rounds map (s .size))) 7 (omega arith)
       (λ room. other-value key value asks-put
-      (only-value (s .size) some-size small key value fits (drawOf (s .size) tape) (λ d. mod-lt _ (pow-pos (s .size))) (storeOf s tree) fit present)))
+      (only-value (s .size) some-size small key value fits (drawOf (s .size) tape) (λ d. mod-lt _ (pow-pos (s .size))) (storeOf s tree) fit present)
+      (put-peak (s .size) some-size small key value fits (drawOf (s .size) tape) (λ d. mod-lt _ (pow-pos (s .size))) (storeOf s tree) fit)))
   with-compares st (get key) fit fits some-size small present = let z : _≡_ {A = ℕ} 0 1 = cc in absurd (omega arith)
   with-compares st (remove key) fit fits some-size small present = let z : _≡_ {A = ℕ} 0 1 = cc in absurd (omega arith)
   with-compares st (push value) fit fits some-size small present = let z : _≡_ {A = ℕ} 0 1 = cc in absurd (omega arith)

@@ -16,7 +16,8 @@ use Rattle.method_spec.specs.Map.{Outcome, top, Spot, gap, hit, start, walk, cl
 use Rattle.method_spec.specs.Rounds.{rounds, draws}
 use Rattle.method_spec.specs.Call.{capacity, program, spareTags}
 use Rattle.bucket_call_spec.specs.Fetch.{Left, Round, fetchRounds}
-use Rattle.bucket_call_spec.specs.Call.{Store, aheadThen, afterFetches, drawOf, bucketCall}
+use Rattle.bucket_call_spec.specs.Call.{Store, begun, aheadThen, afterFetches, drawOf, bucketCall}
+use Rattle.bucket_call_spec.specs.Peak.{peakOf, roundsWith}
 use Rattle.state_spec.specs.declared.State.{State}
 use Rattle.state_spec.specs.Fit.{fits}
 use Rattle.state_spec.specs.Ticket.{ticketLength, opIn, structureOf, outOfKeys}
@@ -63,16 +64,21 @@ earlierPrograms s (enqueue value) spares limit entries a l = program 0 (enqueue 
 earlierPrograms s dequeue spares limit entries a l = program 0 dequeue spares limit entries a l
 
 module _ (programs : Programs) where
+  -- The call's program, as `programBy`.
+  abbrev pub programWith : {s : Structure} → (size rounds : ℕ) → Op s → (draw : ℕ → ℕ) → Store → Prog ℕ (Outcome ℕ)
+  programWith {s} k F op draw st = programs s op (spareTags F draw) (capacity k) (st .entries) (st .ahead) (st .root)
+
   -- Where the fetch rounds come to, as `fetchedBy` says it of the current programs.
   abbrev pub fetchedWith : {s : Structure} → (size rounds : ℕ) → Op s → (draw : ℕ → ℕ) → Store → Round (Outcome ℕ)
-  fetchedWith {s} k F op draw st =
-      fetchRounds s (st .entries) k draw F 0
-      (programs s op (spareTags F draw) (capacity k) (st .entries) (st .ahead) (st .root))
-      (record { tree = st .tree; waiting = st .waiting; held = []; leaves = [] })
+  fetchedWith {s} k F op draw st = fetchRounds s (st .entries) k draw F 0 (programWith k F op draw st) (begun st)
 
   -- A call over buckets, as `bucketCall`.
   abbrev pub bucketCallWith : {s : Structure} → (size rounds : ℕ) → Op s → (draw : ℕ → ℕ) → Store → Left
   bucketCallWith {s} k F op draw st = afterFetches s k F draw st (aheadThen k F op draw st) (fetchedWith k F op draw st)
+
+  -- Its peak, as `callPeak`.
+  abbrev pub peakWith : {s : Structure} → (size rounds : ℕ) → Op s → (draw : ℕ → ℕ) → Store → ℕ
+  peakWith {s} k F op draw st = peakOf (roundsWith s k F draw st (programWith k F op draw st))
 
   -- A call with all its checks, as `callWith` and `called`.
   unfoldable pub callWithPrograms : (st : Structure) → State → (tree tape trace : List ℕ) → Option (Op st) → Ended
@@ -81,7 +87,8 @@ module _ (programs : Programs) where
       pick (outOfKeys op (s .ahead .key)) (refusing 17 s tree trace)
       (pick (ltb (length tape) (draws st (s .size))) (refusing 6 s tree trace)
       (pick (ltb (length trace) (2 * rounds st (s .size))) (refusing 7 s tree trace)
-      (ending s trace (bucketCallWith (s .size) (rounds st (s .size)) op (drawOf (s .size) tape) (storeOf s tree)))))
+      (ending s trace (bucketCallWith (s .size) (rounds st (s .size)) op (drawOf (s .size) tape) (storeOf s tree))
+      (peakWith (s .size) (rounds st (s .size)) op (drawOf (s .size) tape) (storeOf s tree)))))
 
   unfoldable pub calledWith : State → (tree ticket tape trace : List ℕ) → Ended
   calledWith s tree ticket tape trace =

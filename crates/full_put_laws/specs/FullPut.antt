@@ -1,17 +1,18 @@
 -- A put of a present key on a full map, over buckets: what such a call is; that every other call is as it was, every byte; and that this one differs from the
 -- earlier one in the one value and the answer alone.
-use mathlib.Core.Path.{_≡_, refl, sym, _∙_, subst}
+use mathlib.Core.Path.{_≡_, refl, sym, _∙_, ap, ap₂, subst}
 use mathlib.Core.Bool.{Bool, true, false}
 use mathlib.Core.Logic.{_⊎_}
 use mathlib.Core.List.{List, [], _∷_}
 use mathlib.Core.Option.{Option, none, some}
-use Prim.Native.Nat.{ℕ, _^_, _≤_, _<_}
+use Prim.Native.Nat.{ℕ, max, _^_, _≤_, _<_}
 use native.Mathlib.Omega.{arith}
 use lib.Dec.{ltb}
 use Rattle.list_spec.specs.Choice.{pick}
+use Rattle.list_spec.specs.Largest.{largest}
 use Rattle.slot_spec.specs.Tree.{among}
 use Rattle.method_spec.specs.Node.{Link, Ahead, Node, withValue}
-use Rattle.method_spec.specs.Prog.{done}
+use Rattle.method_spec.specs.Prog.{Prog, done}
 use Rattle.method_spec.specs.Answer.{Structure, map, Op, get, put, remove, push, pop, add, take, enqueue, dequeue, Answer, replaced, full}
 use Rattle.method_spec.specs.Map.{Outcome}
 use Rattle.method_spec.specs.Rounds.{rounds, spareDraw, putDraw}
@@ -23,14 +24,17 @@ use Rattle.round_spec.specs.Whole.{IsTree}
 use Rattle.leaf_spec.specs.Leaf.{leafFormat, ProperLeaf}
 use Rattle.leaf_spec.specs.Entries.{OpFits}
 use Rattle.bucket_call_spec.specs.Fetch.{Going, Left, heldKeys, movedLink, closing, Round, on, shut}
-use Rattle.bucket_call_spec.specs.Call.{Store, afterPuts, stepped, afterFetches, fetchedBy, aheadThen, bucketCall}
+use Rattle.bucket_call_spec.specs.Call.{Store, afterPuts, stepped, afterFetches, begun, programBy, fetchedBy, aheadThen, bucketCall}
+use Rattle.bucket_call_spec.specs.Peak.{roundsFrom, countsOf, peakOf, putsAfter, callPeak}
+use Rattle.peak_laws.specs.PeakLaws.{peak-append}
 use Rattle.none_lost_laws.specs.Fitting.{with-value-proper}
 use Rattle.none_lost_laws.specs.Sound.{nodesIn, goes}
 use Rattle.none_lost_laws.specs.Ends.{FitStore}
 use Rattle.none_lost_laws.specs.Lost.{FetchEnds, fetch-rounds, never-left-wanting}
 use Rattle.full_put_laws.specs.Apart.{Apart, waits}
 use Rattle.full_put_laws.specs.Differing.{insert-differs, join-differs}
-use Rattle.full_put_laws.specs.Earlier.{earlierPrograms, fetchedWith, bucketCallWith}
+use Rattle.full_put_laws.specs.Earlier.{earlierPrograms, programWith, fetchedWith, bucketCallWith, peakWith}
+use Rattle.full_put_laws.specs.Peaks.{counts-together, counts-near}
 use Rattle.full_put_laws.specs.Together.{both-done, both-want, Together, both-shut, both-on, rounds-together}
 use Rattle.full_put_laws.specs.PutRounds.{Near, NearRounds, near-shut, near-on, puts-near}
 use Rattle.full_put_laws.specs.TwoPuts.{Compared, same, revalued, puts-both}
@@ -109,6 +113,51 @@ same-call k F (add value) draw st e = refl
 same-call k F take draw st e = refl
 same-call k F (enqueue value) draw st e = refl
 same-call k F dequeue draw st e = refl
+
+-- ---- the peaks
+module _ (k F key value : ℕ) (draw : ℕ → ℕ) (st : Store) where
+  abbrev puts : Round (Outcome ℕ) → List (Round (Outcome ℕ))
+  puts x = putsAfter map k F draw st x
+
+  -- Both puts' fetch rounds count the same; so their peaks are the same where those of the put rounds are.
+  peaks-by-puts : peakOf (puts (fetchedBy k F (put key value) draw st)) ≡ peakOf (puts (fetchedWith earlierPrograms k F (put key value) draw st))
+      → callPeak k F (put key value) draw st ≡ peakWith earlierPrograms k F (put key value) draw st
+  unfolding program earlierPrograms
+  peaks-by-puts rest =
+      let fetches : Prog ℕ (Outcome ℕ) → List (Round (Outcome ℕ)) = λ p. roundsFrom map (st .entries) k draw F 0 p (begun st) in
+      let p = programBy k F (put key value) draw st in
+      let q = programWith earlierPrograms k F (put key value) draw st in
+      peak-append (fetches p) (puts (fetchedBy k F (put key value) draw st))
+      ∙ ap₂ max
+      (ap largest
+      (counts-together map (st .entries) k draw F 0 (begun st) p q (puts-both key value (draw (spareDraw F 0)) (st .entries) (capacity k) (st .root))))
+      rest
+      ∙ sym (peak-append (fetches q) (puts (fetchedWith earlierPrograms k F (put key value) draw st)))
+
+  same-puts : {x y : Round (Outcome ℕ)} → Together (Compared key value (room k F key value draw st)) x y → pick (room k F key value draw st) false (holdsKey key x) ≡ false → puts x ≡ puts y
+  unfolding putsAfter
+  same-puts (both-shut m g) e = refl
+  same-puts (both-on g (both-done (same none-there o))) e = refl
+  same-puts (both-on g (both-done (revalued none-left n others root entries named held there))) e =
+      let z : true ≡ false = sym (rw (none-left, there) refl) ∙ e in
+      cc
+  same-puts (both-on g (both-want more)) e = refl
+
+-- The peak of a call is as it was, as the call itself is.
+pub same-peak : {s : Structure} (k F : ℕ) (op : Op s) (draw : ℕ → ℕ) (st : Store)
+    → fullPut (capacity k) (st .entries) op (fetchedBy k F op draw st) ≡ false
+    → callPeak k F op draw st ≡ peakWith earlierPrograms k F op draw st
+unfolding fullPut earlierPrograms
+same-peak k F (put key value) draw st e =
+    peaks-by-puts k F key value draw st (ap peakOf (same-puts k F key value draw st (puts-together k F key value draw st) e))
+same-peak k F (get key) draw st e = refl
+same-peak k F (remove key) draw st e = refl
+same-peak k F (push value) draw st e = refl
+same-peak k F pop draw st e = refl
+same-peak k F (add value) draw st e = refl
+same-peak k F take draw st e = refl
+same-peak k F (enqueue value) draw st e = refl
+same-peak k F dequeue draw st e = refl
 
 -- ---- a put of a present key on a full map
 -- A store that is closed with nothing held.
@@ -196,6 +245,25 @@ module _ (k : ℕ) (some-size : 1 ≤ k) (small : k ≤ 16) (key value : ℕ) (f
       let closed = pick-neither (ltb (st .entries) (capacity k)) false present .1 in
       let z : _≡_ {A = ℕ} 0 1 = cc in
       absurd (omega arith)
+
+  -- The put rounds of the two count the same.
+  puts-peak : {x y : Round (Outcome ℕ)} → fetchedBy k (rounds map k) (put key value) draw st ≡ x
+      → Together (Compared key value (ltb (st .entries) (capacity k))) x y
+      → peakOf (putsAfter map k (rounds map k) draw st x) ≡ peakOf (putsAfter map k (rounds map k) draw st y)
+  unfolding putsAfter
+  puts-peak e (both-shut m g) = refl
+  puts-peak e (both-on g (both-done (same none-there o))) = refl
+  puts-peak e (both-on g (both-done (revalued none-left n others root entries named held there))) =
+      let p = held-proper g _ e in
+      ap largest
+      (sym
+      (counts-near k refl refl (p .1 n held) (with-value-proper k small n value (fits .1) (p .1 n held)) _ _ map (st .entries) draw leaves (rounds map k) (putDraw map (rounds map k) 0) _ _
+      (steps-near k key value n named others root entries g (p .0))))
+  puts-peak e (both-on g (both-want more)) = refl
+
+  -- Whether or not the key is present, the peak is as it was.
+  pub put-peak : callPeak k (rounds map k) (put key value) draw st ≡ peakWith earlierPrograms k (rounds map k) (put key value) draw st
+  put-peak = peaks-by-puts k (rounds map k) key value draw st (puts-peak refl (puts-together k (rounds map k) key value draw st))
 
   -- A put of a present key on a full map, on any store that a fit state and a lent tree are: the earlier call and this one differ in the one value and the answer.
   pub only-value : fullPut (capacity k) (st .entries) (put key value) (fetchedBy k (rounds map k) (put key value) draw st) ≡ true

@@ -7,6 +7,7 @@ pub mod Earlier
 pub mod Together
 pub mod TwoPuts
 pub mod PutRounds
+pub mod Peaks
 pub mod FullPut
 pub mod Calls
 pub mod Examples

@@ -47,7 +47,7 @@ module _ (k : ℕ) {a b : Node ℕ} (same-key : b .key ≡ a .key) (same-tag : b
       go true = near-shut 9 g h (inr refl) near
       go false = near-on g h near
 
-  idle-near : (leaf : ℕ) → leaf < 2 ^ k → (g h : Going) → Near k a b g h → NearRounds k a b o q (idleRound k leaf (done o) g) (idleRound k leaf (done q) h)
+  pub idle-near : (leaf : ℕ) → leaf < 2 ^ k → (g h : Going) → Near k a b g h → NearRounds k a b o q (idleRound k leaf (done o) g) (idleRound k leaf (done q) h)
   unfolding idleRound
   idle-near leaf is-leaf g h near =
       go

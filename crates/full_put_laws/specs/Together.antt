@@ -75,7 +75,7 @@ module _ {R : List Held → Outcome ℕ → Outcome ℕ → Type 0} where
         go none = both-shut 8 (revealing (w .link .tag) g)
         go (some h) = took-together (h .waiting) (h .taken)
 
-  fetch-together : (s : Structure) (entries k draw : ℕ) (g : Going) {p q : Prog ℕ (Outcome ℕ)} → Both R (g .held) p q
+  pub fetch-together : (s : Structure) (entries k draw : ℕ) (g : Going) {p q : Prog ℕ (Outcome ℕ)} → Both R (g .held) p q
       → Together R (fetchRound s entries k draw p g) (fetchRound s entries k draw q g)
   unfolding fetchRound
   fetch-together s entries k draw g (both-done r) = idle-together k draw g (both-done r)

@@ -15,6 +15,7 @@ use Rattle.method_spec.specs.Answer.{Structure, Op}
 use Rattle.method_spec.specs.Rounds.{rounds, draws}
 use Rattle.bucket_call_spec.specs.Fetch.{Left}
 use Rattle.bucket_call_spec.specs.Call.{drawOf, bucketCall}
+use Rattle.bucket_call_spec.specs.Peak.{callPeak}
 use Rattle.state_spec.specs.declared.State.{State}
 use Rattle.state_spec.specs.Fit.{fits}
 use Rattle.state_spec.specs.Ticket.{ticketLength, opIn, structureOf, outOfKeys}
@@ -37,8 +38,8 @@ kept-either false p q = q
 refused : {n : ℕ} {s : State} {tree trace : List ℕ} → Kept s (refusing n s tree trace)
 refused = record { structure = refl; size = refl; leaves = omega arith }
 
-ended : (s : State) (trace : List ℕ) (l : Left) → Kept s (ending s trace l)
-ended s trace l = record { structure = refl; size = refl; leaves = rw length-append (omega arith) }
+ended : (s : State) (trace : List ℕ) (l : Left) (peak : ℕ) → Kept s (ending s trace l peak)
+ended s trace l peak = record { structure = refl; size = refl; leaves = rw length-append (omega arith) }
 
 kept-with : (st : Structure) (s : State) (tree tape trace : List ℕ) (op : Option (Op st)) → Kept s (callWith st s tree tape trace op)
 unfolding callWith
@@ -47,7 +48,7 @@ kept-with st s tree tape trace (some op) =
     kept-either (outOfKeys op (s .ahead .key)) refused
     (kept-either (ltb (length tape) (draws st (s .size))) refused
     (kept-either (ltb (length trace) (2 * rounds st (s .size))) refused
-    (ended s trace (bucketCall (s .size) (rounds st (s .size)) op (drawOf (s .size) tape) (storeOf s tree)))))
+    (ended s trace (bucketCall (s .size) (rounds st (s .size)) op (drawOf (s .size) tape) (storeOf s tree)) (callPeak (s .size) (rounds st (s .size)) op (drawOf (s .size) tape) (storeOf s tree)))))
 
 pub call-keeps : (s : State) (tree ticket tape trace : List ℕ) → Kept s (called s tree ticket tape trace)
 unfolding called
@@ -60,12 +61,12 @@ call-keeps s tree ticket tape trace =
 
 -- ---- what a call prints
 -- A call that was lent the first n numbers of a trace buffer: its leaves are among them, and so its line is that of the buffer's first numbers.
-module _ (e : Ended) (n : ℕ) (trace : List ℕ) {s : State} {reply : Reply} {leaves : ℕ} {tree : List ℕ} where
-  pub leaves-lent : record { state = s; reply = reply; leaves = leaves; tree = tree; trace = take n trace } ≡ e → e .leaves ≤ length (e .trace)
+module _ (e : Ended) (n : ℕ) (trace : List ℕ) {s : State} {reply : Reply} {leaves peak : ℕ} {tree : List ℕ} where
+  pub leaves-lent : record { state = s; reply = reply; leaves = leaves; peak = peak; tree = tree; trace = take n trace } ≡ e → e .leaves ≤ length (e .trace)
       → leaves ≤ length (take n trace)
   leaves-lent is within = rw (← is) at within
 
-  pub printed : {end : ℕ} {before after : List ℕ} → record { state = s; reply = reply; leaves = leaves; tree = tree; trace = take n trace } ≡ e
+  pub printed : {end : ℕ} {before after : List ℕ} → record { state = s; reply = reply; leaves = leaves; peak = peak; tree = tree; trace = take n trace } ≡ e
       → e .leaves ≤ length (e .trace) → end ≡ length (lineOf reply (take leaves trace)) → after ≡ lineOf reply (take leaves trace) ++ drop end before
       → Printed e before s tree after end
   printed {end} {before} is within ends line =

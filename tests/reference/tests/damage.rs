@@ -25,7 +25,7 @@ fn three_is_a_good_store() {
     let mut pair = three();
     pair.audit();
     let (outcome, trace) = pair.call(get(1), &TAPE);
-    assert_eq!(outcome.answer, Answer::Found(10));
+    assert_eq!((outcome.answer, outcome.peak), (Answer::Found(10), 2));
     assert_eq!(trace, [0, 0, 3, 1, 2, 3, 2, 3, 1, 2, 3, 1]);
     pair.audit();
 }
@@ -118,6 +118,7 @@ fn missing_wanted_node() {
     pair.edit(|_, tree| place(tree, 4, 0, leaf_node(9, 0)));
     let (outcome, trace) = pair.call(get(1), &TAPE);
     assert_eq!((outcome.answer, trace), (Answer::Refused(8), vec![0, 0]));
+    assert_eq!(outcome.peak, 1, "2 was held at the first close");
     let mut left = three().plain;
     left.mark = 8;
     left.root = link(2, 2, 1);
@@ -308,7 +309,7 @@ fn damage_after_a_put_on_a_full_map() {
         pair.edit(|_, tree| tree[128 * 6] = 3);
         let tape = [1, 2, 0, 0, 0, 0, 0, 0, 3, 0, 0, 0, 0];
         let (outcome, trace) = pair.call(ticket, &tape);
-        assert_eq!(outcome.answer, Answer::Refused(8));
+        assert_eq!((outcome.answer, outcome.peak), (Answer::Refused(8), 2));
         assert_eq!(trace, [0, 0, 0, 0, 0, 0, 0, 3]);
         assert_eq!((pair.plain.entries, pair.plain.root), (3, link(2, 2, 1)));
         pair
@@ -558,6 +559,7 @@ fn what_a_take_leaves_at_damage() {
     pair.edit(|_, tree| place(tree, 4, 1, node(2, 0, link(1, 4, 0), Link::NONE)));
     let (outcome, trace) = pair.call(take(), &TAPE);
     assert_eq!((outcome.answer, trace), (Answer::Refused(8), vec![0; 3]));
+    assert_eq!(outcome.peak, 2);
     assert_eq!((pair.plain.entries, pair.plain.root), (3, link(1, 1, 1)));
     let one = node(1, 1, link(1, 2, 0), link(1, 3, 2));
     assert_eq!(pair.plain.waiting(), [one, leaf_node(3, 2)]);
@@ -650,11 +652,11 @@ fn overflow_while_a_take_sinks() {
         });
         let tape: Vec<u16> = (40..89).collect();
         let (outcome, trace) = pair.call(take(), &tape);
-        (pair, outcome.answer, trace)
+        (pair, (outcome.answer, outcome.peak), trace)
     };
-    assert_eq!(run(61).1, Answer::Taken(10));
+    assert_eq!(run(61).1, (Answer::Taken(10), 64));
     let (pair, answer, trace) = run(62);
-    assert_eq!((answer, trace), (Answer::Refused(9), vec![0; 3]));
+    assert_eq!((answer, trace), ((Answer::Refused(9), 65), vec![0; 3]));
     assert_eq!(
         (pair.plain.entries, pair.plain.root, pair.plain.count),
         (3, link(1, 1, 40), 65)
@@ -705,6 +707,7 @@ fn damage_in_a_put_round() {
     let before = pair.tree.clone();
     let (outcome, trace) = pair.call(push(7), &[1, 2, 3]);
     assert_eq!((outcome.answer, trace), (Answer::Refused(8), vec![1, 3]));
+    assert_eq!(outcome.peak, 0);
     assert_eq!(
         (pair.plain.mark, pair.plain.entries, pair.plain.root),
         (8, 2, link(1, 2, 2))
@@ -742,6 +745,7 @@ fn new_node_whose_key_waits_stands_second() {
     let (outcome, trace) = pair.call(push(5), &[0; 3]);
     assert_eq!((outcome.answer, trace), (Answer::Refused(8), vec![0, 0]));
     assert_eq!((pair.plain.count, pair.plain.entries), (27, 61));
+    assert_eq!(outcome.peak, 26, "the new node waits at no close");
     let new = Node {
         key: 61,
         tag: 0,
@@ -766,12 +770,12 @@ fn overflow_in_a_fetch_round() {
             state.set_waiting(&strays(100, waiting).collect::<Vec<_>>());
         });
         let (outcome, trace) = pair.call(pop(), &[9, 0, 1]);
-        (pair, outcome.answer, trace)
+        (pair, (outcome.answer, outcome.peak), trace)
     };
     let (_, answer, trace) = run(63);
-    assert_eq!((answer, trace), (Answer::Popped(10), vec![0, 1]));
+    assert_eq!((answer, trace), ((Answer::Popped(10), 64), vec![0, 1]));
     let (pair, answer, trace) = run(64);
-    assert_eq!((answer, trace), (Answer::Refused(9), vec![0]));
+    assert_eq!((answer, trace), ((Answer::Refused(9), 65), vec![0]));
     assert_eq!(
         (pair.plain.mark, pair.plain.entries, pair.plain.root),
         (9, 1, link(1, 1, 9))
@@ -801,6 +805,7 @@ fn overflow_in_a_later_fetch_round_of_a_map() {
     let tape: Vec<u16> = (0..67).map(|number| number + 256 + 40).collect();
     let (outcome, trace) = pair.call(remove(1), &tape);
     assert_eq!((outcome.answer, trace), (Answer::Refused(9), vec![0, 0]));
+    assert_eq!(outcome.peak, 65);
     assert_eq!(
         (pair.plain.entries, pair.plain.root, pair.plain.count),
         (2, link(2, 2, 40), 65)

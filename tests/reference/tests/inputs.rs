@@ -1,29 +1,26 @@
-//! The random inputs reach what the walk program can meet, and the checksum is
-//! the one that is written down.
+//! The random inputs reach what the walk program and `damaged_calls` can meet,
+//! and the checksum is the one that is written down.
 
+mod common;
+
+use common::output;
 use reference::checksum::Checksum;
+use reference::counts::Counts;
+use reference::damaged;
 use reference::inputs::{input, plan, Plan, PLANS};
 use reference::paper::*;
-use reference::plain::BRANCHES;
-use reference::{fast, plain, walk, Store};
+use reference::walk::Program;
 use std::collections::{BTreeMap, BTreeSet};
 
 /// Each structure, size and plan twice.
 const SEEDS: std::ops::Range<u64> = 0..576;
-
-fn output<S: Store>(input: &[u8]) -> String {
-    let mut output = vec![];
-    walk::run::<S>(input, &mut output).unwrap();
-    String::from_utf8(output).unwrap()
-}
 
 /// How many lines start with each word, or with "refused" and its cause.
 fn tally(seeds: impl Iterator<Item = u64>) -> BTreeMap<String, usize> {
     let mut tally = BTreeMap::new();
     for seed in seeds {
         let input = input(seed);
-        let output = output::<fast::State>(&input);
-        assert_eq!(output, self::output::<plain::State>(&input), "seed {seed}");
+        let output = output(Program::Walk, &input);
         for line in output.lines() {
             let words: Vec<&str> = line.split(' ').collect();
             let head = match words[0] {
@@ -83,42 +80,69 @@ fn every_structure_overflows() {
     }
 }
 
-/// More seeds of the queues that overflow in fetch rounds too, which is rare.
-fn crowded_queues() -> impl Iterator<Item = u64> {
+/// More seeds of the stores that overflow in fetch rounds too, which is rare.
+fn crowded_stores() -> impl Iterator<Item = u64> {
     let skewed = (SEEDS.end..9216).filter(|&seed| plan(seed) == Plan::SkewedLeaves);
-    skewed.filter(|&seed| matches!(input(seed)[..], [QUEUE, 7 | 8, ..]))
+    skewed.filter(|&seed| matches!(input(seed)[..], [_, 7 | 8, ..]))
+}
+
+fn assert_met(counts: Counts, least: usize) {
+    for ((group, name), count) in counts.all() {
+        assert!(count >= least, "{group}: {name}: {count}");
+    }
 }
 
 #[test]
 fn every_branch_is_met() {
-    let mut met = vec![];
-    for seed in SEEDS.chain(crowded_queues()) {
-        walk::run_with(
-            &input(seed)[..],
-            std::io::sink(),
-            |state: &mut plain::State, tree, ticket, tape, trace| {
-                let (outcome, branches) =
-                    plain::call_with_branches(state, tree, ticket, tape, trace);
-                met.extend(branches);
-                outcome
-            },
-        )
-        .unwrap();
+    let mut counts = Counts::new(false);
+    for seed in SEEDS.chain(crowded_stores()) {
+        counts.run(&input(seed), |_| Ok(())).unwrap();
     }
-    for (group, branches) in BRANCHES {
-        for (branch, name) in branches {
-            let count = met.iter().filter(|&one| one == branch).count();
-            assert!(count >= 10, "{group}: {name}: {count}");
-        }
-    }
+    assert_met(counts, 10);
 }
 
-/// The worked example: pushed 0 1 3, popped 50 2 1.
+/// As many inputs as tests/compare runs.
+#[test]
+fn every_branch_of_damaged_calls_is_met() {
+    let mut counts = Counts::new(true);
+    for seed in 0..4608 {
+        counts.run(&damaged::input(seed), |_| Ok(())).unwrap();
+    }
+    assert_met(counts, 5);
+}
+
+/// Each of their calls has a peak's line below its own; one that has none ends
+/// the input.
+#[test]
+fn damaged_inputs() {
+    let mut short = 0;
+    for seed in SEEDS {
+        let output = output(Program::DamagedCalls, &damaged::input(seed));
+        let lines: Vec<&str> = output.lines().collect();
+        let (pairs, rest) = lines.split_at(lines.len() & !1);
+        for pair in pairs.chunks(2) {
+            assert!(!pair[0].starts_with("last ") && pair[1].starts_with("last "));
+        }
+        assert!(matches!(rest, [] | ["short" | "refused 11" | "refused 12"]));
+        short += usize::from(rest == ["short"]);
+    }
+    assert!(short >= 10, "{short}");
+}
+
+/// The worked example: pushed 0 1 3 with peak 0, popped 50 2 1 with peak 1.
 #[test]
 fn checksum_of_the_worked_calls() {
     let mut sum = Checksum::START;
-    for (answer, trace) in [(Answer::Pushed, [1, 3]), (Answer::Popped(50), [2, 1])] {
-        sum.join_call(Outcome { answer, leaves: 2 }, &trace);
+    for (answer, trace, peak) in [(Answer::Pushed, [1, 3], 0), (Answer::Popped(50), [2, 1], 1)] {
+        let leaves = trace.len();
+        sum.join_call(
+            Outcome {
+                answer,
+                leaves,
+                peak,
+            },
+            &trace,
+        );
     }
-    assert_eq!(sum.0, 14120859839473069281);
+    assert_eq!(sum.0, 14534165301980494207);
 }

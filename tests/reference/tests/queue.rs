@@ -5,10 +5,11 @@ mod common;
 
 use common::*;
 use reference::inputs::call_bytes;
+use reference::listing;
 use reference::origin::Machine;
 use reference::paper::*;
 use reference::plain::{self, Branch, Node};
-use reference::{fast, listing, walk};
+use reference::walk::Program;
 
 /// Entries, root link, next unused key and tag drawn ahead.
 fn kept(pair: &Pair) -> (u32, Link, u32, u16) {
@@ -107,11 +108,14 @@ fn full_queues_of_size_1_and_2() {
 fn queue_of_size_8_overflows() {
     let mut pair = Pair::open(QUEUE, 8);
     for value in 1..=100 {
-        assert_eq!(pair.answer(queue_in(value), &[0; 4]), Answer::Queued);
-        assert_eq!(pair.plain.count, (value as usize).saturating_sub(36));
+        let (outcome, _) = pair.call(queue_in(value), &[0; 4]);
+        let beyond = (value as usize).saturating_sub(36);
+        assert_eq!((outcome.answer, outcome.peak), (Answer::Queued, beyond));
+        assert_eq!(pair.plain.count, beyond);
     }
     let (outcome, trace) = pair.call(queue_in(101), &[0, 1, 2, 0]);
     assert_eq!((outcome.answer, trace), (Answer::Refused(9), vec![0, 0]));
+    assert_eq!(outcome.peak, 65);
     assert_eq!(kept(&pair), (101, link(1, 0, 0), 101, 2));
     assert_eq!((pair.plain.mark, pair.plain.count), (9, 65));
     let newest = Node {
@@ -164,7 +168,9 @@ fn branches_of_a_queue() {
     } = Pair::open(QUEUE, 2);
     let mut met = |ticket: Ticket| {
         let ticket = ticket.bytes();
-        plain::call_with_branches(&mut plain, &mut tree, &ticket, &[0; 4], &mut [0; 2]).1
+        plain::call_and_met(&mut plain, &mut tree, &ticket, &[0; 4], &mut [0; 2])
+            .1
+            .branches
     };
     let (enter, leave) = (queue_in(5), queue_out());
     for (ticket, branch) in [
@@ -197,12 +203,8 @@ fn walk_program_of_a_queue() {
     for length in 2..=input.len() {
         let whole = (length - 2) / 21;
         let short = ["short\n", ""][usize::from((length - 2) % 21 == 0)];
-        let (mut plain, mut fast) = (vec![], vec![]);
-        walk::run::<plain::State>(&input[..length], &mut plain).unwrap();
-        walk::run::<fast::State>(&input[..length], &mut fast).unwrap();
         let expected = lines[..whole].concat() + short;
-        assert_eq!(String::from_utf8(plain).unwrap(), expected);
-        assert_eq!(String::from_utf8(fast).unwrap(), expected);
+        assert_eq!(output(Program::Walk, &input[..length]), expected);
     }
 }
 
@@ -361,6 +363,7 @@ fn damage_in_a_fetch_round() {
         let before = pair.clone();
         let (outcome, trace) = pair.call(ticket, &[0, 3, 3, 1]);
         assert_eq!((outcome.answer, trace), (Answer::Refused(8), vec![0]));
+        assert_eq!(outcome.peak, 0);
         let left = plain::State {
             mark: 8,
             ..before.plain
@@ -430,13 +433,13 @@ fn overflow_in_a_fetch_round() {
             state.set_waiting(&strays(100, waiting).collect::<Vec<_>>());
         });
         let (outcome, trace) = pair.call(queue_out(), &[9, 20, 30, 1]);
-        (pair, outcome.answer, trace)
+        (pair, (outcome.answer, outcome.peak), trace)
     };
     let (pair, answer, trace) = run(63);
-    assert_eq!((answer, trace), (Answer::Dequeued(70), vec![0, 1]));
+    assert_eq!((answer, trace), ((Answer::Dequeued(70), 64), vec![0, 1]));
     assert_eq!(kept(&pair), (0, Link::NONE, 8, 0));
     let (pair, answer, trace) = run(64);
-    assert_eq!((answer, trace), (Answer::Refused(9), vec![0]));
+    assert_eq!((answer, trace), ((Answer::Refused(9), 65), vec![0]));
     assert_eq!(kept(&pair), (1, link(1, 7, 9), 8, 5));
     assert_eq!((pair.plain.mark, pair.plain.count), (9, 65));
     assert_eq!(pair.plain.waiting()[0], queued(7, 9, 5));

@@ -7,7 +7,8 @@ use reference::inputs::call_bytes;
 use reference::origin::Machine;
 use reference::paper::*;
 use reference::plain::{self, path, read_slot, Branch, Node, Reading};
-use reference::{fast, listing, walk};
+use reference::walk::Program;
+use reference::{fast, listing};
 use std::collections::BTreeSet;
 use std::io::Write;
 use std::process::{Command, Stdio};
@@ -75,7 +76,8 @@ fn possible_heights_follow_from_building_balanced_trees() {
 #[test]
 fn push_then_pop() {
     let mut pair = Pair::open(STACK, 2);
-    assert_eq!(pair.call(push(50), &[1, 2, 3]).1, [1, 3]);
+    let (outcome, trace) = pair.call(push(50), &[1, 2, 3]);
+    assert_eq!((outcome.peak, trace), (0, vec![1, 3]));
     assert_eq!(pair.plain.count, 0);
     let node = Node {
         key: 1,
@@ -90,6 +92,7 @@ fn push_then_pop() {
     );
     let (outcome, trace) = pair.call(pop(), &[0, 1, 1]);
     assert_eq!((outcome.answer, trace), (Answer::Popped(50), vec![2, 1]));
+    assert_eq!(outcome.peak, 1);
 }
 
 #[test]
@@ -227,7 +230,9 @@ fn put_branches(size: u8, keys: &[u32], key: u32) -> Vec<Branch> {
         ..
     } = root_after(size, &tickets).0;
     let (ticket, tape) = (put(key, 2).bytes(), zero_tape(MAP, size));
-    plain::call_with_branches(&mut plain, &mut tree, &ticket, &tape, &mut [0; 24]).1
+    plain::call_and_met(&mut plain, &mut tree, &ticket, &tape, &mut [0; 24])
+        .1
+        .branches
 }
 
 #[test]
@@ -283,12 +288,15 @@ fn origins_of_a_full_map() {
 fn stack_of_size_8_overflows() {
     let mut pair = Pair::open(STACK, 8);
     for value in 1..=100 {
-        assert_eq!(pair.answer(push(value), &[0; 3]), Answer::Pushed);
-        assert_eq!(pair.plain.count, (value as usize).saturating_sub(36));
+        let (outcome, _) = pair.call(push(value), &[0; 3]);
+        let beyond = (value as usize).saturating_sub(36);
+        assert_eq!((outcome.answer, outcome.peak), (Answer::Pushed, beyond));
+        assert_eq!(pair.plain.count, beyond);
     }
     assert_eq!(pair.plain.count, 64);
     let (outcome, trace) = pair.call(push(101), &[0; 3]);
     assert_eq!((outcome.answer, trace), (Answer::Refused(9), vec![0, 0]));
+    assert_eq!(outcome.peak, 65);
     assert_eq!(
         (pair.plain.mark, pair.plain.entries, pair.plain.count),
         (9, 101, 65)
@@ -301,7 +309,7 @@ fn stack_of_size_8_overflows() {
             tag: 0
         }
     );
-    assert_eq!(pair.answer(pop(), &[0; 3]), Answer::Refused(1));
+    assert_eq!(pair.call(pop(), &[0; 3]).0, Outcome::refused(1));
 }
 
 /// The numbers by position.
@@ -348,7 +356,9 @@ fn take_branches(numbers: &[u64]) -> Vec<Branch> {
         ..
     } = pair;
     let ticket = take().bytes();
-    plain::call_with_branches(&mut plain, &mut tree, &ticket, &tape, &mut [0; 18]).1
+    plain::call_and_met(&mut plain, &mut tree, &ticket, &tape, &mut [0; 18])
+        .1
+        .branches
 }
 
 #[test]
@@ -420,12 +430,16 @@ fn origins_of_a_heap() {
 fn heap_of_size_8_overflows() {
     let mut pair = Pair::open(HEAP, 8);
     let tape = zero_tape(HEAP, 8);
-    for value in 1..=100 {
-        assert_eq!(pair.answer(add(value), &tape), Answer::Added);
-        assert_eq!(pair.plain.count, (value as usize).saturating_sub(36));
+    for value in 1..=100u32 {
+        let (outcome, _) = pair.call(add(value.into()), &tape);
+        let (beyond, fetched) = (value.saturating_sub(36), value.ilog2());
+        assert_eq!(outcome.answer, Answer::Added);
+        assert_eq!(outcome.peak, beyond.max(fetched) as usize);
+        assert_eq!(pair.plain.count, beyond as usize);
     }
     let (outcome, trace) = pair.call(add(101), &tape);
     assert_eq!((outcome.answer, trace), (Answer::Refused(9), vec![0; 25]));
+    assert_eq!(outcome.peak, 65);
     assert_eq!(
         (pair.plain.mark, pair.plain.entries, pair.plain.count),
         (9, 101, 65)
@@ -498,11 +512,7 @@ fn openings() {
 }
 
 fn walk_output(input: &[u8]) -> String {
-    let (mut plain, mut fast) = (vec![], vec![]);
-    walk::run::<plain::State>(input, &mut plain).unwrap();
-    walk::run::<fast::State>(input, &mut fast).unwrap();
-    assert_eq!(plain, fast);
-    String::from_utf8(plain).unwrap()
+    output(Program::Walk, input)
 }
 
 fn program_output(input: &[u8]) -> String {

@@ -5,6 +5,7 @@
 use reference::paper::*;
 use reference::plain::{self, write_slot, Node, Reading};
 pub use reference::random::Random;
+use reference::walk::{self, Program};
 use reference::{fast, listing, Store};
 use std::collections::BTreeMap;
 
@@ -13,6 +14,16 @@ pub fn seeded(seed: u64) -> Random {
     let moved = std::env::var("SEED").map_or(0, |text| text.parse().expect("a number"));
     println!("seed {seed}, SEED {moved}");
     Random::new(seed ^ moved << 32)
+}
+
+/// What a program prints for an input, over both builds.
+pub fn output(program: Program, input: &[u8]) -> String {
+    let (mut plain, mut fast) = (vec![], vec![]);
+    walk::run::<plain::State>(program, input, &mut plain).unwrap();
+    walk::run::<fast::State>(program, input, &mut fast).unwrap();
+    let [plain, fast] = [plain, fast].map(|text| String::from_utf8(text).unwrap());
+    assert_eq!(plain, fast);
+    plain
 }
 
 /// Whence the tape's numbers come.
@@ -126,7 +137,7 @@ impl Pair {
         assert!(trace[outcome.leaves..] == before.2[outcome.leaves..]);
         match outcome.answer {
             Answer::Refused(cause @ (1..=7 | 17)) => {
-                assert_eq!(outcome.leaves, 0, "{cause}");
+                assert_eq!((outcome.leaves, outcome.peak), (0, 0), "{cause}");
                 assert!(
                     (&self.plain, &self.tree) == (&before.0, &before.1),
                     "{cause}"
@@ -136,9 +147,26 @@ impl Pair {
             _ => {
                 let rounds = fetch_rounds(self.plain.structure, self.plain.size);
                 assert_eq!(outcome.leaves, 2 * rounds);
-                assert!(self.plain.count <= WAITING_LIMIT);
                 assert_eq!(self.plain.mark, 0);
             }
+        }
+        if outcome.leaves > 0 {
+            self.check_peak(outcome);
+        }
+    }
+
+    /// The peak against the number that is left waiting: that of the last close,
+    /// unless damage was found first of all, or right after the step.
+    fn check_peak(&self, outcome: Outcome) {
+        let rounds = fetch_rounds(self.plain.structure, self.plain.size);
+        let after_step = outcome.leaves == rounds + 1;
+        match outcome.answer {
+            Answer::Refused(DAMAGE) if outcome.leaves == 1 => assert_eq!(outcome.peak, 0),
+            Answer::Refused(DAMAGE) if after_step => assert!(outcome.peak <= WAITING_LIMIT),
+            Answer::Refused(OVERFLOW) => {
+                assert_eq!((outcome.peak, self.plain.count), (65, 65));
+            }
+            _ => assert!((self.plain.count..=WAITING_LIMIT).contains(&outcome.peak)),
         }
     }
 

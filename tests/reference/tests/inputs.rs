@@ -86,9 +86,9 @@ fn crowded_stores() -> impl Iterator<Item = u64> {
     skewed.filter(|&seed| matches!(input(seed)[..], [_, 7 | 8, ..]))
 }
 
-fn assert_met(counts: Counts, least: usize) {
+fn assert_met(counts: Counts) {
     for ((group, name), count) in counts.all() {
-        assert!(count >= least, "{group}: {name}: {count}");
+        assert!(count >= 5, "{group}: {name}: {count}");
     }
 }
 
@@ -98,7 +98,7 @@ fn every_branch_is_met() {
     for seed in SEEDS.chain(crowded_stores()) {
         counts.run(&input(seed), |_| Ok(())).unwrap();
     }
-    assert_met(counts, 10);
+    assert_met(counts);
 }
 
 /// As many inputs as tests/compare runs.
@@ -108,7 +108,7 @@ fn every_branch_of_damaged_calls_is_met() {
     for seed in 0..4608 {
         counts.run(&damaged::input(seed), |_| Ok(())).unwrap();
     }
-    assert_met(counts, 5);
+    assert_met(counts);
 }
 
 /// Each of their calls has a peak's line below its own; one that has none ends

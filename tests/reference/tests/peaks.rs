@@ -6,6 +6,7 @@ mod common;
 use common::*;
 use reference::inputs::call_bytes;
 use reference::paper::*;
+use reference::plain::State;
 use reference::walk::{Damage, Program};
 use std::io::Write;
 use std::process::{Command, Stdio};
@@ -114,51 +115,44 @@ fn overflow_in_a_fetch_round() {
     }
 }
 
+/// A stack or queue with 64 nodes waiting.
+fn crowded(structure: u8) -> Pair {
+    let mut pair = Pair::open(structure, 8);
+    let tape = vec![0; tape_length(structure, 8)];
+    for _ in 0..100 {
+        pair.call(Ticket::new(adding_kind(structure), 0, 5), &tape);
+    }
+    assert_eq!(pair.plain.count, 64);
+    pair
+}
+
 /// Nodes wait, but no round closes.
 #[test]
 fn refusals() {
-    let outcome = |structure: u8, change: fn(&mut Pair), ticket: &[u8], lengths: [usize; 2]| {
-        let mut pair = Pair::open(structure, 8);
-        let tape = vec![0; tape_length(structure, 8)];
-        for _ in 0..100 {
-            pair.call(Ticket::new(adding_kind(structure), 0, 5), &tape);
-        }
-        assert_eq!(pair.plain.count, 64);
-        change(&mut pair);
-        pair.call_with(ticket, &vec![0; lengths[0]], &mut vec![0; lengths[1]])
+    let refused = |mut pair: Pair, ticket: &[u8], numbers: usize, places: usize| {
+        let outcome = pair.call_with(ticket, &vec![0; numbers], &mut vec![0; places]);
+        assert_eq!(outcome.peak, 0);
+        outcome.answer.number()
     };
-    let whole: fn(&mut Pair) = |_| {};
-    let (push, foreign) = (push(5).bytes(), get(5).bytes());
-    for (cause, change, ticket, lengths) in [
-        (
-            1,
-            |pair| pair.edit(|state, _| state.mark = 3),
-            &push[..],
-            [3, 2],
-        ),
-        (
-            2,
-            |pair| pair.edit(|state, _| state.entries = 99),
-            &push,
-            [3, 2],
-        ),
-        (3, |pair| pair.tree.truncate(128), &push, [3, 2]),
-        (4, whole, &push[..12], [3, 2]),
-        (5, whole, &foreign, [3, 2]),
-        (6, whole, &push, [2, 2]),
-        (7, whole, &push, [3, 1]),
-    ] {
-        assert_eq!(
-            outcome(STACK, change, ticket, lengths),
-            Outcome::refused(cause)
-        );
+    let whole = crowded(STACK);
+    let ticket = push(5).bytes();
+    assert_eq!(refused(whole.clone(), &ticket[..12], 3, 2), 4);
+    assert_eq!(refused(whole.clone(), &get(5).bytes(), 3, 2), 5);
+    assert_eq!(refused(whole.clone(), &ticket, 2, 2), 6);
+    assert_eq!(refused(whole.clone(), &ticket, 3, 1), 7);
+    let edits: [fn(&mut State, &mut Vec<u8>); 3] = [
+        |state, _| state.mark = 3,
+        |state, _| state.entries = 99,
+        |_, tree| tree.truncate(128),
+    ];
+    for (cause, edit) in (1..).zip(edits) {
+        let mut pair = whole.clone();
+        pair.edit(edit);
+        assert_eq!(refused(pair, &ticket, 3, 2), cause);
     }
-    let used_up = |pair: &mut Pair| move_keys(pair, u32::MAX);
-    let ticket = queue_in(5).bytes();
-    assert_eq!(
-        outcome(QUEUE, used_up, &ticket, [4, 2]),
-        Outcome::refused(17)
-    );
+    let mut queue = crowded(QUEUE);
+    move_keys(&mut queue, u32::MAX);
+    assert_eq!(refused(queue, &queue_in(5).bytes(), 4, 2), 17);
 }
 
 /// A round that finds damage does not close, however many wait.
@@ -217,7 +211,6 @@ const OPENINGS: [(&[u8], &str); 6] = [
     (&[4, 2], ""),
 ];
 
-/// The call's line comes when the call is made.
 fn program_output(program: &str, build: &[&str], input: &[u8]) -> String {
     let mut program = Command::new(program)
         .args(build)
@@ -276,7 +269,8 @@ fn damaged_call(ticket: Ticket, tape: &[u16], place: u32, amount: u8) -> Vec<u8>
 }
 
 /// The node lies at byte 256, in a tree of 896 bytes. Its value's lowest byte
-/// grows by 255, then by 2; then its flag by 1, by way of a place beyond the tree.
+/// grows by 255, the next one's by 206, the third one's flag by 1; the last two by
+/// way of places beyond the tree.
 #[test]
 fn damaged_calls_program() {
     let input = [

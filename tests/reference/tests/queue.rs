@@ -376,8 +376,10 @@ fn damage_in_a_fetch_round() {
 fn damaged_after(mut pair: Pair, ticket: Ticket, draws: [u16; 3]) -> Pair {
     pair.edit(|_, tree| tree[128 * 6] = 3);
     let [fetch, own, ahead] = draws;
+    let fetched = ticket.kind == OUT && pair.plain.entries > 0;
     let (outcome, trace) = pair.call(ticket, &[fetch, own, ahead, 3]);
     assert_eq!((outcome.answer, trace), (Answer::Refused(8), vec![0, 3]));
+    assert_eq!(outcome.peak, usize::from(fetched));
     assert_eq!(pair.plain.mark, 8);
     pair
 }

@@ -1,5 +1,5 @@
 // What the benchmark times: reads an input in the walk program's format, makes the calls and prints one number, a checksum of
-// the replies and the leaves that bench/README.md defines. An input that a good opening does not start, or that ends within a
+// the replies, the leaves and the peaks that bench/README.md defines. An input that a good opening does not start, or that ends within a
 // call, gets a message on the standard error instead.
 use call_draws::draws_of;
 use call_draws::rounds_of;
@@ -96,6 +96,7 @@ fn make_calls(
         state: opened,
         reply: Reply::Refused(0),
         leaves: 0,
+        peak: 0,
     };
     let mut sum = before;
     let mut at = 0;
@@ -105,7 +106,8 @@ fn make_calls(
         let ticket = at + TICKET_LENGTH;
         made = call::call(made.state, tree, &block[at..ticket], tape, trace);
         let reply = made.reply;
-        sum = join_leaves(join_reply(sum, reply), trace, made.leaves);
+        let revealed = join_leaves(join_reply(sum, reply), trace, made.leaves);
+        sum = join(revealed, made.peak as u64);
         at = end;
     }
     let state = made.state;

@@ -50,13 +50,14 @@ pub fn call_in(state: State, tree: &mut [u8], input: &[u8], trace: &mut [u16]) -
     )
 }
 
-// How the next call of the input came, the state then and, where it came whole, its reply and how many leaves it revealed:
-// they are the first of the trace buffer.
+// How the next call of the input came, the state then and, where it came whole, its reply, how many leaves it revealed, which are
+// the first of the trace buffer, and its peak.
 pub struct Next {
     pub came: Arrived,
     pub state: State,
     pub reply: Reply,
     pub leaves: usize,
+    pub peak: usize,
 }
 
 // Reads the next call and makes it.
@@ -76,6 +77,7 @@ pub fn next_call(state: State, tree: &mut [u8], trace: &mut [u16]) -> Next
                 state: left,
                 reply,
                 leaves: made.leaves,
+                peak: made.peak,
             }
         }
         Arrived::End | Arrived::Short => Next {
@@ -83,6 +85,7 @@ pub fn next_call(state: State, tree: &mut [u8], trace: &mut [u16]) -> Next
             state,
             reply: Reply::Refused(0),
             leaves: 0,
+            peak: 0,
         },
     }
 }

@@ -1,20 +1,17 @@
 // The walk program: reads a structure byte, a size byte, then for each call a ticket and its tape numbers from standard
 // input, makes the calls on a store, and prints a line for each as soon as it has been made.
-use call_spec::Reply;
 use input_calls::call_in;
 use input_calls::read_record;
-use libc::STDIN_FILENO;
+use input_opening::open_input;
+use input_opening::print_short;
 use libc::STDOUT_FILENO;
-use opening::open;
 use state_spec::State;
 use text_writer::LONGEST_LINE;
 use text_writer::MOST_LEAVES;
-use walk_input::HEAD_LENGTH;
 use walk_input::LARGEST_TREE;
 use walk_input::LONGEST_RECORD;
 use walk_input::tree_lent;
 use walk_lines::line;
-use walk_lines::short_line;
 use walk_spec::Arrived;
 ghost use mathlib.Core.Path.{_≡_};
 ghost use Prim.Native.Nat.{_≤_};
@@ -46,19 +43,6 @@ fn walk_call(state: State, tree: &mut [u8], input: &[u8], out: &mut [u8]) -> Wal
         state: left,
         length,
     }
-}
-
-fn print_short() {
-    let mut out = [0u8; LONGEST_LINE];
-    let length = short_line(&mut out);
-    io::write_all(STDOUT_FILENO, &out[..length]);
-}
-
-fn print_refused(mark: u8) {
-    let none = [0u16; 1];
-    let mut out = [0u8; LONGEST_LINE];
-    let length = line(Reply::Refused(mark), 0, &none, &mut out);
-    io::write_all(STDOUT_FILENO, &out[..length]);
 }
 
 // The state after one more call of the input, and whether to read on.
@@ -108,20 +92,11 @@ fn read_calls(opened: State, tree: &mut [u8])
 }
 
 fn main() {
-    let mut head = [0u8; HEAD_LENGTH];
-    let got = io::read_full(STDIN_FILENO, &mut head);
-    if got < HEAD_LENGTH {
-        print_short();
-        return;
-    }
-    let size = head[1];
     let mut space = [0u8; LARGEST_TREE];
-    let length = tree_lent(size);
-    let tree: &mut [u8] = &mut space[..length];
-    let state = open(head[0], size, tree);
+    let state = open_input(&mut space);
     if state.mark != 0 {
-        print_refused(state.mark);
         return;
     }
-    read_calls(state, tree);
+    let length = tree_lent(state.size);
+    read_calls(state, &mut space[..length]);
 }

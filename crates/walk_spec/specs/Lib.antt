@@ -1,4 +1,5 @@
 pub mod Input
 pub mod Lines
+pub mod PeakLines
 pub mod Walk
 pub mod Examples

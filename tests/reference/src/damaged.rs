@@ -80,7 +80,8 @@ pub fn input(seed: u64) -> Vec<u8> {
 fn first_damage(random: &mut Random, plan: Plan, size: u8, calls: usize) -> Option<usize> {
     let crowded = plan == Plan::SkewedLeaves && size >= 7;
     let whole = random.one_in(4) || crowded && !random.one_in(8);
-    (!whole && calls > 0).then(|| random.index(calls))
+    let before = random.pick(&[calls, calls.min(40)]);
+    (!whole && calls > 0).then(|| random.index(before))
 }
 
 impl Run {

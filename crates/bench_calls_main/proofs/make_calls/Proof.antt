@@ -62,6 +62,9 @@ join-reply-requires c κs = search needs
 join-leaves-requires : tie.Need-join-leaves-requires Inv-loop μ-loop
 join-leaves-requires c κs = search needs
 
+join-requires : tie.Need-join-requires Inv-loop μ-loop
+join-requires c κs = search needs
+
 loop-less : tie.Need-loop-less Inv-loop μ-loop
 loop-less c = search needs
 
@@ -102,6 +105,7 @@ make-calls-spec =
     call-requires
     join-reply-requires
     join-leaves-requires
+    join-requires
     loop-less
     loop-again
     same-length

@@ -1,26 +1,18 @@
--- `walk::main` is safe and ends. A state that is not marked has a size of 1 to 8.
-use mathlib.Core.Path.{sym, _∙_, ap}
-use Rattle.state_spec.specs.declared.State.{State}
-use Rattle.walk_laws.specs.InputLaws.{open-size}
-use Rattle.walk_laws.specs.WalkLaws.{fresh-length}
+-- `walk::main` is safe and ends: an open store has a size of 1 to 8.
+use lib.ListN.{length-take}
+use native.Mathlib.Omega.{arith}
 use borrow.Author.Needs.{needs}
 use Rattle.walk.proofs.main.Statement.{statement}
 use Rattle.walk.proofs.main.Tie as tie
 
-slice-aggregate-read-full : tie.Need-slice-aggregate-read-full
-slice-aggregate-read-full c = search needs
+slice-aggregate-open-input : tie.Need-slice-aggregate-open-input
+slice-aggregate-open-input c = search needs
 
-read-full-requires : tie.Need-read-full-requires
-read-full-requires c κs = search needs
-
-print-short-requires : tie.Need-print-short-requires
-print-short-requires c κs = search needs
+open-input-requires : tie.Need-open-input-requires
+open-input-requires c κs = search needs
 
 returns : tie.Need-returns
 returns c = search needs
-
-array-read-size : tie.Need-array-read-size
-array-read-size c = search needs
 
 tree-lent-requires : tie.Need-tree-lent-requires
 tree-lent-requires c κs = search needs
@@ -28,45 +20,26 @@ tree-lent-requires c κs = search needs
 array-borrow-prefix-space : tie.Need-array-borrow-prefix-space
 array-borrow-prefix-space c = search needs
 
-slice-aggregate-tree : tie.Need-slice-aggregate-tree
-slice-aggregate-tree c = sym (fresh-length (c .before .tree-lent .result) 65408 (c .before .tree-lent .ensures .1))
+slice-aggregate-read-calls : tie.Need-slice-aggregate-read-calls
+slice-aggregate-read-calls c =
+    let o = c .before .before .before .before in
+    omega (arith, length-take (c .before .tree-lent .result) (o .before .open-input .last .0), c .before .tree-lent .ensures .1, o .space2 .given)
 
-array-read-open : tie.Need-array-read-open
-array-read-open c = search needs
-
-open-requires : tie.Need-open-requires
-open-requires c κs = search needs
-
-print-refused-requires : tie.Need-print-refused-requires
-print-refused-requires c κs = search needs
+read-calls-requires : tie.Need-read-calls-requires
+read-calls-requires c κs = c .before .before .before .before .before .open-input .ensures (c .before .before .if1 .left)
 
 returns-2 : tie.Need-returns-2
 returns-2 c = search needs
-
-read-calls-requires : tie.Need-read-calls-requires
-read-calls-requires c κs =
-    let o = c .before .before .before .before in
-    let e = o .«open» .ensures .0 in
-    rw e (open-size _ _ _ (sym (ap (λ (s : State). s .mark) e) ∙ c .if2 .left))
-
-returns-3 : tie.Need-returns-3
-returns-3 c = search needs
 
 pub main-spec : {M : Type 1} → statement M
 main-spec =
     tie.close
     (tie.spec
-    slice-aggregate-read-full
-    read-full-requires
-    print-short-requires
+    slice-aggregate-open-input
+    open-input-requires
     returns
-    array-read-size
     tree-lent-requires
     array-borrow-prefix-space
-    slice-aggregate-tree
-    array-read-open
-    open-requires
-    print-refused-requires
-    returns-2
+    slice-aggregate-read-calls
     read-calls-requires
-    returns-3)
+    returns-2)

@@ -1,13 +1,14 @@
 //! What the benchmark times. Reads an input in the walk program's format, with
 //! a good opening and whole calls, and prints one checksum.
 //!
-//! - `bench_calls` makes the calls with `fast`; the checksum is of the replies.
+//! - `bench_calls` makes the calls with `fast`; the checksum is of the replies
+//!   and the peaks.
 //! - `bench_calls floor` copies the bytes of 2F paths a call out of the tree
 //!   and in again; the tape's first 2F numbers are their leaves.
 //! - `bench_calls parse` only reads, which is to be subtracted.
 //!
-//! The last two join the kind, the value and the first 2F numbers of the tape
-//! to the checksum, as many numbers as a reply has.
+//! The last two join the kind, the value, the first 2F numbers of the tape and
+//! a 0 to the checksum, as many numbers as a reply and its peak have.
 
 use reference::checksum::Checksum;
 use reference::fast;
@@ -90,6 +91,7 @@ fn join_read(sum: &mut Checksum, ticket: &[u8], leaves: &[u16]) {
     for &leaf in leaves {
         sum.join(u64::from(leaf));
     }
+    sum.join(0);
 }
 
 /// Copies a path's buckets out of the tree, and in again.

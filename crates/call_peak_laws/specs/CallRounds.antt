@@ -2,7 +2,7 @@
 use mathlib.Core.Path.{_≡_, refl, sym, _∙_, ap}
 use mathlib.Core.Logic.{_⊎_, inl, inr}
 use mathlib.Core.List.{List, [], _++_, append-nil}
-use Prim.Native.Nat.{ℕ, max, _+_, _≤_}
+use Prim.Native.Nat.{ℕ}
 use native.Mathlib.Omega.{arith}
 use lib.ListN.{length, length-append}
 use Rattle.method_spec.specs.Node.{Ahead}
@@ -10,28 +10,20 @@ use Rattle.method_spec.specs.Prog.{done, want}
 use Rattle.method_spec.specs.Answer.{Structure, Op}
 use Rattle.method_spec.specs.Rounds.{putDraw}
 use Rattle.method_spec.specs.Map.{Outcome}
-use Rattle.round_spec.specs.Round.{limit}
 use Rattle.bucket_call_spec.specs.Fetch.{Left, Round, on, shut, closing}
 use Rattle.bucket_call_spec.specs.Call.{Store, putRounds, afterPuts, stepped, afterFetches, begun, programBy, fetchedBy, aheadThen, bucketCall}
-use Rattle.bucket_call_spec.specs.Peak.{roundsFrom, peakOf, putsAfter, callRounds, callPeak}
-use Rattle.peak_laws.specs.PeakLaws.{peak-append, peak-none}
-use Rattle.call_peak_laws.specs.Listed.{ByMark, Within, leavesIn, Lists, within-max, fetches-listed, puts-listed}
+use Rattle.bucket_call_spec.specs.Peak.{roundsFrom, peakOf, putsAfter, callRounds}
+use Rattle.peak_laws.specs.PeakLaws.{peak-append}
+use Rattle.call_peak_laws.specs.Listed.{ByMark, Within, leavesIn, within-max, fetches-listed, puts-listed}
 
 -- What holds of the rounds of a call that left that.
 pub record Rounds (l : Left) (rs : List (Round (Outcome ℕ))) : Type 0 where
   pub one-each : length rs ≡ length (l .leaves)
   pub by-mark : ByMark (l .mark) (peakOf rs)
 
--- Rounds that went on, and then others: their numbers and their peaks.
-module _ (rs ts : List (Round (Outcome ℕ))) where
-  no-more : ts ≡ [] → peakOf (rs ++ ts) ≡ peakOf rs
-  no-more e = rw e (ap peakOf (append-nil rs))
-
-  abbrev More : Left → Type 0
-  More l = Rounds l (rs ++ ts)
-
-  stop-rounds : {l : Left} → ts ≡ [] → length rs ≡ length (l .leaves) → ByMark (l .mark) (peakOf rs) → More l
-  stop-rounds {l} e one by = rw e (record { one-each = rw (append-nil rs) one; by-mark = rw (append-nil rs) by })
+-- A fetch round was the last.
+no-puts : {l : Left} (rs : List (Round (Outcome ℕ))) → length rs ≡ length (l .leaves) → ByMark (l .mark) (peakOf rs) → Rounds l (rs ++ [])
+no-puts rs one by = record { one-each = rw (append-nil rs) one; by-mark = rw (append-nil rs) by }
 
 put-ends : (a : Ahead ℕ) (o : Outcome ℕ) (y : Round (Outcome ℕ)) {n : ℕ} → Within y n
     → ByMark (afterPuts a o y .mark) n × (afterPuts a o y .leaves ≡ leavesIn y)
@@ -43,8 +35,8 @@ module _ (s : Structure) (k F : ℕ) (draw : ℕ → ℕ) (st : Store) (a : Ahea
   then-rounds : (x : Round (Outcome ℕ)) (rs : List (Round (Outcome ℕ))) → length (leavesIn x) ≡ length rs → Within x (peakOf rs)
       → Rounds (afterFetches s k F draw st a x) (rs ++ putsAfter s k F draw st x)
   unfolding afterFetches putsAfter closing
-  then-rounds (shut m g) rs shown within = stop-rounds rs [] refl (sym shown) within
-  then-rounds (on g (want w c)) rs shown within = stop-rounds rs [] refl (sym shown) (inr ((λ e. omega arith), within))
+  then-rounds (shut m g) rs shown within = no-puts rs (sym shown) within
+  then-rounds (on g (want w c)) rs shown within = no-puts rs (sym shown) (inr ((λ e. omega arith), within))
   then-rounds (on g (done o)) rs shown within =
       let puts = roundsFrom s (st .entries) k draw F (putDraw s F 0) (done o) (stepped o g) in
       let y = putRounds k draw F (putDraw s F 0) o (stepped o g) in

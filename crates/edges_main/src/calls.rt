@@ -9,10 +9,11 @@ use call_spec::Reply;
 use state_spec::State;
 use text_writer::MOST_LEAVES;
 
-// What the last call brings, how many wait then, and the checksum of the tree before it.
+// What the last call brings, its peak among it, how many wait then, and the checksum of the tree before it.
 pub struct Shown {
     pub reply: Reply,
     pub leaves: usize,
+    pub peak: usize,
     pub waiting: u16,
     pub sum: u64,
 }
@@ -71,6 +72,7 @@ pub fn calls(row: &[usize; 128], tree: &mut [u8], trace: &mut [u16]) -> Shown {
     Shown {
         reply,
         leaves: last.leaves,
+        peak: last.peak,
         waiting: left.count,
         sum,
     }

@@ -15,7 +15,7 @@ ghost use Prim.Native.Nat.{_≤_};
 ghost use lib.ListN.{length};
 ghost use Rattle.walk_spec.specs.Lines.{mostLeaves};
 
-// What X says is printed: the number of a refusal, and whether all that was lent is as it was (0); the same of an opening (1);
+// What X says is printed: the number of a refusal, and whether all that was lent is as it was and the peak is 0 (0); of an opening (1);
 // how many nodes wait (2); the line that the walk program would print (3), and then whether the tree is unchanged (4).
 const OPENING: usize = 1;
 
@@ -25,6 +25,14 @@ const LINE: usize = 3;
 
 // What a trace buffer holds at first.
 const NO_LEAF: u16 = 65521;
+
+// The checksum, or another number where a call that makes no round has a peak.
+fn with_peak(sum: u64, peak: usize) -> u64 {
+    if peak != 0 {
+        return sum ^ 1;
+    }
+    sum
+}
 
 // The checksum, or another number where a leaf was written.
 fn with_trace(sum: u64, trace: &[u16]) -> u64 {
@@ -61,7 +69,8 @@ fn show(form: usize, shown: Shown, sum: u64, trace: &[u16])
     if form == WAITING {
         return lines::number(shown.waiting, b"\n");
     }
-    lines::verdict(number_of(reply), shown.sum, with_trace(sum, trace));
+    let after = with_peak(with_trace(sum, trace), shown.peak);
+    lines::verdict(number_of(reply), shown.sum, after);
 }
 
 // The calls, with a trace buffer of the row's length for the last.

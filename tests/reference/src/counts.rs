@@ -22,20 +22,20 @@ const PEAKS_AT_DAMAGE: [&str; 4] = [
     "peaks of a damaged queue",
 ];
 
-const ZERO: &str = "0, answered";
-const BELOW_LIMIT: &str = "1 to 63, answered";
-const AT_LIMIT: &str = "64, answered";
-const FULL_STORE: &str = "more than 0 with 10";
+const ZERO: &str = "0 and answered";
+const BELOW_LIMIT: &str = "1 to 63 and answered";
+const AT_LIMIT: &str = "64 and answered";
+const FULL_STORE: &str = "above 0 on a full store";
 const LARGEST_IN_FETCH: &str = "largest in a fetch round";
 const LARGEST_IN_PUT: &str = "largest in put rounds alone";
-const OVERFLOW_IN_FETCH: &str = "65 with 9 in a fetch round";
-const OVERFLOW_IN_PUT: &str = "65 with 9 in a put round";
-const AFTER_CLOSING: &str = "0 with 1";
-const FOREIGN: &str = "0 with 5";
-const DAMAGE_AT_ONCE: &str = "0 with 8 in the first round";
-const DAMAGE_AT_ONCE_WAITING: &str = "0 with 8 in the first round, some waiting";
-const DAMAGE_IN_FETCH: &str = "more than 0 with 8 in a later fetch round";
-const DAMAGE_IN_PUT: &str = "more than 0 with 8 in a put round";
+const OVERFLOW_IN_FETCH: &str = "65 at overflow in a fetch round";
+const OVERFLOW_IN_PUT: &str = "65 at overflow in a put round";
+const AFTER_CLOSING: &str = "0 on a closed store";
+const FOREIGN: &str = "0 for a foreign kind";
+const DAMAGE_AT_ONCE: &str = "0 at damage in the first round";
+const DAMAGE_AT_ONCE_WAITING: &str = "0 at damage in the first round while nodes wait";
+const DAMAGE_IN_FETCH: &str = "above 0 at damage in a later fetch round";
+const DAMAGE_IN_PUT: &str = "above 0 at damage in a put round";
 
 const OF_CALLS: [&str; 10] = [
     ZERO,

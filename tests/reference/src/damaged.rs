@@ -13,9 +13,14 @@ const NEAR_ROOT: usize = 3;
 /// Bytes of a slot that are often damaged: flag, heights, zero bytes, and the
 /// low bytes of keys and tags.
 const BYTES: [usize; 14] = [0, 0, 1, 2, 3, 4, 8, 12, 16, 16, 18, 20, 22, 23];
-/// Heights, keys and tags, all by their low bytes.
-const FIELDS: [usize; 8] = [1, 2, 4, 8, 12, OWN_TAG, 18, 20];
+/// Heights, and the low bytes of keys and tags.
+const FIELDS: [usize; 8] = [1, 2, KEY, LEFT_KEY, RIGHT_KEY, OWN_TAG, LEFT_TAG, RIGHT_TAG];
+const KEY: usize = 4;
+const LEFT_KEY: usize = 8;
+const RIGHT_KEY: usize = 12;
 const OWN_TAG: usize = 16;
+const LEFT_TAG: usize = 18;
+const RIGHT_TAG: usize = 20;
 
 /// What an input's damage is done to.
 #[derive(Clone, Copy)]
@@ -28,6 +33,17 @@ enum Aim {
     Paths,
     Anywhere,
 }
+
+const AIMS: [Aim; 8] = [
+    Aim::Fields,
+    Aim::Fields,
+    Aim::Fields,
+    Aim::FullSlots,
+    Aim::NearRoot,
+    Aim::Paths,
+    Aim::Paths,
+    Aim::Anywhere,
+];
 
 /// A store under the input's calls.
 struct Run {
@@ -54,10 +70,7 @@ pub fn input(seed: u64) -> Vec<u8> {
     let length = TICKET_BYTES + 2 * numbers;
     let mut random = Random::new(!seed);
     let first = first_damage(&mut random, inputs::plan(seed), size, calls.len() / length);
-    use Aim::*;
-    let aim = random.pick(&[
-        Fields, Fields, Fields, FullSlots, NearRoot, Paths, Paths, Anywhere,
-    ]);
+    let aim = random.pick(&AIMS);
     let bytes = vec![structure, size];
     let mut run = Run {
         random,
@@ -160,7 +173,7 @@ impl Run {
         let depth = (1 + slot / BUCKET_SLOTS).ilog2() as u8;
         let amount = match byte {
             OWN_TAG => self.other_leaf(place, size - depth),
-            18.. => self.other_leaf(place, size),
+            LEFT_TAG | RIGHT_TAG => self.other_leaf(place, size),
             _ => self.random.pick(&[1, 1, 2, 255]),
         };
         (byte, amount)
@@ -170,9 +183,9 @@ impl Run {
     fn field(&mut self, slot: usize) -> usize {
         let links = [self.tree[slot + 1], self.tree[slot + 2]].map(|height| height > 0);
         let mut fields = FIELDS.to_vec();
-        fields.retain(|field| match field {
-            8 | 18 => links[0],
-            12 | 20 => links[1],
+        fields.retain(|&field| match field {
+            LEFT_KEY | LEFT_TAG => links[0],
+            RIGHT_KEY | RIGHT_TAG => links[1],
             _ => true,
         });
         self.random.pick(&fields)

@@ -19,51 +19,39 @@ fn peaks(pair: &mut Pair, tickets: &[Ticket], tape: &[u16]) -> Vec<usize> {
 
 /// With zero tapes none of so few nodes waits at a close: a peak is the number
 /// of nodes that the call fetches.
+fn fetched(structure: u8, tickets: &[Ticket]) -> Vec<usize> {
+    let tape = vec![0; tape_length(structure, 2)];
+    peaks(&mut Pair::open(structure, 2), tickets, &tape)
+}
+
 #[test]
-fn small_stores() {
-    let fetched = |structure, tickets: &[Ticket]| {
-        let tape = vec![0; tape_length(structure, 2)];
-        peaks(&mut Pair::open(structure, 2), tickets, &tape)
-    };
+fn small_stacks_and_queues() {
     let stack = [pop(), push(5), push(6), pop(), pop(), pop()];
     assert_eq!(fetched(STACK, &stack), [0, 0, 0, 1, 1, 0]);
     let (enter, leave) = (queue_in(5), queue_out());
     let queue = [leave, enter, enter, leave, leave, leave];
     assert_eq!(fetched(QUEUE, &queue), [0, 0, 0, 1, 1, 0]);
-    // To add fetches position 1, and none when the heap is full. To take fetches
-    // 1, 3 and 2; then 1 and 2.
-    let heap = [
-        take(),
-        add(3),
-        add(2),
-        add(1),
-        add(4),
-        take(),
-        take(),
-        take(),
-    ];
-    assert_eq!(fetched(HEAP, &heap), [0, 0, 1, 1, 0, 3, 2, 1]);
-    // 2 is the root. A full map's put walks as any does. To remove 2 fetches 3,
-    // which takes its place.
-    let map = [
-        get(7),
-        put(2, 0),
-        put(1, 0),
-        put(3, 0),
-        get(2),
-        get(1),
-        get(9),
-    ];
-    let full = [
-        put(3, 1),
-        put(4, 0),
-        remove(2),
-        get(1),
-        remove(9),
-        remove(3),
-    ];
-    let both = [&map[..], &full].concat();
-    assert_eq!(fetched(MAP, &both), [0, 0, 1, 1, 1, 2, 2, 2, 2, 2, 2, 1, 1]);
+}
+
+/// To add fetches position 1, and none when the heap is full. To take fetches 1,
+/// 3 and 2; then 1 and 2; then 1.
+#[test]
+fn small_heaps() {
+    let adds = [take(), add(3), add(2), add(1), add(4)];
+    let both = [&adds[..], &[take(); 4]].concat();
+    assert_eq!(fetched(HEAP, &both), [0, 0, 1, 1, 0, 3, 2, 1, 0]);
+}
+
+/// 2 is the root. A full map's put walks as any does. To remove 2 fetches 3, which
+/// takes its place.
+#[test]
+fn small_maps() {
+    let puts = [get(7), put(2, 0), put(1, 0), put(3, 0)];
+    let gets = [get(2), get(1), get(9), put(3, 1), put(4, 0)];
+    let removes = [remove(2), get(1), remove(9), remove(3)];
+    let all = [&puts[..], &gets, &removes].concat();
+    let expected = [[0, 0, 1, 1].as_slice(), &[1, 2, 2, 2, 2], &[2, 2, 1, 1]];
+    assert_eq!(fetched(MAP, &all), expected.concat());
 }
 
 /// Size 3, tag 7 and leaf 0: only the root bucket takes four of the nodes, the

@@ -12,6 +12,7 @@ mod state;
 
 pub use branch::{Branch, Groups, DAMAGE_FOUND, STEPS};
 pub use read_out::read_out;
+pub use round::Met;
 pub use slot::{passes, path, read_slot, write_slot, Node, Reading, Side};
 pub use state::{open, State};
 
@@ -29,17 +30,6 @@ pub fn call(
     call_and_met(state, tree, ticket, tape, trace).0
 }
 
-/// What a call met, for the random runs to count.
-#[derive(Default)]
-pub struct Met {
-    /// Of the steps of a put, a heap and a queue alone; and the damage found.
-    pub branches: Vec<Branch>,
-    /// How many nodes waited before the first round.
-    pub waiting: usize,
-    /// How many nodes waited or were held at each round's close.
-    pub closes: Vec<usize>,
-}
-
 /// A call, and what it met.
 pub fn call_and_met(
     state: &mut State,
@@ -51,7 +41,6 @@ pub fn call_and_met(
     if let Some(cause) = refusal(state, tree, ticket, tape, trace) {
         return (Outcome::refused(cause), Met::default());
     }
-    let waiting = state.count;
     let mut run = Run {
         structure: state.structure,
         size: state.size,
@@ -64,16 +53,13 @@ pub fn call_and_met(
         tape,
         trace,
         leaves: 0,
-        closes: vec![],
-        branches: vec![],
+        met: Met {
+            waiting: state.count,
+            ..Met::default()
+        },
     };
     let result = run.rounds(Ticket::read(ticket));
-    let held = run.held.iter().map(|held| held.node).collect();
-    run.wait(held);
-    state.entries = run.entries;
-    state.root = run.root;
-    state.ahead = run.ahead;
-    state.set_waiting(&run.waiting);
+    run.leave_in(state);
     let answer = result.unwrap_or_else(|cause| {
         state.mark = cause;
         Answer::Refused(cause)
@@ -81,14 +67,9 @@ pub fn call_and_met(
     let outcome = Outcome {
         answer,
         leaves: run.leaves,
-        peak: run.closes.iter().copied().max().unwrap_or(0),
+        peak: run.met.peak(),
     };
-    let met = Met {
-        branches: run.branches,
-        waiting,
-        closes: run.closes,
-    };
-    (outcome, met)
+    (outcome, run.met)
 }
 
 /// The first of the causes 1 to 5, 17, 6 and 7 that holds.

@@ -1,7 +1,7 @@
 //! Rounds over the tree and the waiting nodes.
 
 use super::slot::{passes, path, read_slot, write_slot, Node, Reading, Side};
-use super::{heap, map, queue, stack, Branch};
+use super::{heap, map, queue, stack, Branch, State};
 use crate::paper::*;
 
 /// The turns from the root to a node, as the store stood before the step.
@@ -53,10 +53,25 @@ pub struct Run<'a> {
     pub tape: &'a [u16],
     pub trace: &'a mut [u16],
     pub leaves: usize,
+    pub met: Met,
+}
+
+/// What a call meets, for its peak and for the random runs to count.
+#[derive(Default)]
+pub struct Met {
+    /// How many nodes waited before the first round.
+    pub waiting: usize,
     /// The number waiting and held at each round's close.
     pub closes: Vec<usize>,
-    /// What the step met, and the damage that a round found.
+    /// Of the step of a put, a heap or a queue; and the damage that was found.
     pub branches: Vec<Branch>,
+}
+
+impl Met {
+    /// The largest number at a close.
+    pub fn peak(&self) -> usize {
+        self.closes.iter().copied().max().unwrap_or(0)
+    }
 }
 
 impl Run<'_> {
@@ -73,7 +88,7 @@ impl Run<'_> {
         self.entries = done.entries;
         self.root = done.root;
         self.ahead = done.ahead;
-        self.branches = done.branches;
+        self.met.branches = done.branches;
         self.held.clear();
         self.wait(done.nodes);
         let first = first_put_draw(self.structure, self.size);
@@ -173,7 +188,7 @@ impl Run<'_> {
     }
 
     fn damage(&mut self, found: Branch) -> u8 {
-        self.branches.push(found);
+        self.met.branches.push(found);
         DAMAGE
     }
 
@@ -232,7 +247,7 @@ impl Run<'_> {
     /// A round that overflows closes too.
     fn close_round(&mut self) -> Result<(), u8> {
         let number = self.waiting.len() + self.held.len();
-        self.closes.push(number);
+        self.met.closes.push(number);
         if number <= WAITING_LIMIT {
             Ok(())
         } else {
@@ -240,8 +255,18 @@ impl Run<'_> {
         }
     }
 
+    /// Ends the call; the held nodes join those waiting.
+    pub fn leave_in(&mut self, state: &mut State) {
+        let held = self.held.iter().map(|held| held.node).collect();
+        self.wait(held);
+        state.entries = self.entries;
+        state.root = self.root;
+        state.ahead = self.ahead;
+        state.set_waiting(&self.waiting);
+    }
+
     /// More nodes wait; one whose key waits already stands second.
-    pub fn wait(&mut self, nodes: Vec<Node>) {
+    fn wait(&mut self, nodes: Vec<Node>) {
         self.waiting.extend(nodes);
         self.waiting.sort_by_key(|node| node.key);
     }

@@ -1,5 +1,5 @@
 -- Rounds that are listed one by one: they come to what the rounds come to, each reveals a leaf, and their peak is above the limit exactly where the last one
--- overflowed.
+-- overflowed, and then the number that it left.
 use mathlib.Core.Path.{_≡_, refl, sym, _∙_, ap}
 use mathlib.Core.Bool.{Bool, true, false}
 use mathlib.Core.Logic.{_⊎_, inl, inr}
@@ -26,15 +26,15 @@ use Rattle.bucket_call_spec.specs.Peak.{roundsFrom, peakOf}
 use Rattle.peak_laws.specs.PeakLaws.{peakAt, peak-append, peak-none, peak-damage, peak-close, done-round, rounds-none, rounds-goes, rounds-shuts}
 
 -- ---- definitions
--- Above the limit exactly with the mark 9.
-abbrev pub ByMark : (mark peak : ℕ) → Type 0
-ByMark m n = ((m ≡ 9) × (limit < n)) ⊎ ((m ≡ 9 → ⊥) × (n ≤ limit))
+-- Above the limit exactly with the mark 9, and then the number that is left waiting and held.
+abbrev pub ByMark : (mark peak left : ℕ) → Type 0
+ByMark m n t = ((m ≡ 9) × ((limit < n) × (n ≡ t))) ⊎ ((m ≡ 9 → ⊥) × (n ≤ limit))
 
 module _ {A : Type 0} where
   -- The same of what rounds come to.
   abbrev pub Within : Round A → ℕ → Type 0
   Within (on g p) n = n ≤ limit
-  Within (shut m g) n = ByMark m n
+  Within (shut m g) n = ByMark m n (total g)
 
   abbrev pub leavesIn : Round A → List ℕ
   leavesIn (on g p) = g .leaves
@@ -55,7 +55,7 @@ module _ {A : Type 0} where
   -- What a round from g came to: it went on, with a program as `Next` says, or found damage, or overflowed. It revealed one leaf.
   pub data Came (g : Going) (Next : Prog ℕ A → Type 0) : Round A → Type 0 where
     went : (h : Going) (q : Prog ℕ A) → Next q → length (h .leaves) ≡ suc (length (g .leaves)) → peakAt (on h q) ≤ limit → Came g Next (on h q)
-    stopped : (m : ℕ) (h : Going) → length (h .leaves) ≡ suc (length (g .leaves)) → ByMark m (peakAt {A = A} (shut m h)) → Came g Next (shut m h)
+    stopped : (m : ℕ) (h : Going) → length (h .leaves) ≡ suc (length (g .leaves)) → ByMark m (peakAt {A = A} (shut m h)) (total h) → Came g Next (shut m h)
 
   module _ {g : Going} {Next : Prog ℕ A → Type 0} where
     damage-came : (h : Going) → length (h .leaves) ≡ suc (length (g .leaves)) → Came g Next (shut 8 h)
@@ -66,7 +66,7 @@ module _ {A : Type 0} where
     close-came h p next one = go (tooMany h) refl (peak-close h p)
       where
         go : (b : Bool) → tooMany h ≡ b → peakAt (pick b (shut 9 h) (on h p)) ≡ total h → Came g Next (pick b (shut 9 h) (on h p))
-        go true e counted = stopped 9 h one (inl (refl, omega (arith, ltb-true limit (total h) e)))
+        go true e counted = stopped 9 h one (inl (refl, (omega (arith, ltb-true limit (total h) e), counted)))
         go false e counted = went h p next one (omega (arith, ltb-false limit (total h) e))
 
   idle-came : (k leaf : ℕ) (p : Prog ℕ A) (g : Going) → Came g (λ q. q ≡ p) (idleRound k leaf p g)
@@ -113,14 +113,14 @@ module _ {A : Type 0} where
   unfolding lastOf
   lists-none g p = record { last = refl; shown = omega arith; within = omega (arith, peak-none A) }
 
-  lists-shut : {g : Going} {p : Prog ℕ A} {m : ℕ} {h : Going} → length (h .leaves) ≡ suc (length (g .leaves)) → ByMark m (peakAt {A = A} (shut m h))
+  lists-shut : {g : Going} {p : Prog ℕ A} {m : ℕ} {h : Going} → length (h .leaves) ≡ suc (length (g .leaves)) → ByMark m (peakAt {A = A} (shut m h)) (total h)
       → Lists g p (shut m h ∷ []) (shut m h)
   unfolding lastOf
   lists-shut one by = record { last = refl; shown = omega arith; within = by }
 
   pub within-max : (x : Round A) (low n : ℕ) {most : ℕ} → low ≤ limit → most ≡ max low n → Within x n → Within x most
   within-max (on g p) low n few e h = omega arith
-  within-max (shut m g) low n few e (inl h) = inl (h .0, omega (arith, h .1))
+  within-max (shut m g) low n few e (inl h) = inl (h .0, (omega (arith, h .1 .0), omega (arith, h .1 .0, h .1 .1)))
   within-max (shut m g) low n few e (inr h) = inr (h .0, omega (arith, h .1))
 
   lists-on : {g : Going} {p : Prog ℕ A} {h : Going} {q : Prog ℕ A} {rs : List (Round A)} {x : Round A} → length (h .leaves) ≡ suc (length (g .leaves))

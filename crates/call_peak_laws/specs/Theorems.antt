@@ -1,5 +1,6 @@
 -- Document 02, change 6, for any state, tree, ticket, tape and trace buffer: a call's peak is the largest count at the close of one of its rounds; it is at most
--- 64 except with 9, and with 9 it is above 64; and a refusal 1 to 7 or 17 brings 0. That it changes nothing else is `as-before` (Earlier.antt).
+-- 64 except with 9, and with 9 it is above 64, the number that then waits; and a refusal 1 to 7 or 17 brings 0. That it changes nothing else is `as-before`
+-- (Earlier.antt).
 use mathlib.Core.Path.{_≡_, refl, sym, _∙_, ap}
 use mathlib.Core.Bool.{true, false}
 use mathlib.Core.Logic.{_⊎_, inl, inr}
@@ -140,7 +141,7 @@ module _ (s : State) (tree ticket tape trace : List ℕ) where
   pub within-limit : (e .reply ≡ Refused 9 → ⊥) → e .peak ≤ limit
   within-limit h = go comes
     where
-      by : (op : Op st) → e ≡ ending s trace (leftOf op) (peakOn op) → ByMark (leftOf op .mark) (peakOn op) → e .peak ≤ limit
+      by : (op : Op st) → e ≡ ending s trace (leftOf op) (peakOn op) → ByMark (leftOf op .mark) (peakOn op) (length (leftOf op .waiting)) → e .peak ≤ limit
       by op q (inl x) = absurd (h (ap (λ (y : Ended). y .reply) q ∙ nine-reply (leftOf op) (ends op) (x .0)))
       by op q (inr x) = omega (arith, ap (λ (y : Ended). y .peak) q, x .1)
 
@@ -148,14 +149,22 @@ module _ (s : State) (tree ticket tape trace : List ℕ) where
       go (refused n quiet nine q) = omega (arith, ap (λ (x : Ended). x .peak) q)
       go (rounded op asks q) = by op q (call-rounds (s .size) (rounds st (s .size)) op (drawOf (s .size) tape) (storeOf s tree) .by-mark)
 
-  -- With 9 it is above 64.
-  pub above-limit : e .reply ≡ Refused 9 → limit < e .peak
-  above-limit h = go comes
+  at-overflow : e .reply ≡ Refused 9 → (limit < e .peak) × (e .peak ≡ e .state .count)
+  at-overflow h = go comes
     where
-      by : (op : Op st) → e ≡ ending s trace (leftOf op) (peakOn op) → ByMark (leftOf op .mark) (peakOn op) → limit < e .peak
-      by op q (inl x) = omega (arith, ap (λ (y : Ended). y .peak) q, x .1)
+      by : (op : Op st) → e ≡ ending s trace (leftOf op) (peakOn op) → ByMark (leftOf op .mark) (peakOn op) (length (leftOf op .waiting))
+          → (limit < e .peak) × (e .peak ≡ e .state .count)
+      by op q (inl x) = rw q (x .1)
       by op q (inr x) = absurd (x .0 (nine-mark (leftOf op) (ends op) (ap (λ (y : Ended). y .reply) (sym q) ∙ h)))
 
-      go : Comes → limit < e .peak
+      go : Comes → (limit < e .peak) × (e .peak ≡ e .state .count)
       go (refused n quiet nine q) = absurd (nine (same-number (ap (λ (x : Ended). x .reply) (sym q) ∙ h)))
       go (rounded op asks q) = by op q (call-rounds (s .size) (rounds st (s .size)) op (drawOf (s .size) tape) (storeOf s tree) .by-mark)
+
+  -- With 9 it is above 64.
+  pub above-limit : e .reply ≡ Refused 9 → limit < e .peak
+  above-limit h = at-overflow h .0
+
+  -- And it is the number of nodes that wait in the closed state.
+  pub overflow-waits : e .reply ≡ Refused 9 → e .peak ≡ e .state .count
+  overflow-waits h = at-overflow h .1

@@ -52,9 +52,10 @@ crowded =
     }
 
 pub crowded-push : (pushCounts (0 ∷ 0 ∷ 0 ∷ []) crowded ≡ 64 ∷ 65 ∷ [])
+    × (callPeak {s = stack} 2 1 (push 50) (drawOf 2 (0 ∷ 0 ∷ 0 ∷ [])) crowded ≡ 65)
     × (bucketCall {s = stack} 2 1 (push 50) (drawOf 2 (0 ∷ 0 ∷ 0 ∷ [])) crowded .mark ≡ 9)
 unfolding largest countsOf countAtClose thenRounds roundsFrom putsAfter bucketCall afterFetches afterPuts putRounds fetchRounds fetchRound wantRound tookRound idleRound atClose closing movedLink movedNode withBucket noneTwice allGood readBucket readBuckets insert join takeFirst tagged granted joined grantedFrom readHalf choose evict halvings among filled encode fieldsOf pack bytes readSlot bad fieldsIn nodeOf fields value allZero readLeaf spare program aheadAfter test pushProg popProg stackTest bind upTo
-crowded-push = (refl, refl)
+crowded-push = (refl, refl, refl)
 
 -- A stack whose one node waits, under tag 2, and a bad slot at the start of that bucket.
 abbrev damagedAt : (before after : ℕ) → Store

@@ -29,6 +29,7 @@ use Rattle.state_spec.specs.Opening.{opened}
 use Rattle.call_spec.specs.Store.{called, callWith, replied, replyOf}
 use Rattle.operation_spec.specs.declared.Answer.the-variants.{Absent, Pushed, Popped, Replaced}
 use Rattle.walk_spec.specs.Lines.{ascii, leading, decimal, numbers, lineOf, longestLine}
+use Rattle.walk_spec.specs.PeakLines.{peakLine}
 use Rattle.walk_spec.specs.Input.{recordLength, numbersIn, tapeIn, arrivedOf}
 use Rattle.walk_spec.specs.Walk.{callLines, walked}
 
@@ -50,11 +51,12 @@ pub record Lines : Type 0 where
   pub get : lineOf (Answered Absent) (0 ∷ 1 ∷ 2 ∷ 3 ∷ 0 ∷ 1 ∷ 3 ∷ 0 ∷ 1 ∷ 2 ∷ 3 ∷ 0 ∷ []) ≡ ascii "absent 0 0 1 2 3 0 1 3 0 1 2 3 0\n"
   pub full-store : lineOf (Refused 10) (0 ∷ 1 ∷ []) ≡ ascii "refused 10 0 1\n"
   pub closed : lineOf (Refused 1) [] ≡ ascii "refused 1\n"
+  pub peak : peakLine 7 65 ≡ ascii "last 7 largest 65 limit 64\n"
   pub longest : length (lineOf (Answered (Replaced 18446744073709551615)) (replicate 66 65535)) ≡ longestLine
 
 lines-worked : Lines
-unfolding leading decimal numbers lineOf
-lines-worked = record { push = refl; pop = refl; get = refl; full-store = refl; closed = refl; longest = refl }
+unfolding leading decimal numbers lineOf peakLine
+lines-worked = record { push = refl; pop = refl; get = refl; full-store = refl; closed = refl; peak = refl; longest = refl }
 
 -- ---- the input
 pub record Records : Type 0 where

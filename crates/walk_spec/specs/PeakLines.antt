@@ -1,9 +1,8 @@
 -- The line that the program `peaks` prints for a call, as ASCII: the call's peak, the largest of the run so far, and the limit.
 use Prim.Native.Nat.{ℕ}
-use mathlib.Core.Path.{_≡_, refl}
 use mathlib.Core.List.{List, [], _∷_, _++_}
 use Rattle.round_spec.specs.Round.{limit}
-use Rattle.walk_spec.specs.Lines.{ascii, newline, leading, decimal, numbers}
+use Rattle.walk_spec.specs.Lines.{ascii, newline, numbers}
 
 -- A word and a number.
 abbrev pub named : List ℕ → ℕ → List ℕ
@@ -12,8 +11,3 @@ named word n = word ++ numbers (n ∷ [])
 unfoldable pub peakLine : (last largest : ℕ) → List ℕ
 peakLine last largest =
     named (ascii "last") last ++ (named (ascii " largest") largest ++ (named (ascii " limit") limit ++ (newline ∷ [])))
-
--- A call of peak 7 after one of 65.
-pub a-line : peakLine 7 65 ≡ ascii "last 7 largest 65 limit 64\n"
-unfolding peakLine numbers decimal leading
-a-line = refl

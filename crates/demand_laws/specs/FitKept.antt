@@ -46,7 +46,7 @@ zero-places (suc n) = zero-places n
 
 -- ---- the root
 
-root-good : (st : Structure) (limit : ℕ) (t : Contents st) (m : Memory ℕ) → Held 0 st limit t m
+pub root-good : (st : Structure) (limit : ℕ) (t : Contents st) (m : Memory ℕ) → Held 0 st limit t m
     → rootGood (numberOf st) (m .entries) (m .ahead .key) (fromLink (m .root)) ≡ true
 unfolding rootGood
 root-good st limit t m held = go (decLe 1 (m .entries))
@@ -78,7 +78,7 @@ none-known : (n k entries : ℕ) (a : Ahead ℕ) → eqb n 4 ≡ false → a ≡
 unfolding aheadGood
 none-known n k entries a other e = rw (other, e)
 
-ahead-good : (st : Structure) (k limit : ℕ) (t : Contents st) (m : Memory ℕ) → Held 0 st limit t m → AheadFits k (m .ahead)
+pub ahead-good : (st : Structure) (k limit : ℕ) (t : Contents st) (m : Memory ℕ) → Held 0 st limit t m → AheadFits k (m .ahead)
     → aheadGood (numberOf st) k (m .entries) (fromAhead (m .ahead)) ≡ true
 unfolding aheadGood
 ahead-good the-map k limit t m held known = none-known 1 k (m .entries) (m .ahead) refl (held .1)

@@ -37,7 +37,7 @@ fn empty_state(mark: u8, structure: u8, size: u8) -> State
 }
 
 // Zero bytes for all of a tree: each bucket's four-slot part is lent on to the bucket writer, which is given no slot.
-fn clear(tree: &mut [u8])
+pub fn clear(tree: &mut [u8])
     requires { ⌜ (length (now tree) < 2 ^ 32) × (length (now tree) % bucketLength ≡ 0) ⌝ }
     ensures { λ _. ⌜ now (tree .exit) ≡ replicate (length (now (tree .entry))) 0 ⌝ }
 {

@@ -226,7 +226,7 @@ node-numbers : (f : Fields) → f .flag ≡ 1 → f .zero1 ≡ 0 → f .zero2 �
 unfolding fieldsOf nodeOf
 node-numbers f e z1 z2 = rw (e, z1, z2)
 
-node-encoding : (bs : List ℕ) → Bytes bs → length bs ≡ 32 → fieldsIn bs .flag ≡ 1 → fieldsIn bs .zero1 ≡ 0 → fieldsIn bs .zero2 ≡ 0 → bs ≡ encode (nodeOf (fieldsIn bs))
+pub node-encoding : (bs : List ℕ) → Bytes bs → length bs ≡ 32 → fieldsIn bs .flag ≡ 1 → fieldsIn bs .zero1 ≡ 0 → fieldsIn bs .zero2 ≡ 0 → bs ≡ encode (nodeOf (fieldsIn bs))
 unfolding encode total
 node-encoding bs h l f z1 z2 =
     sym (pack-fields widths bs h l) ∙ ap (pack widths) (numbers-in bs ∙ node-numbers (fieldsIn bs) f z1 z2)

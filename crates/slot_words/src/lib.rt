@@ -1,4 +1,4 @@
-// Bytes of a lent tree as little-endian words.
+// Lent bytes as little-endian words.
 use slot_spec::Slot;
 ghost use mathlib.Core.Path.{_≡_};
 ghost use Prim.Native.Nat.{_+_, _≤_, _<_};
@@ -15,7 +15,7 @@ fn wide(x: u8) -> u64
 }
 
 // The word at a byte, as one flat sum: it is compiled to one load.
-fn word(s: &[u8], at: usize) -> u64
+pub fn word(s: &[u8], at: usize) -> u64
     requires { ⌜ at + 8 ≤ length (now s) ⌝ }
     ensures { λ r. ⌜ r ≡ value (take 8 (drop at (now (s .entry)))) ⌝ }
 {
@@ -29,7 +29,7 @@ fn word(s: &[u8], at: usize) -> u64
         + wide(s[at + 7]) * 72057594037927936
 }
 
-fn put_word(s: &mut [u8], at: usize, v: u64)
+pub fn put_word(s: &mut [u8], at: usize, v: u64)
     requires { ⌜ at + 8 ≤ length (now s) ⌝ }
     ensures { λ _. ⌜ now (s .exit) ≡ sets (now (s .entry)) at (bytes 8 v) ⌝ }
 {

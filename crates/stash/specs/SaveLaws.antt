@@ -108,7 +108,7 @@ blank-from s i p sized h few =
     ∙ ap (λ (k : ℕ). replicate k noPlace) f
 
 -- ---- the places that are saved
-any-default : {A : Type 0} (l : List A) (i : ℕ) (d e : A) → i < length l → getD l i d ≡ getD l i e
+pub any-default : {A : Type 0} (l : List A) (i : ℕ) (d e : A) → i < length l → getD l i d ≡ getD l i e
 any-default {A = A} l i d e h =
     ap (λ (m : List A). getD m i d) (split-at l i e h) ∙ getD-at (take i l) (getD l i e) (drop (suc i) l) d i (length-take-le i l (omega arith))
 
@@ -174,7 +174,7 @@ module _ (n : ℕ) (words : List ℕ) (h : Holds n words) where
         ∙ ap (λ (ps : List Place). ps ++ rest) (sym (take-suc (placed nodes) i noPlace (omega (arith, placed-count))))))
 
     -- Past the nodes that wait and those that waited, nothing is left to save.
-    nothing-left : (i : ℕ) → n ≤ i → s .count ≤ i → i ≤ places → take i (placed nodes) ++ drop i (s .places) ≡ placed nodes
+    pub nothing-left : (i : ℕ) → n ≤ i → s .count ≤ i → i ≤ places → take i (placed nodes) ++ drop i (s .places) ≡ placed nodes
     nothing-left i a b few =
         let e : i ≡ length (map holding nodes) + (i - n) = omega (arith, many) in
         let f : places - length nodes - (i - n) ≡ places - i = omega (arith, waiting-length h) in

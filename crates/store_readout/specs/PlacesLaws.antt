@@ -15,8 +15,8 @@ use Rattle.slot_spec.specs.Slot.{Ranged}
 use Rattle.state_spec.specs.declared.Place.{Place}
 use Rattle.state_spec.specs.Fit.{places, noPlace, placesFrom}
 use Rattle.state_laws.specs.FitLaws.{places-step, places-end}
-use Rattle.survey_laws.specs.Items.{placeBytes, placesBytes}
-use Rattle.survey_laws.specs.WaitingSlots.{place-length}
+use Rattle.lent_bytes_spec.specs.StateBytes.{placeBytes, placesBytes}
+use Rattle.lent_bytes_laws.specs.PlaceLaws.{place-length}
 
 -- Of n places the first i are put.
 pub record PutSo (ps : List Place) (n i : ℕ) (waiting : List ℕ) : Type 0 where

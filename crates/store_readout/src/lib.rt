@@ -18,7 +18,7 @@ ghost use lib.ListN.{length};
 ghost use Rattle.slot_spec.specs.Tree.{slotLength};
 ghost use Rattle.slot_spec.specs.Slot.{encode, slotBytes, Ranged};
 ghost use Rattle.readout_spec.specs.ReadOut.{closedMark, leaving, readOut};
-ghost use Rattle.survey_laws.specs.Items.{placeBytes};
+ghost use Rattle.lent_bytes_spec.specs.StateBytes.{placeBytes};
 ghost use Rattle.store_readout.specs.Refusal.{knownNumbers, refusalOf};
 
 // The bytes of all waiting places as slots.
@@ -48,7 +48,7 @@ fn is_known(structure: u8, size: u8, count: u16) -> bool
 }
 
 // The number with which a store is refused before its nodes are looked at: 14, 2, then 3; 0 if with none.
-fn refusal(mark: u8, structure: u8, size: u8, count: u16, length: usize) -> u8
+pub fn refusal(mark: u8, structure: u8, size: u8, count: u16, length: usize) -> u8
     ensures { λ r. ⌜ r ≡ refusalOf mark structure size count length ⌝ }
 {
     if !closed_mark(mark) {

@@ -8,10 +8,9 @@ use lib.ListN.{length, getD, set, take, drop, replicate}
 use Rattle.list_spec.specs.Choice.{pick}
 use Rattle.list_spec.specs.Sorting.{sortBy}
 use Rattle.slot_spec.specs.Tree.{slotLength}
-use Rattle.slot_spec.specs.Slot.{fieldsIn, encode, readSlot}
+use Rattle.slot_spec.specs.Slot.{fieldsIn, readSlot}
 use Rattle.slot_spec.specs.declared.Reading.{Reading}
 use Rattle.slot_spec.specs.declared.Reading.the-variants.{Full, Empty, Bad}
-use Rattle.state_spec.specs.declared.Place.{Place}
 use Rattle.readout_spec.specs.Seen.{slotPlace, bucketOf, slotBytesAt}
 use Rattle.readout_spec.specs.Taken.{Omitted, Entry, isBad, isRepeated}
 use Rattle.readout_spec.specs.File.{file}
@@ -33,15 +32,6 @@ itemBytes tree waiting i =
 
 abbrev pub valueIn : (tree waiting : List ℕ) → ℕ → ℕ
 valueIn tree waiting i = fieldsIn (itemBytes tree waiting i) .value
-
--- ---- a state's waiting places as slots
--- An empty place is an empty slot, whatever else it holds.
-abbrev pub placeBytes : Place → List ℕ
-placeBytes p = pick (p .full) (encode (p .node)) (replicate slotLength 0)
-
-unfoldable pub placesBytes : List Place → List ℕ
-placesBytes [] = []
-placesBytes (p ∷ ps) = placeBytes p ++ placesBytes ps
 
 -- ---- marks: the reason for which an item would be reported if it is not taken, 0 if none
 -- A waiting place that is empty is bad; its bucket is not asked about, as the root's is on every path.

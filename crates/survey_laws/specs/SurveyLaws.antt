@@ -6,7 +6,7 @@ use Prim.Native.Nat.{ℕ, zero, suc, _+_, _-_, _*_, _<_}
 use native.Mathlib.Omega.{arith}
 use lib.Dec.{eqb}
 use lib.ListN.{length, getD, set, length-append}
-use lib.Seq.{getD-append-add, getD-append-seam, append-snoc}
+use lib.Seq.{take-at, drop-at, getD-append-add, getD-append-seam, append-snoc}
 use borrow.Author.Tests.{eqb-true, eqb-false, eq-eqb, ne-eqb, lt-ltb, le-ltb}
 use Rattle.list_spec.specs.Choice.{pick}
 use Rattle.list_spec.specs.Distinct.{All}
@@ -14,14 +14,14 @@ use Rattle.list_spec.specs.Sorting.{sortBy}
 use Rattle.list_laws.specs.DistinctLaws.{all-nil, all-cons, all-append, all-perm}
 use Rattle.list_laws.specs.SortingLaws.{sort-map, sort-perm}
 use Rattle.slot_spec.specs.Tree.{among, slotLength, treeLength}
-use Rattle.slot_spec.specs.Slot.{fieldsIn, readSlot, Ranged}
+use Rattle.slot_spec.specs.Slot.{fieldsIn, readSlot}
 use Rattle.slot_spec.specs.declared.Reading.{Reading}
 use Rattle.slot_laws.specs.TreeLaws.{among-member}
 use Rattle.state_spec.specs.declared.Place.{Place}
 use Rattle.readout_spec.specs.Seen.{Seen, slotPlace, slotCount, slotBytesAt, slotsFrom, bucketOf, waitingPlace, waitingFrom, placeReading}
 use Rattle.readout_spec.specs.Taken.{Entry, goodAt, goodIn, firsts, Omitted, isBad, isRepeated, omittedAt, omittedIn}
-use Rattle.survey_laws.specs.Items.{keyIn, slotsIn, itemBytes, placeBytes, placesBytes, markAt, markOf, rowFrom, marksFrom, keyAt, keysFrom, goodFrom, headsAfter, heads, cleared, entryFor, omittedBy}
-use Rattle.survey_laws.specs.WaitingSlots.{Shows, good, empty, bad, place-shows, slot-shows, place-length, places-length, place-at}
+use Rattle.survey_laws.specs.Items.{keyIn, slotsIn, itemBytes, markAt, markOf, rowFrom, marksFrom, keyAt, keysFrom, goodFrom, headsAfter, heads, cleared, entryFor, omittedBy}
+use Rattle.survey_laws.specs.WaitingSlots.{Shows, good, empty, bad, slot-shows, SlotsShow, no-slot, a-slot, slots-length}
 use Rattle.survey_laws.specs.HeadsLaws.{heads-sorted}
 
 -- ---- what is seen and the marks, item by item from number i on
@@ -204,9 +204,10 @@ good-append (x ∷ xs) ys =
     ∙ sym (append-assoc (goodAt (x .place) (x .reading)) (goodIn xs) (goodIn ys))
 
 -- ---- a store's items
-cons-bytes : (before : List ℕ) (q : Place) (qs : List Place) → before ++ placesBytes (q ∷ qs) ≡ (before ++ placeBytes q) ++ placesBytes qs
-unfolding placesBytes
-cons-bytes before q qs = sym (append-assoc before (placeBytes q) (placesBytes qs))
+-- A slot, after the bytes of those before it.
+slot-at : (before bs after : List ℕ) (i : ℕ) → length before ≡ slotLength * i → length bs ≡ slotLength → slotBytesAt (before ++ (bs ++ after)) i ≡ bs
+slot-at before bs after i b sized =
+    rw (drop-at before (bs ++ after) (slotLength * i) b) (take-at bs after slotLength sized)
 
 getD-append-before : (xs ys : List ℕ) (i : ℕ) → i < length xs → getD (xs ++ ys) i 0 ≡ getD xs i 0
 getD-append-before [] ys i low = let z : ⊥ = omega arith in absurd z
@@ -224,12 +225,9 @@ row-at f zero i j m low e = let z : ⊥ = omega arith in absurd z
 row-at f (suc n) i zero m low e = let h : i ≡ m = omega (arith, e) in ap f h
 row-at f (suc n) i (suc j) m low e = row-at f n (suc i) j m (omega arith) (omega (arith, e))
 
-module _ (k : ℕ) (tree : List ℕ) (sized : length tree ≡ treeLength k) (ps : List Place) (ranged : All (λ (p : Place). Ranged (p .node)) ps) where
+module _ (k : ℕ) (tree : List ℕ) (sized : length tree ≡ treeLength k) (ps : List Place) (waiting : List ℕ) (shown : SlotsShow k ps waiting) where
   abbrev pub S : ℕ
   S = slotCount k
-
-  abbrev pub waiting : List ℕ
-  waiting = placesBytes ps
 
   -- The keys and the marks of all items.
   abbrev pub keys : List ℕ
@@ -258,7 +256,7 @@ module _ (k : ℕ) (tree : List ℕ) (sized : length tree ≡ treeLength k) (ps 
   slots-there = omega (arith, sized)
 
   pub waiting-there : slotsIn waiting ≡ length ps
-  waiting-there = omega (arith, places-length ps)
+  waiting-there = omega (arith, slots-length shown)
 
   module _ (i : ℕ) (within : i < S) where
     slot-key : keyIn keys i ≡ keyAt tree i
@@ -293,32 +291,30 @@ module _ (k : ℕ) (tree : List ℕ) (sized : length tree ≡ treeLength k) (ps 
       (rw (slot-key i within, slot-bytes i within) (slot-shows k (bucketOf i) (slotBytesAt tree i)))
       (slots-rows n (suc i) (omega (arith, e)))
 
-  waiting-rows : (before : List ℕ) (i : ℕ) (qs : List Place) → placesBytes ps ≡ before ++ placesBytes qs → length before ≡ slotLength * i
-      → i + length qs ≡ length ps → All (λ (p : Place). Ranged (p .node)) qs
-      → Rows entry (S + i) (waitingFrom k i qs) (marksFrom false k waiting (length qs) i)
+  waiting-rows : {qs : List Place} {after : List ℕ} → SlotsShow k qs after → (before : List ℕ) (i : ℕ) → waiting ≡ before ++ after
+      → length before ≡ slotLength * i → i + length qs ≡ length ps → Rows entry (S + i) (waitingFrom k i qs) (marksFrom false k waiting (length qs) i)
   unfolding waitingFrom rowFrom
-  waiting-rows before i [] e b c r = none
-  waiting-rows before i (q ∷ qs) e b c r =
+  waiting-rows no-slot before i e b c = none
+  waiting-rows (a-slot q {ps = qs} bs {waiting = after} long shows more) before i e b c =
       let within : i < length ps = omega (arith, c) in
-      let bytes : slotBytesAt waiting i ≡ placeBytes q = ap (λ (x : List ℕ). slotBytesAt x i) e ∙ place-at before i q qs b in
+      let bytes : slotBytesAt waiting i ≡ bs = ap (λ (x : List ℕ). slotBytesAt x i) e ∙ slot-at before bs after i b long in
       let n : S + suc i ≡ suc (S + i) = omega arith in
       next {i = S + i} (waitingPlace k i) (placeReading k q) (markAt false k waiting i) (omega arith)
       (rw (
-        waiting-key i within ∙ ap (λ (bs : List ℕ). fieldsIn bs .key) bytes,
-        ap (λ (bs : List ℕ). fieldsIn bs .value) (waiting-bytes i within ∙ bytes),
-        ap (λ (bs : List ℕ). markOf false (readSlot k 1 bs)) bytes,
+        waiting-key i within ∙ ap (λ (x : List ℕ). fieldsIn x .key) bytes,
+        ap (λ (x : List ℕ). fieldsIn x .value) (waiting-bytes i within ∙ bytes),
+        ap (λ (x : List ℕ). markOf false (readSlot k 1 x)) bytes,
       )
-      (place-shows k q (r q (List·Memᴰ·head refl))))
+      shows)
       (subst (λ (x : ℕ). Rows entry x (waitingFrom k (suc i) qs) (marksFrom false k waiting (length qs) (suc i))) n
-      (waiting-rows (before ++ placeBytes q) (suc i) qs (e ∙ cons-bytes before q qs)
-      (length-append before (placeBytes q) ∙ omega (arith, b, place-length q)) (omega (arith, c)) (λ p m. r p (List·Memᴰ·tail m))))
+      (waiting-rows more (before ++ bs) (suc i) (e ∙ sym (append-assoc before bs after))
+      (length-append before bs ∙ omega (arith, b, long)) (omega (arith, c))))
 
   -- ---- the entries and the report
   all-waiting : Rows entry S (waitingFrom k 0 ps) waitingMarks
-  unfolding placesBytes
   all-waiting =
       let z : S + 0 ≡ S = omega arith in
-      subst (λ (x : ℕ). Rows entry x (waitingFrom k 0 ps) waitingMarks) z (waiting-rows [] 0 ps refl refl (omega arith) ranged)
+      subst (λ (x : ℕ). Rows entry x (waitingFrom k 0 ps) waitingMarks) z (waiting-rows shown [] 0 refl refl (omega arith))
 
   all-slots : Rows entry 0 (slotsFrom k tree S 0) treeMarks
   all-slots = slots-rows S 0 (omega arith)

@@ -4,6 +4,7 @@ use call_draws::MOST_SPARE;
 use call_draws::draws_of;
 use fitness::LARGEST_SIZE;
 use fitness::in_range;
+use lent_numbers::read_numbers;
 use slot_spec::BUCKET_LENGTH;
 use tickets::TICKET_LENGTH;
 use tree_paths::tree_length;
@@ -13,7 +14,9 @@ ghost use Prim.Native.Nat.{_+_, _*_, _≤_};
 ghost use lib.ListN.{length};
 ghost use Rattle.state_spec.specs.Fit.{largestSize};
 ghost use Rattle.state_spec.specs.Ticket.{ticketLength};
-ghost use Rattle.walk_spec.specs.Input.{recordLength, longestRecord, tapeNumber, tapeIn, arrivedOf, treeLent, largestTree};
+ghost use Rattle.walk_spec.specs.Input.{recordLength, longestRecord, tapeIn, arrivedOf, largestTree};
+ghost use Rattle.host_spec.specs.Lengths.{treeLent};
+ghost use Rattle.lent_bytes_spec.specs.Numbers.{numberLength};
 
 // The structure byte and the size byte.
 pub const HEAD_LENGTH: usize = 2;
@@ -60,16 +63,8 @@ pub fn record_length(structure: u8, size: u8) -> usize
 
 // The tape numbers of a call, which follow its ticket.
 pub fn read_tape(input: &[u8], tape: &mut [u16])
-    requires { ⌜ ticketLength + tapeNumber * length (now tape) ≤ length (now input) ⌝ }
+    requires { ⌜ ticketLength + numberLength * length (now tape) ≤ length (now input) ⌝ }
     ensures { λ _. ⌜ now (tape .exit) ≡ tapeIn (length (now (tape .entry))) (now (input .entry)) ⌝ }
 {
-    let mut at = TICKET_LENGTH;
-    let mut i = 0;
-    while i < tape.len() {
-        let low = input[at];
-        let high = input[at + 1];
-        tape[i] = low as u16 + 256 * (high as u16);
-        at += 2;
-        i += 1;
-    }
+    read_numbers(&input[TICKET_LENGTH..], tape);
 }

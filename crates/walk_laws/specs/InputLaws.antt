@@ -1,22 +1,18 @@
--- Laws of the input's parts: the tree that is lent is bounded, a good opening has a size of 1 to 8, and the tape is read number
--- by number.
-use mathlib.Core.Path.{_≡_, refl, ap}
+-- Laws of the input's parts: the tree that is lent is bounded, and a good opening has a size of 1 to 8.
+use mathlib.Core.Path.{_≡_, refl}
 use mathlib.Core.Bool.{Bool, true, false}
-use mathlib.Core.List.{List, [], _∷_, _++_}
-use Prim.Native.Nat.{ℕ, zero, suc, _+_, _*_, _≤_, _<_}
-use native.Mathlib.Numerals.{add-one}
+use mathlib.Core.List.{List}
+use Prim.Native.Nat.{ℕ, _+_, _≤_}
 use native.Mathlib.Omega.{arith}
 use lib.Dec.{eqb}
-use lib.ListN.{length, getD, take, drop, set}
+use lib.ListN.{length}
 use lib.Pow.{pow-mono}
-use lib.Seq.{drop-cons, drop-drop, take-suc-set}
-use Rattle.slot_spec.specs.LittleEndian.{value}
 use Rattle.slot_spec.specs.Tree.{treeLength}
 use Rattle.state_spec.specs.Fit.{inRange, largestStructure, largestSize}
 use Rattle.state_laws.specs.FitLaws.{in-range-true}
 use Rattle.state_spec.specs.Opening.{opened}
-use Rattle.state_spec.specs.Ticket.{ticketLength}
-use Rattle.walk_spec.specs.Input.{numbersIn, tapeIn, treeLent, largestTree}
+use Rattle.host_spec.specs.Lengths.{treeLent}
+use Rattle.walk_spec.specs.Input.{largestTree}
 
 -- ---- opening
 pub lent-most : (size : ℕ) → treeLent size ≤ largestTree
@@ -39,27 +35,3 @@ open-size structure size tree unmarked =
     go true false l a b d = let e : _≡_ {A = ℕ} 12 0 = rw (a, b) at unmarked in let z : ⊥ = omega arith in absurd z
     go true true false a b d = let e : _≡_ {A = ℕ} 3 0 = rw (a, b, d) at unmarked in let z : ⊥ = omega arith in absurd z
     go true true true a b d = rw (a, b, d) (in-range-true size largestSize b)
-
--- ---- the tape
-pub value-two : (s : List ℕ) (at : ℕ) → at + 2 ≤ length s → value (take 2 (drop at s)) ≡ getD s at 0 + 256 * getD s (at + 1) 0
-unfolding value
-value-two s at h =
-    let e : at + 1 ≡ suc at = add-one at in
-    rw (e, drop-cons s at 0 (omega arith), drop-cons s (suc at) 0 (omega arith)) (omega arith)
-
-numbers-more : (n : ℕ) (bs : List ℕ) → numbersIn (suc n) bs ≡ numbersIn n bs ++ (value (take 2 (drop (2 * n) bs)) ∷ [])
-unfolding numbersIn
-numbers-more zero bs = refl
-numbers-more (suc n) bs =
-    let e : 2 * suc n ≡ 2 + 2 * n = omega arith in
-    rw (e, ← drop-drop (2 * n) 2 bs) (ap (λ (l : List ℕ). value (take 2 bs) ∷ l) (numbers-more n (drop 2 bs)))
-
--- One number of the tape more.
-pub tape-next : (input tape : List ℕ) (i at : ℕ) → take i tape ≡ tapeIn i input → i < length tape → at ≡ ticketLength + 2 * i → at + 2 ≤ length input
-    → take (i + 1) (set tape i (getD input at 0 + 256 * getD input (at + 1) 0)) ≡ tapeIn (i + 1) input
-tape-next input tape i at done before here room =
-    rw (add-one i, take-suc-set tape i (getD input at 0 + 256 * getD input (at + 1) 0) before, done, numbers-more i (drop ticketLength input), drop-drop (2 * i) ticketLength input, ← here, value-two input at room)
-
-pub tape-none : (input tape : List ℕ) → take 0 tape ≡ tapeIn 0 input
-unfolding numbersIn
-tape-none input tape = refl

@@ -30,7 +30,8 @@ use Rattle.call_spec.specs.Store.{called, callWith, replied, replyOf}
 use Rattle.operation_spec.specs.declared.Answer.the-variants.{Absent, Pushed, Popped, Replaced}
 use Rattle.walk_spec.specs.Lines.{ascii, leading, decimal, numbers, lineOf, longestLine}
 use Rattle.walk_spec.specs.PeakLines.{peakLine}
-use Rattle.walk_spec.specs.Input.{recordLength, numbersIn, tapeIn, arrivedOf}
+use Rattle.lent_bytes_spec.specs.Numbers.{numbersIn}
+use Rattle.walk_spec.specs.Input.{recordLength, tapeIn, arrivedOf}
 use Rattle.walk_spec.specs.Walk.{callLines, walked}
 
 -- ---- numbers

@@ -13,7 +13,8 @@ use Rattle.walk_spec.specs.declared.Arrived.{Arrived}
 use Rattle.walk_spec.specs.declared.Arrived.the-variants.{Whole, End, Short}
 use Rattle.walk_spec.specs.Lines.{lineOf, shortLine}
 use Rattle.state_spec.specs.Fetching.{roundsOf, drawsOf}
-use Rattle.walk_spec.specs.Input.{recordLength, ticketIn, tapeIn, arrivedOf, treeLent}
+use Rattle.host_spec.specs.Lengths.{treeLent}
+use Rattle.walk_spec.specs.Input.{recordLength, ticketIn, tapeIn, arrivedOf}
 
 -- The call that stands first in the input, with a trace buffer of 2F numbers.
 abbrev pub callIn : State → (tree input : List ℕ) → Ended

@@ -4,7 +4,7 @@ use native.Mathlib.Omega.{arith}
 use borrow.Author.Needs.{needs}
 use Rattle.state_spec.specs.Fit.{largestSize}
 use Rattle.state_laws.specs.FitLaws.{in-range-true}
-use Rattle.walk_spec.specs.Input.{treeLent}
+use Rattle.host_spec.specs.Lengths.{treeLent}
 use Rattle.walk_laws.specs.InputLaws.{lent-most}
 use Rattle.walk_input.proofs.tree_lent.Statement.{statement}
 use Rattle.walk_input.proofs.tree_lent.Tie as tie

@@ -1,0 +1,5 @@
+pub mod Refusal
+pub mod Loading
+pub mod HeadLaws
+pub mod LoadingLaws
+pub mod SavingLaws

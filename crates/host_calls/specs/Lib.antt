@@ -1,0 +1,2 @@
+pub mod Left
+pub mod LeftLaws

@@ -1,0 +1,7 @@
+pub mod LengthLaws
+pub mod KeptStates
+pub mod LeftStates
+pub mod ClosedStates
+pub mod Theorems
+pub mod Runs
+pub mod FileRoom

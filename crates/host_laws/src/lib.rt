@@ -1,0 +1,1 @@
+// Calls from a C host mean what the existing ones mean: laws; no code.

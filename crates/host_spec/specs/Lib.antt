@@ -1,0 +1,4 @@
+pub mod Lengths
+pub mod Result
+pub mod Host
+pub mod Examples

@@ -1,0 +1,4 @@
+pub mod NumbersLaws
+pub mod HeadLaws
+pub mod PlaceLaws
+pub mod StateLaws

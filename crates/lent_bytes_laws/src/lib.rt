@@ -1,0 +1,1 @@
+// Laws of what a C host lends as bytes.

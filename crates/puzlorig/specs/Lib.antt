@@ -1,0 +1,5 @@
+pub mod Opening
+pub mod LengthLaws
+pub mod OpeningLaws
+pub mod CallLaws
+pub mod ReadOutLaws

@@ -9,13 +9,17 @@
 //!   `damaged_calls`, from seeds.
 //! - `counts`: what the calls of random inputs met.
 //! - `record`, `stores`: closed stores as bytes, and random ones from seeds.
+//! - `host`: the store over byte buffers, as a C host calls it.
+//! - `lent`: random calls of a C host with their buffers, from seeds.
 //! - `checksum`: what the benchmark compares, and `paths` prints.
 
 pub mod checksum;
 pub mod counts;
 pub mod damaged;
 pub mod fast;
+pub mod host;
 pub mod inputs;
+pub mod lent;
 pub mod listing;
 pub mod origin;
 pub mod paper;

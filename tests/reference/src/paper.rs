@@ -47,6 +47,9 @@ pub const NOT_CLOSED: u8 = 14;
 pub const OUTPUT_SHORT: u8 = 15;
 /// Of a queue's in: its next unused key is the greatest.
 pub const KEYS_USED_UP: u8 = 17;
+/// Of a C host: a state or result buffer of another length, or a tape or trace
+/// of an odd one.
+pub const BUFFER_LENGTH: u8 = 18;
 
 /// A read-out's reasons to leave a node or slot out.
 pub const BAD: u8 = 1;
@@ -157,22 +160,29 @@ impl Answer {
         }
     }
 
-    /// The number after the word: a value, 0 for none, or the cause.
-    pub fn number(&self) -> u64 {
+    pub fn value(&self) -> Option<u64> {
         match *self {
             Answer::Found(value)
             | Answer::Replaced(value)
             | Answer::Removed(value)
             | Answer::Popped(value)
             | Answer::Taken(value)
-            | Answer::Dequeued(value) => value,
-            Answer::Refused(cause) => u64::from(cause),
+            | Answer::Dequeued(value) => Some(value),
             Answer::Absent
             | Answer::New
             | Answer::Pushed
             | Answer::Empty
             | Answer::Added
-            | Answer::Queued => 0,
+            | Answer::Queued
+            | Answer::Refused(_) => None,
+        }
+    }
+
+    /// The number after the word: a value, 0 for none, or the cause.
+    pub fn number(&self) -> u64 {
+        match *self {
+            Answer::Refused(cause) => u64::from(cause),
+            answer => answer.value().unwrap_or(0),
         }
     }
 }

@@ -216,7 +216,7 @@ fn head_causes(state: &State) -> Vec<String> {
     causes
 }
 
-fn length_cause(length: usize, size: u8) -> Option<String> {
+pub(crate) fn length_cause(length: usize, size: u8) -> Option<String> {
     let right = tree_bytes(size);
     let words = match length {
         0 => "no tree",
@@ -292,7 +292,7 @@ fn number(bytes: &[u8], start: usize, length: usize) -> u32 {
     bytes.fold(0, |number, &byte| number << 8 | u32::from(byte))
 }
 
-fn bad_causes(slot: &[u8], size: u8, bucket: Option<usize>) -> Vec<String> {
+pub(crate) fn bad_causes(slot: &[u8], size: u8, bucket: Option<usize>) -> Vec<String> {
     let mut causes = vec![];
     match (slot[0], bucket) {
         (0, None) => return vec!["empty".to_string()],

@@ -3,7 +3,7 @@
 
 use super::Closed;
 use crate::paper::*;
-use crate::plain::{read_slot, write_slot, Node, Reading, State};
+use crate::plain::{read_slot, write_slot, Node, Reading};
 use crate::random::Random;
 use crate::record::ZERO_BYTES;
 
@@ -28,8 +28,8 @@ const OF_TREE: [Spoil; 5] = [
 ];
 
 const EDITS: [Edit; 17] = [
-    |random, store| tree(random, &store.state, &mut store.tree),
-    |random, store| tree(random, &store.state, &mut store.tree),
+    |random, store| tree(random, store.state.size, &mut store.tree),
+    |random, store| tree(random, store.state.size, &mut store.tree),
     off_path,
     repeat,
     repeat,
@@ -67,10 +67,17 @@ pub fn to_refuse(random: &mut Random, store: &mut Closed) {
 }
 
 /// Makes a slot bad that was full, or was empty.
-pub fn tree(random: &mut Random, state: &State, tree: &mut [u8]) {
-    let at = full_slot(random, state.size, tree, 0);
+pub fn tree(random: &mut Random, size: u8, tree: &mut [u8]) {
+    let at = full_slot(random, size, tree, 0);
     let slot = &mut tree[SLOT_BYTES * at..][..SLOT_BYTES];
-    random.pick(&OF_TREE)(random, state.size, slot);
+    random.pick(&OF_TREE)(random, size, slot);
+}
+
+/// Makes a waiting place bad, by any byte that can.
+pub fn spoil_place(random: &mut Random, size: u8, place: &mut [u8]) {
+    random.pick::<Spoil>(&[bad_flag, zero_byte, spoil_link, spoil_link, spoil_tag])(
+        random, size, place,
+    );
 }
 
 // ---- nodes

@@ -1,8 +1,8 @@
 //! Random closed stores for the read-out, each from a seed of its own. Seeds in
 //! a row go through every structure, size and origin.
 
-mod branch;
-mod edit;
+pub(crate) mod branch;
+pub(crate) mod edit;
 mod origin;
 
 pub use branch::{branches, BRANCHES};

@@ -112,7 +112,7 @@ pub fn damaged(random: &mut Random, structure: u8, size: u8) -> Closed {
         }
     }
     for _ in 0..=calls.random.below(3) {
-        edit::tree(calls.random, &calls.state.to_plain(), &mut calls.tree);
+        edit::tree(calls.random, size, &mut calls.tree);
     }
     for _ in 0..20 {
         calls.call();

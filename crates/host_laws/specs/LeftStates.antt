@@ -47,6 +47,7 @@ use Rattle.lent_bytes_laws.specs.PlaceLaws.{Kept, full, none, AllKept, places-b
 use Rattle.lent_bytes_laws.specs.StateLaws.{StateKept}
 use Rattle.demand_laws.specs.Checks.{Verdict, closed, unfit, other-tree, ill-brought, counts, verdict, leftBy}
 use Rattle.host_spec.specs.Host.{hostLeaving, lengthsGood, endedAs, hostCalled, readAs, hostReadOut}
+use Rattle.host_laws.specs.LengthLaws.{good-lengths}
 use Rattle.host_laws.specs.KeptStates.{placed-kept, placed-sized}
 
 -- ---- the widths of a state that bytes say all of
@@ -232,10 +233,10 @@ module _ (s : State) (k : LeftKept s) where
 
   -- A closed one answers every call as the state does.
   pub stays-closed : (s .mark ≡ 0 → ⊥) → (tree ticket tape trace result : List ℕ) → Bytes trace → lengthsGood stateLength (length tape) (length trace) (length result) ≡ true
-      → length trace % 2 ≡ 0
       → hostCalled bs tree ticket tape trace result ≡ endedAs result (called s tree ticket (numbersOf tape) (numbersOf trace))
   unfolding hostCalled called
-  stays-closed m tree ticket tape trace result b good even =
+  stays-closed m tree ticket tape trace result b good =
       let marked : eqb (headIn bs .mark) 0 ≡ false = ap (λ (n : ℕ). eqb n 0) mark-is ∙ ne-eqb (s .mark) 0 m in
+      let even = good-lengths stateLength (length tape) (length trace) (length result) good .trace-even in
       let kept : trace ≡ numbersBytes (numbersOf trace) = sym (numbers-written (length trace / 2) trace b (omega (arith, even))) in
       rw (left-length, good, marked, ne-eqb (s .mark) 0 m) (ap (λ (t : List ℕ). hostLeaving 1 bs tree t result) kept)

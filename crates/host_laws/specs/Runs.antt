@@ -3,7 +3,7 @@ use mathlib.Core.Path.{_≡_, refl, _∙_, ap, subst, subst⁻¹}
 use mathlib.Core.Bool.{Bool, true, false}
 use mathlib.Core.Logic.{_⊎_, inl, inr}
 use mathlib.Core.List.{List, [], _∷_, _++_, map, List·Memᴰ·head, List·Memᴰ·tail}
-use Prim.Native.Nat.{ℕ, _%_, _≤_}
+use Prim.Native.Nat.{ℕ, _≤_}
 use native.Mathlib.Omega.{arith}
 use lib.Dec.{eqb}
 use lib.ListN.{length}
@@ -16,7 +16,7 @@ use Rattle.method_spec.specs.Answer.{Structure}
 use Rattle.state_spec.specs.Opening.{opened}
 use Rattle.call_spec.specs.Store.{Ended, refusing}
 use Rattle.fitness_laws.specs.FitState.{fit-state}
-use Rattle.lent_bytes_spec.specs.Numbers.{numberLength, numbersOf}
+use Rattle.lent_bytes_spec.specs.Numbers.{numbersOf}
 use Rattle.lent_bytes_spec.specs.StateBytes.{stateLength, stateBytes}
 use Rattle.demand_spec.specs.History.{Brought, Kept, callOn, leftBy, history, finally, numberOf}
 use Rattle.demand_spec.specs.Demands.{openedStore}
@@ -56,7 +56,6 @@ pub record Lent (b : HostBrought) : Type 0 where
   pub ticket : Bytes (b .ticket)
   pub trace : Bytes (b .trace)
   pub lengths : lengthsGood stateLength (length (b .tape)) (length (b .trace)) (length (b .result)) ≡ true
-  pub even : length (b .trace) % numberLength ≡ 0
 
 -- One call more.
 finally-more : (s : Kept) (bs : List Brought) (b : Brought) → finally s (bs ++ (b ∷ [])) ≡ leftBy (callOn (finally s bs) b)
@@ -97,7 +96,7 @@ module _ (st : Structure) (k : ℕ) (positive : 1 ≤ k) (small : k ≤ 8) (tree
               (called-left (at ps .state) (f .0 .0) (f .1) (omega (arith, fit-state (at ps .state) (f .0 .1) .few)) (at ps .tree) (c .ticket) (numbersOf (c .tape)) (numbersOf (c .trace)) (tree-bytes m) (lent .ticket)),
         )
     step (inr x) c lent = (
-      stays-closed (at ps .state) (x .1) (x .0) (at ps .tree) (c .ticket) (c .tape) (c .trace) (c .result) (lent .trace) (lent .lengths) (lent .even),
+      stays-closed (at ps .state) (x .1) (x .0) (at ps .tree) (c .ticket) (c .tape) (c .trace) (c .result) (lent .trace) (lent .lengths),
       still-closed,
     )
       where

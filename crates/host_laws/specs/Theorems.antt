@@ -5,7 +5,7 @@ use mathlib.Core.Bool.{Bool, true, false, not, _||_}
 use mathlib.Core.Logic.{_⊎_, inl, inr}
 use mathlib.Core.List.{List}
 use mathlib.Core.Option.{none, some}
-use Prim.Native.Nat.{ℕ, _/_, _%_, _^_, _≤_, _<_}
+use Prim.Native.Nat.{ℕ, _/_, _^_, _≤_, _<_}
 use native.Mathlib.Omega.{arith}
 use lib.Dec.{eqb}
 use lib.ListN.{length}
@@ -22,7 +22,7 @@ use Rattle.call_spec.specs.declared.Reply.{Reply}
 use Rattle.call_spec.specs.declared.Reply.the-variants.{Answered, Refused}
 use Rattle.call_spec.specs.Store.{Ended, refusing, called}
 use Rattle.readout_spec.specs.ReadOut.{readOut}
-use Rattle.lent_bytes_spec.specs.Numbers.{numberLength, numbersOf}
+use Rattle.lent_bytes_spec.specs.Numbers.{numbersOf}
 use Rattle.lent_bytes_spec.specs.StateBytes.{stateLength, headIn, stateIn, stateBytes, fitBytes, stateRead}
 use Rattle.lent_bytes_laws.specs.NumbersLaws.{numbers-written}
 use Rattle.lent_bytes_laws.specs.StateLaws.{StateKept, state-length, state-back, kept-fits, bytes-back, fit-bytes, one-each}
@@ -179,6 +179,6 @@ module _ (st : Structure) (k : ℕ) (positive : 1 ≤ k) (small : k ≤ 8) (tree
 
       -- Where it is closed, each later call means what the existing one means: 1.
       pub means-closed : (after .mark ≡ 0 → ⊥) → (tree″ ticket″ tape″ trace″ result : List ℕ) → Bytes trace″
-          → lengthsGood stateLength (length tape″) (length trace″) (length result) ≡ true → length trace″ % numberLength ≡ 0
+          → lengthsGood stateLength (length tape″) (length trace″) (length result) ≡ true
           → hostCalled (stateBytes after) tree″ ticket″ tape″ trace″ result ≡ endedAs result (called after tree″ ticket″ (numbersOf tape″) (numbersOf trace″))
       means-closed = stays-closed after left-kept

@@ -60,6 +60,7 @@ static const char *const REFUSALS[] = {
     [PUZLORIG_SHORT_OUT] = "the output buffer is too short",
     [PUZLORIG_NO_KEYS] = "the queue has used up its keys",
     [PUZLORIG_BAD_LENGTH] = "a buffer has a length that it cannot have",
+    [PUZLORIG_STRAY_FIELD] = "a field that the call does not use is not zero",
 };
 
 /* ---- failures */
@@ -283,6 +284,10 @@ static void show_refusals(void)
     show(&store, PUZLORIG_BAD_LENGTH, PUZLORIG_GET, key_of(2, 8), 0);
     store.tape.length++;
     show(&store, PUZLORIG_OK, PUZLORIG_GET, key_of(2, 8), 0);
+
+    printf("\nA remove comes with an old setpoint in its value, then without. The refusal has changed nothing.\n");
+    show(&store, PUZLORIG_STRAY_FIELD, PUZLORIG_REMOVE, key_of(2, 8), 45);
+    show(&store, PUZLORIG_OK, PUZLORIG_REMOVE, key_of(2, 8), 0);
     free_store(&store);
 }
 

@@ -34,17 +34,20 @@ enum {
     PUZLORIG_LARGEST_SIZE = 8
 };
 
-/* Kinds of tickets. A ticket is kind (1 byte), key (4), value (8); what a kind does not use is ignored. */
+/*
+ * Kinds of tickets. A ticket is kind (1 byte), key (4), value (8). A field that its kind does not use must be zero, else
+ * the call returns PUZLORIG_STRAY_FIELD.
+ */
 enum {
-    PUZLORIG_GET = 1,    /* map: the value of a key */
-    PUZLORIG_PUT = 2,    /* map: a value for a key */
-    PUZLORIG_REMOVE = 3, /* map: a key and its value go */
-    PUZLORIG_PUSH = 4,   /* stack: a value on top */
-    PUZLORIG_POP = 5,    /* stack: the top value */
-    PUZLORIG_ADD = 6,    /* heap: one more value */
-    PUZLORIG_TAKE = 7,   /* heap: the smallest value */
-    PUZLORIG_IN = 8,     /* queue: one more value */
-    PUZLORIG_OUT = 9     /* queue: the oldest value */
+    PUZLORIG_GET = 1,    /* map: the value of a key; uses the key */
+    PUZLORIG_PUT = 2,    /* map: a value for a key; uses both */
+    PUZLORIG_REMOVE = 3, /* map: a key and its value go; uses the key */
+    PUZLORIG_PUSH = 4,   /* stack: a value on top; uses the value */
+    PUZLORIG_POP = 5,    /* stack: the top value; uses neither */
+    PUZLORIG_ADD = 6,    /* heap: one more value; uses the value */
+    PUZLORIG_TAKE = 7,   /* heap: the smallest value; uses neither */
+    PUZLORIG_IN = 8,     /* queue: one more value; uses the value */
+    PUZLORIG_OUT = 9     /* queue: the oldest value; uses neither */
 };
 
 /* Lengths in bytes that do not depend on the store. */
@@ -72,7 +75,8 @@ enum {
     PUZLORIG_NOT_CLOSED = 14,    /* no store that 8 or 9 closed */
     PUZLORIG_SHORT_OUT = 15,     /* the output buffer is too short for the file */
     PUZLORIG_NO_KEYS = 17,       /* the queue has used up its keys */
-    PUZLORIG_BAD_LENGTH = 18     /* a state or result buffer of another length, or a tape or trace of an odd one */
+    PUZLORIG_BAD_LENGTH = 18,    /* a state or result buffer of another length, or a tape or trace of an odd one */
+    PUZLORIG_STRAY_FIELD = 19    /* a field that the ticket's kind does not use is not zero */
 };
 
 /*
@@ -132,9 +136,9 @@ uint32_t puzlorig_open(
  *   out         dequeued        empty
  *
  * Else, in this order, PUZLORIG_BAD_LENGTH, PUZLORIG_CLOSED, PUZLORIG_UNFIT, PUZLORIG_BAD_TREE, PUZLORIG_BAD_TICKET,
- * PUZLORIG_BAD_KIND, PUZLORIG_NO_KEYS, PUZLORIG_SHORT_TAPE, PUZLORIG_SHORT_TRACE: these change no byte. Or
- * PUZLORIG_FULL: the entries stay as they were. Or PUZLORIG_DAMAGE or PUZLORIG_OVERFLOW: the store is now closed, with
- * all nodes that it then has; puzlorig_read_out reads it.
+ * PUZLORIG_BAD_KIND, PUZLORIG_STRAY_FIELD, PUZLORIG_NO_KEYS, PUZLORIG_SHORT_TAPE, PUZLORIG_SHORT_TRACE: these change no
+ * byte. Or PUZLORIG_FULL: the entries stay as they were. Or PUZLORIG_DAMAGE or PUZLORIG_OVERFLOW: the store is now
+ * closed, with all nodes that it then has; puzlorig_read_out reads it.
  */
 uint32_t puzlorig_call(
     uint8_t *state, size_t state_length,

@@ -28,7 +28,7 @@ use Rattle.leaf_spec.specs.Entries.{OpFits}
 use Rattle.state_spec.specs.declared.Place.{Place}
 use Rattle.state_spec.specs.declared.State.{State}
 use Rattle.state_spec.specs.Fit.{fits, used, keysIn}
-use Rattle.state_spec.specs.Ticket.{ticketLength, opIn, structureOf as numbered, outOfKeys}
+use Rattle.state_spec.specs.Ticket.{ticketLength, opIn, structureOf as numbered, outOfKeys, strayFields}
 use Rattle.state_spec.specs.Fetching.{roundsOf, spareOf}
 use Rattle.leaf_spec.specs.Convert.{toLink, toAhead, toNode}
 use Rattle.operation_spec.specs.declared.Op.{Op}
@@ -132,6 +132,7 @@ pub record Checked (s : State) (op : Op) (F : ℕ) (tree ticket tape trace : Lis
   pub tree-sized : length tree ≡ treeLength (s .size)
   pub ticket-sized : length ticket ≡ ticketLength
   pub asks : asked (s .structure) ticket ≡ Call op
+  pub clean : strayFields ticket ≡ false
   pub keys : outOfKeys (toOp op) (s .ahead .key) ≡ false
   pub rounds-are : F ≡ rounds (numbered (s .structure)) (s .size)
   pub tape-long : 2 * F + spareOf (s .structure) ≤ length tape
@@ -166,7 +167,7 @@ module _ (s : State) (tree ticket tape trace : List ℕ) where
           abbrev st : Structure
           st = numbered (s .structure)
 
-          past : called s tree ticket tape trace ≡ callWith st s tree tape trace (opIn st ticket)
+          past : called s tree ticket tape trace ≡ callWith st s tree ticket tape trace (opIn st ticket)
           unfolding called
           past = rw (eq-eqb (s .mark) 0 not-closed, fit, eq-eqb (length tree) (treeLength (s .size)) sized, eq-eqb (length ticket) ticketLength whole)
 
@@ -181,30 +182,35 @@ module _ (s : State) (tree ticket tape trace : List ℕ) where
             same-keys : outOfKeys (a .asks) (s .ahead .key) ≡ outOfKeys (toOp op) (s .ahead .key)
             same-keys = sym (keys-back (a .asks) (s .ahead .key)) ∙ ap (λ (x : Op). outOfKeys (toOp x) (s .ahead .key)) (a .same)
 
-            pub refused-17 : outOfKeys (toOp op) (s .ahead .key) ≡ true → called s tree ticket tape trace ≡ refusing 17 s tree trace
+            pub refused-19 : strayFields ticket ≡ true → called s tree ticket tape trace ≡ refusing 19 s tree trace
             unfolding callWith
-            refused-17 h = past ∙ rw (a .is, same-keys ∙ h)
+            refused-19 h = past ∙ rw (a .is, h)
 
-            module _ (keys : outOfKeys (toOp op) (s .ahead .key) ≡ false) (F : ℕ) (rounds-are : F ≡ rounds st (s .size)) where
-              has-key : outOfKeys (a .asks) (s .ahead .key) ≡ false
-              has-key = same-keys ∙ keys
-
-              pub refused-6 : length tape < 2 * F + spareOf (s .structure) → called s tree ticket tape trace ≡ refusing 6 s tree trace
+            module _ (clean : strayFields ticket ≡ false) where
+              pub refused-17 : outOfKeys (toOp op) (s .ahead .key) ≡ true → called s tree ticket tape trace ≡ refusing 17 s tree trace
               unfolding callWith
-              refused-6 h = past ∙ rw (a .is, has-key, ← rounds-are, lt-ltb (length tape) (2 * F + spareOf (s .structure)) h)
+              refused-17 h = past ∙ rw (a .is, clean, same-keys ∙ h)
 
-              module _ (tape-long : 2 * F + spareOf (s .structure) ≤ length tape) where
-                pub refused-7 : length trace < 2 * F → called s tree ticket tape trace ≡ refusing 7 s tree trace
-                unfolding callWith
-                refused-7 h = past ∙ rw (a .is, has-key, ← rounds-are, le-ltb (length tape) (2 * F + spareOf (s .structure)) tape-long, lt-ltb (length trace) (2 * F) h)
+              module _ (keys : outOfKeys (toOp op) (s .ahead .key) ≡ false) (F : ℕ) (rounds-are : F ≡ rounds st (s .size)) where
+                has-key : outOfKeys (a .asks) (s .ahead .key) ≡ false
+                has-key = same-keys ∙ keys
 
-                pub goes-on : 2 * F ≤ length trace → called s tree ticket tape trace ≡ endingCall (s .structure) (s .size) trace F (toOp op) (drawOf (s .size) tape) (storeOf s tree)
+                pub refused-6 : length tape < 2 * F + spareOf (s .structure) → called s tree ticket tape trace ≡ refusing 6 s tree trace
                 unfolding callWith
-                goes-on trace-long =
-                    past
-                    ∙ rw (a .is, has-key, ← rounds-are, le-ltb (length tape) (2 * F + spareOf (s .structure)) tape-long, le-ltb (length trace) (2 * F) trace-long)
-                    (sym (call-back (a .asks) (s .structure) (s .size) trace F (drawOf (s .size) tape) (storeOf s tree))
-                    ∙ ap (λ (x : Op). endingCall (s .structure) (s .size) trace F (toOp x) (drawOf (s .size) tape) (storeOf s tree)) (a .same))
+                refused-6 h = past ∙ rw (a .is, clean, has-key, ← rounds-are, lt-ltb (length tape) (2 * F + spareOf (s .structure)) h)
+
+                module _ (tape-long : 2 * F + spareOf (s .structure) ≤ length tape) where
+                  pub refused-7 : length trace < 2 * F → called s tree ticket tape trace ≡ refusing 7 s tree trace
+                  unfolding callWith
+                  refused-7 h = past ∙ rw (a .is, clean, has-key, ← rounds-are, le-ltb (length tape) (2 * F + spareOf (s .structure)) tape-long, lt-ltb (length trace) (2 * F) h)
+
+                  pub goes-on : 2 * F ≤ length trace → called s tree ticket tape trace ≡ endingCall (s .structure) (s .size) trace F (toOp op) (drawOf (s .size) tape) (storeOf s tree)
+                  unfolding callWith
+                  goes-on trace-long =
+                      past
+                      ∙ rw (a .is, clean, has-key, ← rounds-are, le-ltb (length tape) (2 * F + spareOf (s .structure)) tape-long, le-ltb (length trace) (2 * F) trace-long)
+                      (sym (call-back (a .asks) (s .structure) (s .size) trace F (drawOf (s .size) tape) (storeOf s tree))
+                      ∙ ap (λ (x : Op). endingCall (s .structure) (s .size) trace F (toOp x) (drawOf (s .size) tape) (storeOf s tree)) (a .same))
 
 -- ---- all checks were passed
 module _ {s : State} {op : Op} {F : ℕ} {tree ticket tape trace : List ℕ} (ok : Checked s op F tree ticket tape trace) {n : ℕ} {words : List ℕ} (loaded : Loaded s words n) where
@@ -286,7 +292,7 @@ module _ {s : State} {op : Op} {F : ℕ} {tree ticket tape trace : List ℕ} (ok
       rw ran
       (q
       ∙ ap (endingCall (s .structure) k trace F (toOp op) (drawOf k tape)) same-store
-      ∙ sym (goes-on s tree ticket tape trace (ok .not-closed) (ok .fit) (ok .tree-sized) (ok .ticket-sized) op (ok .asks) (ok .keys) F (ok .rounds-are) (ok .tape-long) (ok .trace-long)))
+      ∙ sym (goes-on s tree ticket tape trace (ok .not-closed) (ok .fit) (ok .tree-sized) (ok .ticket-sized) op (ok .asks) (ok .clean) (ok .keys) F (ok .rounds-are) (ok .tape-long) (ok .trace-long)))
 
 -- ---- by the head that the core is given
 some-spare : (x : Structure) → 1 ≤ spare x
@@ -328,40 +334,45 @@ module _ {s : State} {h : Head} {words : List ℕ} (st : StandsFor s h words) wh
           asks-is : asked (s .structure) ticket ≡ Call op
           asks-is = rw (st .head) at asks
 
-          pub gives-17 : outOfKeys (toOp op) (h .ahead .key) ≡ true → Gives 17
-          gives-17 e = refused-17 s tree ticket tape trace (st .not-closed) (st .fit) tree-is whole op asks-is (rw (st .head) at e)
+          pub gives-19 : strayFields ticket ≡ true → Gives 19
+          gives-19 = refused-19 s tree ticket tape trace (st .not-closed) (st .fit) tree-is whole op asks-is
 
-          module _ (keys : outOfKeys (toOp op) (h .ahead .key) ≡ false) (F : ℕ) (rounds-are : F ≡ roundsOf (h .structure) (h .size)) where
-            keys-are : outOfKeys (toOp op) (s .ahead .key) ≡ false
-            keys-are = rw (st .head) at keys
+          module _ (clean : strayFields ticket ≡ false) where
+            pub gives-17 : outOfKeys (toOp op) (h .ahead .key) ≡ true → Gives 17
+            gives-17 e = refused-17 s tree ticket tape trace (st .not-closed) (st .fit) tree-is whole op asks-is clean (rw (st .head) at e)
 
-            rounds-is : F ≡ roundsOf (s .structure) (s .size)
-            rounds-is = rw (st .head) at rounds-are
+            module _ (keys : outOfKeys (toOp op) (h .ahead .key) ≡ false) (F : ℕ) (rounds-are : F ≡ roundsOf (h .structure) (h .size)) where
+              keys-are : outOfKeys (toOp op) (s .ahead .key) ≡ false
+              keys-are = rw (st .head) at keys
 
-            pub gives-6 : length tape < 2 * F + spareOf (h .structure) → Gives 6
-            gives-6 short = refused-6 s tree ticket tape trace (st .not-closed) (st .fit) tree-is whole op asks-is keys-are F rounds-is (rw (st .head) at short)
+              rounds-is : F ≡ roundsOf (s .structure) (s .size)
+              rounds-is = rw (st .head) at rounds-are
 
-            module _ (long : 2 * F + spareOf (h .structure) ≤ length tape) where
-              pub gives-7 : length trace < 2 * F → Gives 7
-              gives-7 = refused-7 s tree ticket tape trace (st .not-closed) (st .fit) tree-is whole op asks-is keys-are F rounds-is (rw (st .head) at long)
+              pub gives-6 : length tape < 2 * F + spareOf (h .structure) → Gives 6
+              gives-6 short = refused-6 s tree ticket tape trace (st .not-closed) (st .fit) tree-is whole op asks-is clean keys-are F rounds-is (rw (st .head) at short)
 
-              pub all-checked : 2 * F ≤ length trace → Bytes tree → Bytes ticket → LinkWidths (h .root) → AheadWidths (h .ahead) → Checked s op F tree ticket tape trace
-              all-checked trace-long tree-bytes ticket-bytes root-widths ahead-widths =
-                  record {
-                    not-closed = st .not-closed;
-                    fit = st .fit;
-                    tree-sized = tree-is;
-                    ticket-sized = whole;
-                    asks = asks-is;
-                    keys = keys-are;
-                    rounds-are = rounds-is;
-                    tape-long = rw (st .head) at long;
-                    trace-long = trace-long;
-                    tree-bytes = tree-bytes;
-                    ticket-bytes = ticket-bytes;
-                    root-widths = rw (st .head) at root-widths;
-                    ahead-widths = rw (st .head) at ahead-widths;
-                  }
+              module _ (long : 2 * F + spareOf (h .structure) ≤ length tape) where
+                pub gives-7 : length trace < 2 * F → Gives 7
+                gives-7 = refused-7 s tree ticket tape trace (st .not-closed) (st .fit) tree-is whole op asks-is clean keys-are F rounds-is (rw (st .head) at long)
+
+                pub all-checked : 2 * F ≤ length trace → Bytes tree → Bytes ticket → LinkWidths (h .root) → AheadWidths (h .ahead) → Checked s op F tree ticket tape trace
+                all-checked trace-long tree-bytes ticket-bytes root-widths ahead-widths =
+                    record {
+                      not-closed = st .not-closed;
+                      fit = st .fit;
+                      tree-sized = tree-is;
+                      ticket-sized = whole;
+                      asks = asks-is;
+                      clean = clean;
+                      keys = keys-are;
+                      rounds-are = rounds-is;
+                      tape-long = rw (st .head) at long;
+                      trace-long = trace-long;
+                      tree-bytes = tree-bytes;
+                      ticket-bytes = ticket-bytes;
+                      root-widths = rw (st .head) at root-widths;
+                      ahead-widths = rw (st .head) at ahead-widths;
+                    }
 
 -- What was run for a head is what is run for the state.
 pub head-runs : {s : State} {h : Head} {words : List ℕ} (st : StandsFor s h words) {op : Op} {F : ℕ} {tree ticket tape trace : List ℕ}

@@ -12,6 +12,7 @@ use tickets::is_whole;
 use tickets::out_of_keys;
 use tickets::read_ticket;
 use tree_paths::tree_length;
+use unused_fields::has_stray;
 ghost use mathlib.Core.Path.{_≡_};
 ghost use mathlib.Core.Bool.{false};
 ghost use Rattle.call_spec.specs.declared.Reply.the-variants.{Refused};
@@ -29,7 +30,7 @@ pub struct Head {
     pub waiting: u16,
 }
 
-// A refusal 3 to 7 or 17: nothing changes, and no leaf is revealed.
+// A refusal 3 to 7, 17 or 19: nothing changes, and no leaf is revealed.
 fn refused(head: Head, number: u8) -> Ran
     ensures { λ r. ⌜ r ≡ record { ran = false; mark = 0; entries = head .entries; root = head .root; ahead = head .ahead; waiting = head .waiting; reply = Refused number; leaves = 0; peak = 0 } ⌝ }
 {
@@ -71,9 +72,13 @@ pub fn call_words(
     let Asked::Call(op) = asked else {
         return refused(head, 5);
     };
+    let stray = has_stray(ticket);
     let ahead = head.ahead;
     let keyless = out_of_keys(op, ahead.key);
     let draws = draws_of(head.structure, head.size);
+    if stray {
+        return refused(head, 19);
+    }
     if keyless {
         return refused(head, 17);
     }

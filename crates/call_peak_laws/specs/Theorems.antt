@@ -1,5 +1,5 @@
 -- Document 02, change 6, for any state, tree, ticket, tape and trace buffer: a call's peak is the largest count at the close of one of its rounds; it is at most
--- 64 except with 9, and with 9 it is above 64, the number that then waits; and a refusal 1 to 7 or 17 brings 0. That it changes nothing else is `as-before`
+-- 64 except with 9, and with 9 it is above 64, the number that then waits; and a refusal 1 to 7, 17 or 19 brings 0. That it changes nothing else is `as-before`
 -- (Earlier.antt).
 use mathlib.Core.Path.{_≡_, refl, sym, _∙_, ap}
 use mathlib.Core.Bool.{true, false}
@@ -44,7 +44,7 @@ module _ (s : State) (tree ticket tape trace : List ℕ) where
   abbrev pub roundsBy : Op structure → List (Round (Outcome ℕ))
   roundsBy op = callRounds (s .size) (rounds structure (s .size)) op (drawOf (s .size) tape) (storeOf s tree)
 
-  -- The rounds that the call made: none where it was refused with 1 to 7 or 17, else those of what its ticket asks.
+  -- The rounds that the call made: none where it was refused with 1 to 7, 17 or 19, else those of what its ticket asks.
   pub data Made : List (Round (Outcome ℕ)) → Type 0 where
     none-made : (n : ℕ) → changesNothing n ≡ true → called s tree ticket tape trace .reply ≡ Refused n → Made []
     made : (op : Op structure) → opIn structure ticket ≡ some op → early (called s tree ticket tape trace .reply) ≡ false → Made (roundsBy op)
@@ -102,7 +102,8 @@ module _ (s : State) (tree ticket tape trace : List ℕ) where
       go (unfit h q) = refused 2 refl (λ z. omega arith) q
       go (other-tree h q) = refused 3 refl (λ z. omega arith) q
       go (ill-brought n (inl h) q) = refused n (ill-changes n (inl h)) (λ z. omega (arith, h .1)) q
-      go (ill-brought n (inr h) q) = refused n (ill-changes n (inr h)) (λ z. omega arith) q
+      go (ill-brought n (inr (inl h)) q) = refused n (ill-changes n (inr (inl h))) (λ z. omega arith) q
+      go (ill-brought n (inr (inr h)) q) = refused n (ill-changes n (inr (inr h))) (λ z. omega arith) q
       go (counts fit sized op h keyed q) = rounded op h q
 
   -- The call's peak is the largest count at the close of one of its rounds, one round for each leaf that it revealed.
@@ -126,7 +127,7 @@ module _ (s : State) (tree ticket tape trace : List ℕ) where
             largest-of = rw q (largest-is (countsOf (roundsBy s tree ticket tape trace op)));
           }
 
-  -- Refusals 1 to 7 and 17 bring 0.
+  -- Refusals 1 to 7, 17 and 19 bring 0.
   pub refused-none : early (e .reply) ≡ true → e .peak ≡ 0
   refused-none h = go comes
     where

@@ -21,7 +21,7 @@ use Rattle.state_spec.specs.declared.State.{State}
 use Rattle.call_spec.specs.declared.Reply.{Reply}
 use Rattle.call_spec.specs.declared.Reply.the-variants.{Answered, Refused}
 use Rattle.state_spec.specs.Fit.{fits, used, places, noPlace}
-use Rattle.state_spec.specs.Ticket.{ticketLength, opIn, structureOf, outOfKeys}
+use Rattle.state_spec.specs.Ticket.{ticketLength, opIn, structureOf, outOfKeys, strayFields}
 
 -- ---- states
 abbrev pub placed : List (Node ℕ) → List Place
@@ -80,7 +80,7 @@ stateLeft s l =
       places = placed (l .waiting);
     }
 
--- A refusal 1 to 7 or 17 changes nothing and reveals no leaf; no round closes.
+-- A refusal 1 to 7, 17 or 19 changes nothing and reveals no leaf; no round closes.
 abbrev pub refusing : ℕ → State → List ℕ → List ℕ → Ended
 refusing n s tree trace = record { state = s; reply = Refused n; leaves = 0; peak = 0; tree = tree; trace = trace }
 
@@ -95,15 +95,16 @@ ending s trace l peak =
       trace = l .leaves ++ drop (length (l .leaves)) trace;
     }
 
--- The calls of a structure, after the ticket's length: 5 kind, 17 keys, 6 tape, 7 trace, then the rounds.
-unfoldable pub callWith : (st : Structure) → State → (tree tape trace : List ℕ) → Option (Op st) → Ended
-callWith st s tree tape trace none = refusing 5 s tree trace
-callWith st s tree tape trace (some op) =
-    pick (outOfKeys op (s .ahead .key)) (refusing 17 s tree trace)
+-- The calls of a structure, after the ticket's length: 5 kind, 19 unused fields, 17 keys, 6 tape, 7 trace, then the rounds.
+unfoldable pub callWith : (st : Structure) → State → (tree ticket tape trace : List ℕ) → Option (Op st) → Ended
+callWith st s tree ticket tape trace none = refusing 5 s tree trace
+callWith st s tree ticket tape trace (some op) =
+    pick (strayFields ticket) (refusing 19 s tree trace)
+    (pick (outOfKeys op (s .ahead .key)) (refusing 17 s tree trace)
     (pick (ltb (length tape) (draws st (s .size))) (refusing 6 s tree trace)
     (pick (ltb (length trace) (2 * rounds st (s .size))) (refusing 7 s tree trace)
     (ending s trace (bucketCall (s .size) (rounds st (s .size)) op (drawOf (s .size) tape) (storeOf s tree))
-    (callPeak (s .size) (rounds st (s .size)) op (drawOf (s .size) tape) (storeOf s tree)))))
+    (callPeak (s .size) (rounds st (s .size)) op (drawOf (s .size) tape) (storeOf s tree))))))
 
 -- One call: 1 closed mark, 2 unfit state, 3 tree length, 4 ticket length, then the structure's.
 unfoldable pub called : State → (tree ticket tape trace : List ℕ) → Ended
@@ -112,4 +113,4 @@ called s tree ticket tape trace =
     (pick (not (fits s)) (refusing 2 s tree trace)
     (pick (not (eqb (length tree) (treeLength (s .size)))) (refusing 3 s tree trace)
     (pick (not (eqb (length ticket) ticketLength)) (refusing 4 s tree trace)
-    (callWith (structureOf (s .structure)) s tree tape trace (opIn (structureOf (s .structure)) ticket)))))
+    (callWith (structureOf (s .structure)) s tree ticket tape trace (opIn (structureOf (s .structure)) ticket)))))

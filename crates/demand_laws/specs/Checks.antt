@@ -18,17 +18,22 @@ use Rattle.bucket_call_spec.specs.Call.{drawOf, bucketCall}
 use Rattle.bucket_call_spec.specs.Peak.{callPeak}
 use Rattle.state_spec.specs.declared.State.{State}
 use Rattle.state_spec.specs.Fit.{fits}
-use Rattle.state_spec.specs.Ticket.{ticketLength, opIn, structureOf, outOfKeys}
+use Rattle.state_spec.specs.Ticket.{ticketLength, opIn, structureOf, outOfKeys, strayFields}
 use Rattle.call_spec.specs.Store.{Ended, storeOf, refusing, ending, callWith, called}
 use Rattle.demand_spec.specs.History.{changesNothing}
 
--- The refusals that what a call brings decides: 4 to 7, and 17.
+-- The refusals above 10 that change nothing: 17 and 19.
+abbrev pub Later : ℕ → Type 0
+Later n = (n ≡ 17) ⊎ (n ≡ 19)
+
+-- The refusals that what a call brings decides: 4 to 7, 17 and 19.
 abbrev pub IllBrought : ℕ → Type 0
-IllBrought n = ((4 ≤ n) × (n ≤ 7)) ⊎ (n ≡ 17)
+IllBrought n = ((4 ≤ n) × (n ≤ 7)) ⊎ Later n
 
 pub ill-changes : (n : ℕ) → IllBrought n → changesNothing n ≡ true
 ill-changes n (inl h) = rw (le-leb n 7 (h .1))
-ill-changes n (inr h) = rw h
+ill-changes n (inr (inl h)) = rw h
+ill-changes n (inr (inr h)) = rw h
 
 module _ (st : Structure) (s : State) (tree ticket tape trace : List ℕ) where
   -- What the rounds of the call of that ticket leave.
@@ -52,22 +57,24 @@ module _ (st : Structure) (s : State) (tree ticket tape trace : List ℕ) where
   -- ---- the checks of what the call brings
 
   module _ (fit : fits s ≡ true) (sized : length tree ≡ treeLength (s .size)) where
-    by-room : (op : Op st) → opIn st ticket ≡ some op → (gone short few : Bool) → outOfKeys op (s .ahead .key) ≡ gone
+    by-room : (op : Op st) → opIn st ticket ≡ some op → (strays gone short few : Bool) → outOfKeys op (s .ahead .key) ≡ gone
         → Verdict
+        (pick strays (refusing 19 s tree trace)
         (pick gone (refusing 17 s tree trace)
-        (pick short (refusing 6 s tree trace) (pick few (refusing 7 s tree trace) (ending s trace (leftBy op) (peakBy op)))))
-    by-room op e true short few g = ill-brought 17 (inr refl) refl
-    by-room op e false true few g = ill-brought 6 (inl (omega arith, omega arith)) refl
-    by-room op e false false true g = ill-brought 7 (inl (omega arith, omega arith)) refl
-    by-room op e false false false g = counts fit sized op e g refl
+        (pick short (refusing 6 s tree trace) (pick few (refusing 7 s tree trace) (ending s trace (leftBy op) (peakBy op))))))
+    by-room op e true gone short few g = ill-brought 19 (inr (inr refl)) refl
+    by-room op e false true short few g = ill-brought 17 (inr (inl refl)) refl
+    by-room op e false false true few g = ill-brought 6 (inl (omega arith, omega arith)) refl
+    by-room op e false false false true g = ill-brought 7 (inl (omega arith, omega arith)) refl
+    by-room op e false false false false g = counts fit sized op e g refl
 
-    by-kind : (o : Option (Op st)) → opIn st ticket ≡ o → Verdict (callWith st s tree tape trace o)
+    by-kind : (o : Option (Op st)) → opIn st ticket ≡ o → Verdict (callWith st s tree ticket tape trace o)
     unfolding callWith
     by-kind none e = ill-brought 5 (inl (omega arith, omega arith)) refl
     by-kind (some op) e =
-        by-room op e (outOfKeys op (s .ahead .key)) (ltb (length tape) (draws st (s .size))) (ltb (length trace) (2 * rounds st (s .size))) refl
+        by-room op e (strayFields ticket) (outOfKeys op (s .ahead .key)) (ltb (length tape) (draws st (s .size))) (ltb (length trace) (2 * rounds st (s .size))) refl
 
-    by-length : (same : Bool) → Verdict (pick (not same) (refusing 4 s tree trace) (callWith st s tree tape trace (opIn st ticket)))
+    by-length : (same : Bool) → Verdict (pick (not same) (refusing 4 s tree trace) (callWith st s tree ticket tape trace (opIn st ticket)))
     by-length true = by-kind (opIn st ticket) refl
     by-length false = ill-brought 4 (inl (omega arith, omega arith)) refl
 
@@ -75,7 +82,7 @@ module _ (st : Structure) (s : State) (tree ticket tape trace : List ℕ) where
 
   abbrev afterTree : Ended
   afterTree =
-      pick (not (eqb (length ticket) ticketLength)) (refusing 4 s tree trace) (callWith st s tree tape trace (opIn st ticket))
+      pick (not (eqb (length ticket) ticketLength)) (refusing 4 s tree trace) (callWith st s tree ticket tape trace (opIn st ticket))
 
   by-tree : fits s ≡ true → (same : Bool) → eqb (length tree) (treeLength (s .size)) ≡ same → Verdict (pick (not same) (refusing 3 s tree trace) afterTree)
   by-tree fit true e =

@@ -1,4 +1,4 @@
--- What the first call of a list adds to it: one refused with 1 to 7 or 17 nothing, one that counts its reply and its leaves. A closed store
+-- What the first call of a list adds to it: one refused with 1 to 7, 17 or 19 nothing, one that counts its reply and its leaves. A closed store
 -- refuses all calls.
 use Prim.Native.Nat.{ℕ}
 use mathlib.Core.Path.{_≡_, refl, _∙_, ap}

@@ -33,7 +33,7 @@ use Rattle.fitness_laws.specs.Tickets.{op-fits, key-left}
 use Rattle.leaf_spec.specs.Entries.{pairOf}
 use Rattle.demand_spec.specs.History.{pairsIn}
 use Rattle.demand_laws.specs.Marks.{Closing}
-use Rattle.demand_laws.specs.Checks.{Verdict, closed, unfit, other-tree, ill-brought, counts, leftBy, peakBy, verdict}
+use Rattle.demand_laws.specs.Checks.{Later, Verdict, closed, unfit, other-tree, ill-brought, counts, leftBy, peakBy, verdict}
 use Rattle.demand_laws.specs.Refusals.{same-number}
 use Rattle.demand_laws.specs.OpenStates.{placed-back}
 use Rattle.demand_spec.specs.Demands.{NoneLost}
@@ -54,19 +54,21 @@ module _ (s : State) (tree ticket tape trace : List ℕ) where
     keyed : outOfKeys op (s .ahead .key) ≡ false
     ends : called s tree ticket tape trace ≡ ending s trace (leftBy structure s tree ticket tape trace op) (peakBy structure s tree ticket tape trace op)
 
-  -- It is none of the refusals 1 to 7 and 17.
-  not-early : {m n : ℕ} → (m ≤ 7) ⊎ (m ≡ 17) → Closing n → called s tree ticket tape trace ≡ refusing m s tree trace
+  -- It is none of the refusals 1 to 7, 17 and 19.
+  not-early : {m n : ℕ} → (m ≤ 7) ⊎ Later m → Closing n → called s tree ticket tape trace ≡ refusing m s tree trace
       → called s tree ticket tape trace .reply ≡ Refused n → ⊥
   not-early {m} {n} early c e r = go early c
     where
       same : m ≡ n
       same = same-number (ap (λ (x : Ended). x .reply) (sym e) ∙ r)
 
-      go : (m ≤ 7) ⊎ (m ≡ 17) → Closing n → ⊥
+      go : (m ≤ 7) ⊎ Later m → Closing n → ⊥
       go (inl h) (inl x) = omega (arith, same)
       go (inl h) (inr x) = omega (arith, same)
-      go (inr h) (inl x) = omega (arith, same)
-      go (inr h) (inr x) = omega (arith, same)
+      go (inr (inl h)) (inl x) = omega (arith, same)
+      go (inr (inl h)) (inr x) = omega (arith, same)
+      go (inr (inr h)) (inl x) = omega (arith, same)
+      go (inr (inr h)) (inr x) = omega (arith, same)
 
   closing-rounds : (n : ℕ) → called s tree ticket tape trace .reply ≡ Refused n → Closing n
       → (op : Op structure) → opIn structure ticket ≡ some op → InRounds op

@@ -1,4 +1,4 @@
--- Demand 1 but for the nodes: one reply, refusals 1 to 7 and 17 that change nothing, and a store that stays closed.
+-- Demand 1 but for the nodes: one reply, refusals 1 to 7, 17 and 19 that change nothing, and a store that stays closed.
 use Prim.Native.Nat.{ℕ, _≤_}
 use mathlib.Core.Path.{_≡_, refl, sym, _∙_, ap}
 use mathlib.Core.Bool.{true, false}
@@ -16,7 +16,7 @@ use Rattle.call_spec.specs.declared.Reply.the-variants.{Refused}
 use Rattle.call_spec.specs.Store.{Ended, called, refusing, replied, replyOf, storeOf}
 use Rattle.demand_spec.specs.History.{changesNothing}
 use Rattle.demand_laws.specs.Marks.{Ends, closes, answers, Closing, call-ends}
-use Rattle.demand_laws.specs.Checks.{Verdict, closed, unfit, other-tree, ill-brought, counts, leftBy, verdict}
+use Rattle.demand_laws.specs.Checks.{Later, Verdict, closed, unfit, other-tree, ill-brought, counts, leftBy, verdict}
 use Rattle.demand_spec.specs.Demands.{OneReply, Unchanged, StaysClosed}
 
 false-is-not-true : false ≡ true → ⊥
@@ -55,11 +55,11 @@ counted-number l (answers a m e) n q = inr (full-number a (ap (replied (l .mark)
 module _ (s : State) (tree ticket tape trace : List ℕ) where
   -- What a refusal's number says of the call.
   data Says (n : ℕ) : Type 0 where
-    early : ((1 ≤ n) × (n ≤ 7)) ⊎ (n ≡ 17) → called s tree ticket tape trace ≡ refusing n s tree trace → Says n
+    early : ((1 ≤ n) × (n ≤ 7)) ⊎ Later n → called s tree ticket tape trace ≡ refusing n s tree trace → Says n
     late : Closing n → called s tree ticket tape trace .state .mark ≡ n → Says n
     tenth : n ≡ 10 → Says n
 
-  early-says : (m n : ℕ) → ((1 ≤ m) × (m ≤ 7)) ⊎ (m ≡ 17) → called s tree ticket tape trace ≡ refusing m s tree trace
+  early-says : (m n : ℕ) → ((1 ≤ m) × (m ≤ 7)) ⊎ Later m → called s tree ticket tape trace ≡ refusing m s tree trace
       → called s tree ticket tape trace .reply ≡ Refused n → Says n
   early-says m n h e r =
       let same : m ≡ n = same-number (ap (λ (x : Ended). x .reply) (sym e) ∙ r) in
@@ -88,7 +88,7 @@ module _ (s : State) (tree ticket tape trace : List ℕ) where
   pub one-reply : OneReply s tree ticket tape trace
   one-reply n r = go (says n r)
     where
-      go : Says n → ((1 ≤ n) × (n ≤ 10)) ⊎ (n ≡ 17)
+      go : Says n → ((1 ≤ n) × (n ≤ 10)) ⊎ Later n
       go (early (inl h) e) = inl (h .0, omega arith)
       go (early (inr h) e) = inr h
       go (late (inl x) e) = inl (omega arith, omega arith)
@@ -130,8 +130,10 @@ module _ (s : State) (tree ticket tape trace : List ℕ) where
           ≡ refusing 1 (called s tree ticket tape trace .state) tree′ trace′)
       go (early (inl h) e) (inl x) = let z : ⊥ = omega arith in absurd z
       go (early (inl h) e) (inr x) = let z : ⊥ = omega arith in absurd z
-      go (early (inr h) e) (inl x) = let z : ⊥ = omega arith in absurd z
-      go (early (inr h) e) (inr x) = let z : ⊥ = omega arith in absurd z
+      go (early (inr (inl h)) e) (inl x) = let z : ⊥ = omega arith in absurd z
+      go (early (inr (inl h)) e) (inr x) = let z : ⊥ = omega arith in absurd z
+      go (early (inr (inr h)) e) (inl x) = let z : ⊥ = omega arith in absurd z
+      go (early (inr (inr h)) e) (inr x) = let z : ⊥ = omega arith in absurd z
       go (late y e) x = (e, λ tree′ ticket′ tape′ trace′. refused-closed (called s tree ticket tape trace .state) tree′ ticket′ tape′ trace′ (after e x))
       go (tenth y) (inl x) = let z : ⊥ = omega arith in absurd z
       go (tenth y) (inr x) = let z : ⊥ = omega arith in absurd z

@@ -28,7 +28,8 @@ Sound e = (n : ℕ) → e .reply ≡ Refused n → Neither n
 pub early-sound : (n : ℕ) → (n ≡ 1) ⊎ IllBrought n → (s : Kept) (b : Brought) → Sound (refusing n (s .state) (s .tree) (b .trace))
 early-sound n (inl h) s b m r = let e = same-number r in omega arith
 early-sound n (inr (inl h)) s b m r = let e = same-number r in omega arith
-early-sound n (inr (inr h)) s b m r = let e = same-number r in omega arith
+early-sound n (inr (inr (inl h))) s b m r = let e = same-number r in omega arith
+early-sound n (inr (inr (inr h))) s b m r = let e = same-number r in omega arith
 
 -- The rounds left the store open, or met overflow.
 abbrev pub Undamaged : Left → Type 0

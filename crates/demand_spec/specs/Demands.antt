@@ -41,11 +41,11 @@ use Rattle.demand_spec.specs.History.{Brought, Kept, callOn, history, fi
 
 -- ---- demand 1: any state, tree, ticket, tape and trace buffer
 module _ (s : State) (tree ticket tape trace : List ℕ) where
-  -- One answer, or one refusal 1 to 10 or 17.
+  -- One answer, or one refusal 1 to 10, 17 or 19.
   abbrev pub OneReply : Type 0
-  OneReply = (n : ℕ) → called s tree ticket tape trace .reply ≡ Refused n → ((1 ≤ n) × (n ≤ 10)) ⊎ (n ≡ 17)
+  OneReply = (n : ℕ) → called s tree ticket tape trace .reply ≡ Refused n → ((1 ≤ n) × (n ≤ 10)) ⊎ ((n ≡ 17) ⊎ (n ≡ 19))
 
-  -- Refusals 1 to 7 and 17 change nothing and reveal no leaf.
+  -- Refusals 1 to 7, 17 and 19 change nothing and reveal no leaf.
   abbrev pub Unchanged : Type 0
   Unchanged = (n : ℕ) → called s tree ticket tape trace .reply ≡ Refused n → changesNothing n ≡ true → called s tree ticket tape trace ≡ refusing n s tree trace
 

@@ -22,20 +22,23 @@ use Rattle.bucket_call_spec.specs.Fetch.{movedLink, movedNode, closing, atClose
 use Rattle.bucket_call_spec.specs.Call.{putRounds, afterPuts, afterFetches, bucketCall}
 use Rattle.list_spec.specs.Ascending.{ascendingFrom, ascending}
 use Rattle.state_spec.specs.Fit.{allOf, rootGood, aheadGood, fits, placesFrom}
-use Rattle.state_spec.specs.Ticket.{opIn}
+use Rattle.state_spec.specs.Ticket.{opIn, uses, strayFields}
 use Rattle.state_spec.specs.Opening.{opened}
 use Rattle.call_spec.specs.Store.{called, callWith, refusing, replied, replyOf}
 use Rattle.demand_spec.specs.History.{Brought, Kept, callOn, leftBy, untilClosed, early, counted}
 use Rattle.demand_spec.specs.Demands.{openedStore}
 
--- A ticket of that kind and value, with a tape of three numbers and room for two leaves.
-abbrev bringing : (kind value a b c : ℕ) → Brought
-bringing kind value a b c =
+-- A ticket of that kind, key and value, with a tape of three numbers and room for two leaves; without a key.
+abbrev bringingKey : (kind key value a b c : ℕ) → Brought
+bringingKey kind key value a b c =
     record {
-      ticket = bytes 1 kind ++ (bytes 4 0 ++ bytes 8 value);
+      ticket = bytes 1 kind ++ (bytes 4 key ++ bytes 8 value);
       tape = a ∷ b ∷ c ∷ [];
       trace = 0 ∷ 0 ∷ [];
     }
+
+abbrev bringing : (kind value a b c : ℕ) → Brought
+bringing kind value a b c = bringingKey kind 0 value a b c
 
 abbrev pushFifty : Brought
 pushFifty = bringing 4 50 1 2 3
@@ -60,7 +63,8 @@ damaged = record { state = fresh .state; tree = set (fresh .tree) 768 7 }
 abbrev closed : Kept
 closed = leftBy (callOn damaged pushAtThree)
 
--- A queue of size 2 that has no entries, and no key left: an in with three numbers, an out with three, an out with four.
+-- A queue of size 2 that has no entries, and no key left: an in with three numbers, one that has a key besides, a stack's pop with both
+-- fields, an out with three numbers, an out with four.
 abbrev keysGone : Kept
 keysGone =
     record {
@@ -80,6 +84,12 @@ keysGone =
 abbrev inShort : Brought
 inShort = bringing 8 7 1 1 1
 
+abbrev inKeyed : Brought
+inKeyed = bringingKey 8 1 7 1 1 1
+
+abbrev popKeyed : Brought
+popKeyed = bringingKey 5 1 7 1 1 1
+
 abbrev outShort : Brought
 outShort = bringing 9 0 1 1 1
 
@@ -98,7 +108,11 @@ pub record Worked : Type 0 where
   pub no-key : callOn keysGone inShort ≡ refusing 17 (keysGone .state) (keysGone .tree) (0 ∷ 0 ∷ [])
   pub short-tape : callOn keysGone outShort ≡ refusing 6 (keysGone .state) (keysGone .tree) (0 ∷ 0 ∷ [])
   pub one-counts : counted keysGone (inShort ∷ outShort ∷ outNext ∷ inShort ∷ []) ≡ outNext ∷ []
+  -- An unused field: 19 comes before 17 and 6, and after 5; such a call does not count either.
+  pub stray-key : callOn keysGone inKeyed ≡ refusing 19 (keysGone .state) (keysGone .tree) (0 ∷ 0 ∷ [])
+  pub foreign-kind : callOn keysGone popKeyed ≡ refusing 5 (keysGone .state) (keysGone .tree) (0 ∷ 0 ∷ [])
+  pub strays-do-not-count : counted keysGone (inKeyed ∷ popKeyed ∷ outNext ∷ []) ≡ outNext ∷ []
 
 pub worked : Worked
-unfolding untilClosed opened called callWith replied replyOf fits allOf ascendingFrom ascending rootGood aheadGood placesFrom opIn rounds spare greatest tallest shaped least bucketCall afterFetches afterPuts putRounds fetchRounds fetchRound wantRound tookRound idleRound atClose closing movedLink movedNode withBucket noneTwice allGood readBucket readBuckets insert join takeFirst tagged granted joined grantedFrom readHalf choose evict halvings among filled encode fieldsOf pack bytes readSlot bad fieldsIn nodeOf fields value allZero wellFormed readLeaf program aheadAfter test pushProg popProg stackTest enqueueProg enqueueAhead dequeueProg dequeueAhead queueTest early counted bind
-worked = record { all-of-them = refl; first-alone = refl; meets-damage = refl; closed-before = refl; no-key = refl; short-tape = refl; one-counts = refl }
+unfolding untilClosed opened called callWith replied replyOf fits allOf ascendingFrom ascending rootGood aheadGood placesFrom opIn uses strayFields rounds spare greatest tallest shaped least bucketCall afterFetches afterPuts putRounds fetchRounds fetchRound wantRound tookRound idleRound atClose closing movedLink movedNode withBucket noneTwice allGood readBucket readBuckets insert join takeFirst tagged granted joined grantedFrom readHalf choose evict halvings among filled encode fieldsOf pack bytes readSlot bad fieldsIn nodeOf fields value allZero wellFormed readLeaf program aheadAfter test pushProg popProg stackTest enqueueProg enqueueAhead dequeueProg dequeueAhead queueTest early counted bind
+worked = record { all-of-them = refl; first-alone = refl; meets-damage = refl; closed-before = refl; no-key = refl; short-tape = refl; one-counts = refl; stray-key = refl; foreign-kind = refl; strays-do-not-count = refl }

@@ -51,16 +51,16 @@ unfoldable pub untilClosed : Kept → List Brought → List Brought
 untilClosed s [] = []
 untilClosed s (b ∷ bs) = pick (eqb (callOn s b .state .mark) 0) (b ∷ untilClosed (leftBy (callOn s b)) bs) []
 
--- The refusals that change nothing and reveal no leaf: 1 to 7, and 17.
+-- The refusals that change nothing and reveal no leaf: 1 to 7, 17 and 19.
 abbrev pub changesNothing : ℕ → Bool
-changesNothing n = leb n 7 || eqb n 17
+changesNothing n = leb n 7 || (eqb n 17 || eqb n 19)
 
 -- A reply with one of these numbers.
 unfoldable pub early : Reply → Bool
 early (Answered a) = false
 early (Refused n) = changesNothing n
 
--- "The calls that count are those not refused with 1 to 7" or 17: what they brought.
+-- "The calls that count are those not refused with 1 to 7", 17 or 19: what they brought.
 unfoldable pub counted : Kept → List Brought → List Brought
 counted s [] = []
 counted s (b ∷ bs) =

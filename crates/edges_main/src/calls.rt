@@ -29,9 +29,12 @@ fn call_with(
     call::call(state, tree, ticket, tape, trace)
 }
 
-// A call with a ticket and a tape of the row's lengths.
+// A call with a ticket and a tape of the row's lengths. A ticket's key starts at byte 1, its value at byte 5.
 fn made(row: &[usize; 128], state: State, tree: &mut [u8], trace: &mut [u16]) -> Called {
-    let ticket_space = [byte(row, b'K'); MOST_LEAVES];
+    let mut ticket_space = [0u8; MOST_LEAVES];
+    ticket_space[0] = byte(row, b'K');
+    ticket_space[1] = byte(row, b'C');
+    ticket_space[5] = byte(row, b'W');
     let ticket = number(row, b'T') % MOST_LEAVES;
     let mut tape_space = [0u16; MOST_LEAVES];
     tape_space[1] = short(row, b'Y');

@@ -5,7 +5,8 @@
 //   p a place, f 1 if it is full, n g its node's key and tag, a l and b r the heights and keys of its left and right link;
 //   q the key of a node that fills place 1 (0: none).
 // A tree: B its length, F the byte that fills it, S where a slot with a node starts (past the end: none), V G its key and tag.
-// A call: K the ticket's kind, T D L the lengths of ticket, tape and trace buffer, Y Z the tape's second and third number;
+// A call: K C W the ticket's kind, key and value, T D L the lengths of ticket, tape and trace buffer, Y Z the tape's second and third
+//   number;
 //   N how many such calls are made before it, M the bits that are kept of the mark that they leave.
 // X: what is printed, as cases.rt says.
 ghost use Prim.Native.Nat.{_≤_, _<_};

@@ -27,7 +27,7 @@ use Rattle.call_spec.specs.Store.{Ended, refusing, ending, storeOf, callWith, c
 use Rattle.none_lost_laws.specs.Ends.{FitStore}
 use Rattle.fitness_laws.specs.FitState.{fit-state}
 use Rattle.fitness_laws.specs.FitStores.{fit-store}
-use Rattle.fitness_laws.specs.Tickets.{op-fits}
+use Rattle.fitness_laws.specs.Tickets.{op-fits, put-clean}
 use Rattle.full_put_laws.specs.Earlier.{earlierPrograms, callWithPrograms, calledWith}
 use Rattle.full_put_laws.specs.FullPut.{fullPut, OnlyValue, same-call, same-peak, only-value, put-peak}
 
@@ -53,11 +53,11 @@ pub data Compares (s : State) (tree trace : List ℕ) (st : Structure) (o : Opti
       → Compares s tree trace st o (ending s trace earlier before) (ending s trace now peak)
 
 -- ---- every other call
-with-same : (st : Structure) (s : State) (tree tape trace : List ℕ) (o : Option (Op st)) → presentOnFull s tree tape st o ≡ false
-    → callWith st s tree tape trace o ≡ callWithPrograms earlierPrograms st s tree tape trace o
+with-same : (st : Structure) (s : State) (tree ticket tape trace : List ℕ) (o : Option (Op st)) → presentOnFull s tree tape st o ≡ false
+    → callWith st s tree ticket tape trace o ≡ callWithPrograms earlierPrograms st s tree ticket tape trace o
 unfolding callWith callWithPrograms presentOnFull
-with-same st s tree tape trace none e = refl
-with-same st s tree tape trace (some op) e =
+with-same st s tree ticket tape trace none e = refl
+with-same st s tree ticket tape trace (some op) e =
     rw (
       same-call (s .size) (rounds st (s .size)) op (drawOf (s .size) tape) (storeOf s tree) e,
       same-peak (s .size) (rounds st (s .size)) op (drawOf (s .size) tape) (storeOf s tree) e,
@@ -68,33 +68,33 @@ pub as-before : (s : State) (tree ticket tape trace : List ℕ) → fullPutCall 
     → called s tree ticket tape trace ≡ calledWith earlierPrograms s tree ticket tape trace
 unfolding called calledWith
 as-before s tree ticket tape trace e =
-    rw (with-same (structureOf (s .structure)) s tree tape trace (opIn (structureOf (s .structure)) ticket) e)
+    rw (with-same (structureOf (s .structure)) s tree ticket tape trace (opIn (structureOf (s .structure)) ticket) e)
 
 -- ---- a put of a present key on a full map
-module _ (s : State) (tree tape trace : List ℕ) where
+module _ (s : State) (tree ticket tape trace : List ℕ) where
   refused-or : {st : Structure} {o : Option (Op st)} (c : Bool) (m : ℕ) → m ≤ 7 → {x y : Ended} → (c ≡ false → Compares s tree trace st o x y)
       → Compares s tree trace st o (pick c (refusing m s tree trace) x) (pick c (refusing m s tree trace) y)
   refused-or true m few next = both-refused m few
   refused-or false m few next = next refl
 
   with-compares : (st : Structure) (op : Op st) → FitStore st (s .size) (storeOf s tree) → OpFits op → 1 ≤ s .size → s .size ≤ 16
-      → presentOnFull s tree tape st (some op) ≡ true
-      → Compares s tree trace st (some op) (callWithPrograms earlierPrograms st s tree tape trace (some op)) (callWith st s tree tape trace (some op))
+      → presentOnFull s tree tape st (some op) ≡ true → opIn st ticket ≡ some op
+      → Compares s tree trace st (some op) (callWithPrograms earlierPrograms st s tree ticket tape trace (some op)) (callWith st s tree ticket tape trace (some op))
   unfolding callWith callWithPrograms presentOnFull fullPut
-  with-compares st (put key value) fit fits some-size small present =
-      refused-or (ltb (length tape) (draws map (s .size))) 6 (omega arith)
+  with-compares st (put key value) fit fits some-size small present asked =
+      rw (put-clean ticket key value asked) (refused-or (ltb (length tape) (draws map (s .size))) 6 (omega arith)
       (λ long. refused-or (ltb (length trace) (2 * rounds map (s .size))) 7 (omega arith)
       (λ room. other-value key value asks-put
       (only-value (s .size) some-size small key value fits (drawOf (s .size) tape) (λ d. mod-lt _ (pow-pos (s .size))) (storeOf s tree) fit present)
-      (put-peak (s .size) some-size small key value fits (drawOf (s .size) tape) (λ d. mod-lt _ (pow-pos (s .size))) (storeOf s tree) fit)))
-  with-compares st (get key) fit fits some-size small present = let z : _≡_ {A = ℕ} 0 1 = cc in absurd (omega arith)
-  with-compares st (remove key) fit fits some-size small present = let z : _≡_ {A = ℕ} 0 1 = cc in absurd (omega arith)
-  with-compares st (push value) fit fits some-size small present = let z : _≡_ {A = ℕ} 0 1 = cc in absurd (omega arith)
-  with-compares st pop fit fits some-size small present = let z : _≡_ {A = ℕ} 0 1 = cc in absurd (omega arith)
-  with-compares st (add value) fit fits some-size small present = let z : _≡_ {A = ℕ} 0 1 = cc in absurd (omega arith)
-  with-compares st take fit fits some-size small present = let z : _≡_ {A = ℕ} 0 1 = cc in absurd (omega arith)
-  with-compares st (enqueue value) fit fits some-size small present = let z : _≡_ {A = ℕ} 0 1 = cc in absurd (omega arith)
-  with-compares st dequeue fit fits some-size small present = let z : _≡_ {A = ℕ} 0 1 = cc in absurd (omega arith)
+      (put-peak (s .size) some-size small key value fits (drawOf (s .size) tape) (λ d. mod-lt _ (pow-pos (s .size))) (storeOf s tree) fit))))
+  with-compares st (get key) fit fits some-size small present asked = let z : _≡_ {A = ℕ} 0 1 = cc in absurd (omega arith)
+  with-compares st (remove key) fit fits some-size small present asked = let z : _≡_ {A = ℕ} 0 1 = cc in absurd (omega arith)
+  with-compares st (push value) fit fits some-size small present asked = let z : _≡_ {A = ℕ} 0 1 = cc in absurd (omega arith)
+  with-compares st pop fit fits some-size small present asked = let z : _≡_ {A = ℕ} 0 1 = cc in absurd (omega arith)
+  with-compares st (add value) fit fits some-size small present asked = let z : _≡_ {A = ℕ} 0 1 = cc in absurd (omega arith)
+  with-compares st take fit fits some-size small present asked = let z : _≡_ {A = ℕ} 0 1 = cc in absurd (omega arith)
+  with-compares st (enqueue value) fit fits some-size small present asked = let z : _≡_ {A = ℕ} 0 1 = cc in absurd (omega arith)
+  with-compares st dequeue fit fits some-size small present asked = let z : _≡_ {A = ℕ} 0 1 = cc in absurd (omega arith)
 
 -- A put of a present key on a full map: but for the one value and the answer all is as it was. The premises hold of everything that a machine can lend.
 pub on-full-map : (s : State) (tree ticket tape trace : List ℕ) → Bytes tree → Bytes ticket → Widths s → fullPutCall s tree ticket tape ≡ true
@@ -102,19 +102,19 @@ pub on-full-map : (s : State) (tree ticket tape trace : List ℕ) → Bytes tree
     (calledWith earlierPrograms s tree ticket tape trace) (called s tree ticket tape trace)
 unfolding called calledWith presentOnFull
 on-full-map s tree ticket tape trace tree-bytes ticket-bytes widths present =
-    refused-or s tree tape trace (not (eqb (s .mark) 0)) 1 (omega arith)
-    (λ unmarked. refused-or s tree tape trace (not (fits s)) 2 (omega arith)
-    (λ fit. refused-or s tree tape trace (not (eqb (length tree) (treeLength (s .size)))) 3 (omega arith)
-    (λ sized. refused-or s tree tape trace (not (eqb (length ticket) ticketLength)) 4 (omega arith)
+    refused-or s tree ticket tape trace (not (eqb (s .mark) 0)) 1 (omega arith)
+    (λ unmarked. refused-or s tree ticket tape trace (not (fits s)) 2 (omega arith)
+    (λ fit. refused-or s tree ticket tape trace (not (eqb (length tree) (treeLength (s .size)))) 3 (omega arith)
+    (λ sized. refused-or s tree ticket tape trace (not (eqb (length ticket) ticketLength)) 4 (omega arith)
     (λ whole. go (not-false (fits s) fit) (eqb-true (length tree) (treeLength (s .size)) (not-false (eqb (length tree) (treeLength (s .size))) sized))
     (opIn (structureOf (s .structure)) ticket) refl present))))
   where
     go : fits s ≡ true → length tree ≡ treeLength (s .size) → (o : Option (Op (structureOf (s .structure)))) → opIn (structureOf (s .structure)) ticket ≡ o
         → presentOnFull s tree tape (structureOf (s .structure)) o ≡ true
         → Compares s tree trace (structureOf (s .structure)) o
-        (callWithPrograms earlierPrograms (structureOf (s .structure)) s tree tape trace o) (callWith (structureOf (s .structure)) s tree tape trace o)
+        (callWithPrograms earlierPrograms (structureOf (s .structure)) s tree ticket tape trace o) (callWith (structureOf (s .structure)) s tree ticket tape trace o)
     go fit sized none e here = let z : _≡_ {A = ℕ} 0 1 = cc in absurd (omega arith)
     go fit sized (some op) e here =
         let size = fit-state s fit .size in
-        with-compares s tree tape trace (structureOf (s .structure)) op (fit-store s tree fit sized tree-bytes widths)
-        (op-fits (structureOf (s .structure)) ticket ticket-bytes op e) (size .0) (omega arith) here
+        with-compares s tree ticket tape trace (structureOf (s .structure)) op (fit-store s tree fit sized tree-bytes widths)
+        (op-fits (structureOf (s .structure)) ticket ticket-bytes op e) (size .0) (omega arith) here e

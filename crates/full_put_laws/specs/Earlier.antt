@@ -20,7 +20,7 @@ use Rattle.bucket_call_spec.specs.Call.{Store, begun, aheadThen, afterFetches, 
 use Rattle.bucket_call_spec.specs.Peak.{peakOf, roundsWith}
 use Rattle.state_spec.specs.declared.State.{State}
 use Rattle.state_spec.specs.Fit.{fits}
-use Rattle.state_spec.specs.Ticket.{ticketLength, opIn, structureOf, outOfKeys}
+use Rattle.state_spec.specs.Ticket.{ticketLength, opIn, structureOf, outOfKeys, strayFields}
 use Rattle.call_spec.specs.Store.{Ended, refusing, ending, storeOf, callWith, called}
 
 -- ---- the earlier put
@@ -81,14 +81,15 @@ module _ (programs : Programs) where
   peakWith {s} k F op draw st = peakOf (roundsWith s k F draw st (programWith k F op draw st))
 
   -- A call with all its checks, as `callWith` and `called`.
-  unfoldable pub callWithPrograms : (st : Structure) → State → (tree tape trace : List ℕ) → Option (Op st) → Ended
-  callWithPrograms st s tree tape trace none = refusing 5 s tree trace
-  callWithPrograms st s tree tape trace (some op) =
-      pick (outOfKeys op (s .ahead .key)) (refusing 17 s tree trace)
+  unfoldable pub callWithPrograms : (st : Structure) → State → (tree ticket tape trace : List ℕ) → Option (Op st) → Ended
+  callWithPrograms st s tree ticket tape trace none = refusing 5 s tree trace
+  callWithPrograms st s tree ticket tape trace (some op) =
+      pick (strayFields ticket) (refusing 19 s tree trace)
+      (pick (outOfKeys op (s .ahead .key)) (refusing 17 s tree trace)
       (pick (ltb (length tape) (draws st (s .size))) (refusing 6 s tree trace)
       (pick (ltb (length trace) (2 * rounds st (s .size))) (refusing 7 s tree trace)
       (ending s trace (bucketCallWith (s .size) (rounds st (s .size)) op (drawOf (s .size) tape) (storeOf s tree))
-      (peakWith (s .size) (rounds st (s .size)) op (drawOf (s .size) tape) (storeOf s tree)))))
+      (peakWith (s .size) (rounds st (s .size)) op (drawOf (s .size) tape) (storeOf s tree))))))
 
   unfoldable pub calledWith : State → (tree ticket tape trace : List ℕ) → Ended
   calledWith s tree ticket tape trace =
@@ -96,7 +97,7 @@ module _ (programs : Programs) where
       (pick (not (fits s)) (refusing 2 s tree trace)
       (pick (not (eqb (length tree) (treeLength (s .size)))) (refusing 3 s tree trace)
       (pick (not (eqb (length ticket) ticketLength)) (refusing 4 s tree trace)
-      (callWithPrograms (structureOf (s .structure)) s tree tape trace (opIn (structureOf (s .structure)) ticket)))))
+      (callWithPrograms (structureOf (s .structure)) s tree ticket tape trace (opIn (structureOf (s .structure)) ticket)))))
 
 -- With the current programs they are the calls that there are.
 pub current-bucket-call : {s : Structure} (k F : ℕ) (op : Op s) (draw : ℕ → ℕ) (st : Store)
@@ -104,13 +105,13 @@ pub current-bucket-call : {s : Structure} (k F : ℕ) (op : Op s) (draw : ℕ �
 unfolding bucketCall
 current-bucket-call k F op draw st = refl
 
-current-call-with : (st : Structure) (s : State) (tree tape trace : List ℕ) (op : Option (Op st))
-    → callWithPrograms currentPrograms st s tree tape trace op ≡ callWith st s tree tape trace op
+current-call-with : (st : Structure) (s : State) (tree ticket tape trace : List ℕ) (op : Option (Op st))
+    → callWithPrograms currentPrograms st s tree ticket tape trace op ≡ callWith st s tree ticket tape trace op
 unfolding callWithPrograms callWith bucketCall
-current-call-with st s tree tape trace none = refl
-current-call-with st s tree tape trace (some op) = refl
+current-call-with st s tree ticket tape trace none = refl
+current-call-with st s tree ticket tape trace (some op) = refl
 
 pub current-call : (s : State) (tree ticket tape trace : List ℕ) → calledWith currentPrograms s tree ticket tape trace ≡ called s tree ticket tape trace
 unfolding calledWith called
 current-call s tree ticket tape trace =
-    rw (current-call-with (structureOf (s .structure)) s tree tape trace (opIn (structureOf (s .structure)) ticket))
+    rw (current-call-with (structureOf (s .structure)) s tree ticket tape trace (opIn (structureOf (s .structure)) ticket))

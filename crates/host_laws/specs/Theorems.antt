@@ -28,6 +28,7 @@ use Rattle.lent_bytes_laws.specs.NumbersLaws.{numbers-written}
 use Rattle.lent_bytes_laws.specs.StateLaws.{StateKept, state-length, state-back, kept-fits, bytes-back, fit-bytes, one-each}
 use Rattle.demand_spec.specs.History.{Brought, changesNothing}
 use Rattle.demand_spec.specs.Demands.{Demand1}
+use Rattle.demand_laws.specs.Checks.{Later}
 use Rattle.demand_laws.specs.Proved.{demand1}
 use Rattle.demand_laws.specs.Refusals.{same-number}
 use Rattle.call_peak_laws.specs.Theorems.{within-limit, overflow-waits}
@@ -59,7 +60,7 @@ none-as-one a b ba bb la lb s ea eb = go (one-or-unfit a) (one-or-unfit b)
     go (inr x) y = let z : _≡_ {A = ℕ} 0 1 = cc in absurd (omega arith)
 
 -- ---- the refusals
--- 1 to 7 and 17, as for the existing call, and 18.
+-- 1 to 7, 17 and 19, as for the existing call, and 18.
 abbrev pub changesNoByte : ℕ → Bool
 changesNoByte n = changesNothing n || eqb n 18
 
@@ -84,9 +85,10 @@ module _ (state tree ticket tape trace result : List ℕ) (state-bytes : Bytes s
       number : e .reply ≡ Refused n
       number = er ∙ ap Refused is
 
-      not-there : n ≡ 18 → ((1 ≤ n) × (n ≤ 10)) ⊎ (n ≡ 17) → ⊥
+      not-there : n ≡ 18 → ((1 ≤ n) × (n ≤ 10)) ⊎ Later n → ⊥
       not-there z (inl x) = omega (arith, z, x)
-      not-there z (inr x) = omega (arith, z, x)
+      not-there z (inr (inl x)) = omega (arith, z, x)
+      not-there z (inr (inr x)) = omega (arith, z, x)
 
       go : (a : Bool) → changesNothing n ≡ a → (b : Bool) → eqb n 18 ≡ b → (a || b) ≡ true → e ≡ refusing n (stateIn state) tree (numbersOf trace)
       go true ea b eb q = one .unchanged n number ea

@@ -10,7 +10,7 @@ use input::read_head;
 use libc::STDOUT_FILENO;
 use messages::say_no_file;
 use messages::say_usage;
-use new_file::LONGEST_NAME;
+use named_files::LONGEST_NAME;
 use opening::open;
 use readout_outcomes::read_into;
 use readout_spec::COUNT_WIDTH;
@@ -22,7 +22,7 @@ use walk_input::LARGEST_TREE;
 use walk_input::tree_lent;
 ghost use Prim.Native.Nat.{_≤_};
 ghost use lib.ListN.{length};
-ghost use Rattle.readout.specs.Names.{longestName};
+ghost use Rattle.named_files.specs.Names.{longestName};
 
 // The longest file. Each slot and each waiting place that holds a node gives an entry, of 16 bytes, or a line of the report, of
 // 5: no file is longer than that of the most nodes, all good and with other keys.

@@ -12,6 +12,12 @@ pub struct Place {
     pub node: Node,
 }
 
+// Which of its two fields a kind of tickets uses.
+pub struct Uses {
+    pub key: bool,
+    pub value: bool,
+}
+
 pub struct State {
     // 0: open; otherwise the number with which the store was closed.
     pub mark: u8,

@@ -19,7 +19,7 @@ use Rattle.bucket_call_spec.specs.Peak.{callPeak}
 use Rattle.state_spec.specs.declared.State.{State}
 use Rattle.state_spec.specs.Fetching.{roundsOf, drawsOf}
 use Rattle.state_spec.specs.Fit.{fits}
-use Rattle.state_spec.specs.Ticket.{ticketLength, opIn, structureOf, outOfKeys}
+use Rattle.state_spec.specs.Ticket.{ticketLength, opIn, structureOf, outOfKeys, strayFields}
 use Rattle.call_spec.specs.Store.{Ended, storeOf, refusing, ending, callWith, called}
 use Rattle.tape_laws.specs.SameDraws.{AgreeBelow, same-draws-call, same-draws-peak}
 
@@ -73,8 +73,8 @@ module _ (trace : List ℕ) where
           within = λ h. omega (arith, length-append (l .leaves) (drop n trace), length-drop n trace);
         }
 
-    module _ (st : Structure) (tape : List ℕ) (enough : length trace′ ≡ min (length trace) (2 * rounds st (s .size))) where
-      with-cuts : (o : Option (Op st)) → Cuts trace (callWith st s tree (take (draws st (s .size)) tape) trace′ o) (callWith st s tree tape trace o)
+    module _ (st : Structure) (ticket tape : List ℕ) (enough : length trace′ ≡ min (length trace) (2 * rounds st (s .size))) where
+      with-cuts : (o : Option (Op st)) → Cuts trace (callWith st s tree ticket (take (draws st (s .size)) tape) trace′ o) (callWith st s tree ticket tape trace o)
       unfolding callWith
       with-cuts none = refuses 5
       with-cuts (some op) =
@@ -88,10 +88,11 @@ module _ (trace : List ℕ) where
           let tapes = cut-below (length (take D tape)) (length tape) D (omega (arith, length-take D tape)) in
           let traces = cut-below (length trace′) (length trace) (2 * F) enough in
           rw (tapes, traces, same-draws-call k F op x y store agree, same-draws-peak k F op x y store agree)
+          (pick-cuts (strayFields ticket) (refuses 19)
           (pick-cuts (outOfKeys op (s .ahead .key)) (refuses 17)
           (pick-cuts (ltb (length tape) D) (refuses 6)
           (pick-cuts (ltb (length trace) (2 * F)) (refuses 7)
-          (ends (bucketCall k F op y store) (callPeak k F op y store)))))
+          (ends (bucketCall k F op y store) (callPeak k F op y store))))))
 
 called-cuts : (s : State) (tree ticket tape trace trace′ : List ℕ) → length trace′ ≡ min (length trace) (2 * roundsOf (s .structure) (s .size))
     → Cuts trace (called s tree ticket (take (drawsOf (s .structure) (s .size)) tape) trace′) (called s tree ticket tape trace)
@@ -103,7 +104,7 @@ called-cuts s tree ticket tape trace trace′ enough =
     (pick-cuts trace (not (fits s)) (quits 2)
     (pick-cuts trace (not (eqb (length tree) (treeLength (s .size)))) (quits 3)
     (pick-cuts trace (not (eqb (length ticket) ticketLength)) (quits 4)
-    (with-cuts trace s tree trace′ st tape enough (opIn st ticket)))))
+    (with-cuts trace s tree trace′ st ticket tape enough (opIn st ticket)))))
 
 -- A call with its tape cut to its draws, and with another buffer that is as long or has room for its leaves, is the same call.
 pub called-cut : (s : State) (tree ticket tape tape′ trace trace′ : List ℕ)

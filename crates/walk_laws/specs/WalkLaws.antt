@@ -18,7 +18,7 @@ use Rattle.bucket_call_spec.specs.Call.{drawOf, bucketCall}
 use Rattle.bucket_call_spec.specs.Peak.{callPeak}
 use Rattle.state_spec.specs.declared.State.{State}
 use Rattle.state_spec.specs.Fit.{fits}
-use Rattle.state_spec.specs.Ticket.{ticketLength, opIn, structureOf, outOfKeys}
+use Rattle.state_spec.specs.Ticket.{ticketLength, opIn, structureOf, outOfKeys, strayFields}
 use Rattle.call_spec.specs.declared.Reply.{Reply}
 use Rattle.call_spec.specs.Store.{Ended, storeOf, refusing, ending, called, callWith}
 use Rattle.walk_spec.specs.Lines.{lineOf, mostLeaves}
@@ -41,14 +41,15 @@ refused = record { structure = refl; size = refl; leaves = omega arith }
 ended : (s : State) (trace : List ℕ) (l : Left) (peak : ℕ) → Kept s (ending s trace l peak)
 ended s trace l peak = record { structure = refl; size = refl; leaves = rw length-append (omega arith) }
 
-kept-with : (st : Structure) (s : State) (tree tape trace : List ℕ) (op : Option (Op st)) → Kept s (callWith st s tree tape trace op)
+kept-with : (st : Structure) (s : State) (tree ticket tape trace : List ℕ) (op : Option (Op st)) → Kept s (callWith st s tree ticket tape trace op)
 unfolding callWith
-kept-with st s tree tape trace none = refused
-kept-with st s tree tape trace (some op) =
-    kept-either (outOfKeys op (s .ahead .key)) refused
+kept-with st s tree ticket tape trace none = refused
+kept-with st s tree ticket tape trace (some op) =
+    kept-either (strayFields ticket) refused
+    (kept-either (outOfKeys op (s .ahead .key)) refused
     (kept-either (ltb (length tape) (draws st (s .size))) refused
     (kept-either (ltb (length trace) (2 * rounds st (s .size))) refused
-    (ended s trace (bucketCall (s .size) (rounds st (s .size)) op (drawOf (s .size) tape) (storeOf s tree)) (callPeak (s .size) (rounds st (s .size)) op (drawOf (s .size) tape) (storeOf s tree)))))
+    (ended s trace (bucketCall (s .size) (rounds st (s .size)) op (drawOf (s .size) tape) (storeOf s tree)) (callPeak (s .size) (rounds st (s .size)) op (drawOf (s .size) tape) (storeOf s tree))))))
 
 pub call-keeps : (s : State) (tree ticket tape trace : List ℕ) → Kept s (called s tree ticket tape trace)
 unfolding called
@@ -57,7 +58,7 @@ call-keeps s tree ticket tape trace =
     (kept-either (not (fits s)) refused
     (kept-either (not (eqb (length tree) (treeLength (s .size)))) refused
     (kept-either (not (eqb (length ticket) ticketLength)) refused
-    (kept-with (structureOf (s .structure)) s tree tape trace (opIn (structureOf (s .structure)) ticket)))))
+    (kept-with (structureOf (s .structure)) s tree ticket tape trace (opIn (structureOf (s .structure)) ticket)))))
 
 -- ---- what a call prints
 -- A call that was lent the first n numbers of a trace buffer: its leaves are among them, and so its line is that of the buffer's first numbers.

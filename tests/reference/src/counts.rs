@@ -1,6 +1,8 @@
 //! How often the calls of random inputs met each branch: of the steps and of
-//! the damage found, as `plain` tells them, and of the peaks, by structure.
+//! the damage found, as `plain` tells them, of the tickets' fields, and of the
+//! peaks, by structure.
 
+use crate::fields;
 use crate::paper::*;
 use crate::plain::{call_and_met, Groups, Met, State, DAMAGE_FOUND, STEPS};
 use crate::walk::{each_event, Event};
@@ -22,6 +24,9 @@ const PEAKS_AT_DAMAGE: [&str; 4] = [
     "peaks of a damaged queue",
 ];
 
+/// The groups of the tickets' fields, in the same way.
+const FIELDS: [&str; 2] = ["fields of tickets", "fields of tickets to damaged stores"];
+
 const ZERO: &str = "0 and answered";
 const BELOW_LIMIT: &str = "1 to 63 and answered";
 const AT_LIMIT: &str = "64 and answered";
@@ -32,12 +37,14 @@ const OVERFLOW_IN_FETCH: &str = "65 at overflow in a fetch round";
 const OVERFLOW_IN_PUT: &str = "65 at overflow in a put round";
 const AFTER_CLOSING: &str = "0 on a closed store";
 const FOREIGN: &str = "0 for a foreign kind";
+const STRAY: &str = "0 for a stray field";
+const STRAY_WAITING: &str = "0 for a stray field while nodes wait";
 const DAMAGE_AT_ONCE: &str = "0 at damage in the first round";
 const DAMAGE_AT_ONCE_WAITING: &str = "0 at damage in the first round while nodes wait";
 const DAMAGE_IN_FETCH: &str = "above 0 at damage in a later fetch round";
 const DAMAGE_IN_PUT: &str = "above 0 at damage in a put round";
 
-const OF_CALLS: [&str; 10] = [
+const OF_CALLS: [&str; 12] = [
     ZERO,
     BELOW_LIMIT,
     AT_LIMIT,
@@ -48,6 +55,8 @@ const OF_CALLS: [&str; 10] = [
     OVERFLOW_IN_PUT,
     AFTER_CLOSING,
     FOREIGN,
+    STRAY,
+    STRAY_WAITING,
 ];
 const OF_DAMAGE: [&str; 4] = [
     DAMAGE_AT_ONCE,
@@ -57,7 +66,7 @@ const OF_DAMAGE: [&str; 4] = [
 ];
 
 /// A group and a name.
-type Name = (&'static str, &'static str);
+type Name = (&'static str, String);
 
 pub struct Counts {
     damages: bool,
@@ -82,7 +91,7 @@ impl Counts {
             input,
             |state: &mut State, tree, ticket, tape, trace| {
                 let (outcome, met) = call_and_met(state, tree, ticket, tape, trace);
-                self.add(state, outcome, &met);
+                self.add(state, ticket, outcome, &met);
                 outcome
             },
             tell,
@@ -90,13 +99,17 @@ impl Counts {
     }
 
     /// A call, with the state that it left.
-    fn add(&mut self, state: &State, outcome: Outcome, met: &Met) {
+    fn add(&mut self, state: &State, ticket: &[u8], outcome: Outcome, met: &Met) {
         for branch in &met.branches {
-            self.count(branch.name());
+            self.count(owned(branch.name()));
+        }
+        let group = FIELDS[usize::from(self.damages)];
+        for name in fields::met(state.structure, ticket, outcome.cause()) {
+            self.count((group, name));
         }
         let group = self.peaks_of(state.structure);
         for name in peak_branches(state, outcome, met) {
-            self.count((group, name));
+            self.count(owned((group, name)));
         }
     }
 
@@ -116,7 +129,10 @@ impl Counts {
     pub fn all(&self) -> Vec<(Name, usize)> {
         let names = self.names().into_iter();
         names
-            .map(|name| (name, self.met.get(&name).copied().unwrap_or(0)))
+            .map(|name| {
+                let count = self.met.get(&name).copied().unwrap_or(0);
+                (name, count)
+            })
             .collect()
     }
 
@@ -126,11 +142,13 @@ impl Counts {
             false => STEPS,
         };
         let branches = groups.iter().flat_map(|(_, branches)| branches.iter());
-        let mut names: Vec<Name> = branches.map(|(branch, _)| branch.name()).collect();
+        let mut names: Vec<Name> = branches.map(|(branch, _)| owned(branch.name())).collect();
+        let group = FIELDS[usize::from(self.damages)];
+        names.extend(fields::names().into_iter().map(|name| (group, name)));
         for structure in MAP..=QUEUE {
             let group = self.peaks_of(structure);
             let peaks = self.peak_names(structure);
-            names.extend(peaks.into_iter().map(|name| (group, name)));
+            names.extend(peaks.into_iter().map(|name| owned((group, name))));
         }
         names
     }
@@ -147,6 +165,10 @@ impl Counts {
     }
 }
 
+fn owned((group, name): (&'static str, &str)) -> Name {
+    (group, name.to_string())
+}
+
 /// What a call's peak is a case of.
 fn peak_branches(state: &State, outcome: Outcome, met: &Met) -> Vec<&'static str> {
     let fetches = fetch_rounds(state.structure, state.size);
@@ -154,6 +176,10 @@ fn peak_branches(state: &State, outcome: Outcome, met: &Met) -> Vec<&'static str
     match (outcome.answer, outcome.peak) {
         (Answer::Refused(CLOSED), 0) => vec![AFTER_CLOSING],
         (Answer::Refused(FOREIGN_KIND), 0) => vec![FOREIGN],
+        (Answer::Refused(STRAY_FIELD), 0) => match state.count {
+            0 => vec![STRAY],
+            _ => vec![STRAY_WAITING],
+        },
         (Answer::Refused(DAMAGE), 0) if outcome.leaves == 1 => match met.waiting {
             0 => vec![DAMAGE_AT_ONCE],
             _ => vec![DAMAGE_AT_ONCE_WAITING],

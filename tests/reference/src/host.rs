@@ -35,13 +35,7 @@ pub fn open<S: Store>(structure: u64, size: u64, state: &mut [u8], tree: &mut [u
 
 /// Makes a call: 0 with an answer, or the number of the refusal.
 pub fn call<S: Store>(lent: &mut Lent) -> u8 {
-    outcome::<S>(lent).map_or_else(
-        |cause| cause,
-        |outcome| match outcome.answer {
-            Answer::Refused(cause) => cause,
-            _ => 0,
-        },
-    )
+    outcome::<S>(lent).map_or_else(|cause| cause, |outcome| outcome.cause())
 }
 
 /// A call's outcome, or the number of a refusal that stands before it.

@@ -1,6 +1,7 @@
 //! Random inputs of the walk program, each from a seed of its own. Seeds in a
 //! row go through every structure, size and plan.
 
+use crate::fields;
 use crate::paper::*;
 use crate::random::Random;
 
@@ -286,8 +287,7 @@ impl Input {
                     .random
                     .pick(&[0, 1, 2, 3, 4, 5, 6, 7, 8, 9, 10, 255, any]);
                 if !kind_fits(structure, kind) {
-                    let (key, value) = (self.key(), self.value());
-                    self.call(kind, key, value);
+                    self.foreign_call(kind);
                     continue;
                 }
             }
@@ -305,9 +305,9 @@ impl Input {
         for _ in 0..self.random.below(12) {
             self.any_call();
         }
-        let start = self.bytes.len();
         self.any_call();
-        let length = self.bytes.len() - start;
+        let length = TICKET_BYTES + 2 * tape_length(self.structure, self.size);
+        let start = self.bytes.len() - length;
         let in_tape = TICKET_BYTES + 1 + self.random.index(length - TICKET_BYTES - 1);
         let in_ticket = 1 + self.random.index(TICKET_BYTES - 1);
         let left = self
@@ -356,11 +356,27 @@ impl Input {
         self.call(kind, key, value);
     }
 
-    /// Fields that the kind does not use are filled too.
+    /// A call of the structure's own, with no stray field. One with one, which is
+    /// refused, may come before.
     fn call(&mut self, kind: u8, key: u32, value: u64) {
+        if self.random.one_in(fields::STRAY) {
+            let stray = fields::stray_of(&mut self.random, self.structure);
+            self.write(stray);
+        }
+        self.write(fields::clean(kind, key, value));
+    }
+
+    /// A foreign kind, with figures in fields that it does not use or not.
+    fn foreign_call(&mut self, kind: u8) {
+        let ticket = Ticket::new(kind, self.key(), self.value());
+        let none = Ticket::new(kind, 0, 0);
+        let ticket = self.random.pick(&[ticket, ticket, ticket.cleaned(), none]);
+        self.write(ticket);
+    }
+
+    fn write(&mut self, ticket: Ticket) {
         let tape = self.tape_numbers();
-        let bytes = call_bytes(Ticket::new(kind, key, value), &tape);
-        self.bytes.extend(bytes);
+        self.bytes.extend(call_bytes(ticket, &tape));
     }
 
     fn tape_numbers(&mut self) -> Vec<u16> {

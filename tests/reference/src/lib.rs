@@ -7,16 +7,22 @@
 //! - `walk`, `readout`, `listing`: what the programs print.
 //! - `inputs`, `damaged`, `random`: random inputs of the walk program and of
 //!   `damaged_calls`, from seeds.
+//! - `fields`: tickets with figures where none belong, and what tickets met.
 //! - `counts`: what the calls of random inputs met.
+//! - `copy`, `copies`: the copying program, and random files of tickets from
+//!   seeds.
 //! - `record`, `stores`: closed stores as bytes, and random ones from seeds.
 //! - `host`: the store over byte buffers, as a C host calls it.
 //! - `lent`: random calls of a C host with their buffers, from seeds.
 //! - `checksum`: what the benchmark compares, and `paths` prints.
 
 pub mod checksum;
+pub mod copies;
+pub mod copy;
 pub mod counts;
 pub mod damaged;
 pub mod fast;
+pub mod fields;
 pub mod host;
 pub mod inputs;
 pub mod lent;

@@ -18,6 +18,36 @@ pub const TAKE: u8 = 7;
 pub const IN: u8 = 8;
 pub const OUT: u8 = 9;
 
+/// Which fields of a ticket a kind uses. The others must be zero.
+#[derive(Clone, Copy, Debug, PartialEq, Eq)]
+pub struct Uses {
+    pub key: bool,
+    pub value: bool,
+}
+
+const fn using(key: bool, value: bool) -> Uses {
+    Uses { key, value }
+}
+
+/// The kinds from 1 on: their names, and whether they use the key and the value.
+pub const KINDS: [(&str, Uses); 9] = [
+    ("get", using(true, false)),
+    ("put", using(true, true)),
+    ("remove", using(true, false)),
+    ("push", using(false, true)),
+    ("pop", using(false, false)),
+    ("add", using(false, true)),
+    ("take", using(false, false)),
+    ("in", using(false, true)),
+    ("out", using(false, false)),
+];
+
+/// What a kind uses, if there is such a kind.
+pub fn uses(kind: u8) -> Option<Uses> {
+    let at = usize::from(kind).checked_sub(1)?;
+    KINDS.get(at).map(|(_, uses)| *uses)
+}
+
 pub const TICKET_BYTES: usize = 13;
 pub const SLOT_BYTES: usize = 32;
 pub const BUCKET_SLOTS: usize = 4;
@@ -50,6 +80,8 @@ pub const KEYS_USED_UP: u8 = 17;
 /// Of a C host: a state or result buffer of another length, or a tape or trace
 /// of an odd one.
 pub const BUFFER_LENGTH: u8 = 18;
+/// A field of the ticket that its kind does not use is not zero.
+pub const STRAY_FIELD: u8 = 19;
 
 /// A read-out's reasons to leave a node or slot out.
 pub const BAD: u8 = 1;
@@ -104,6 +136,23 @@ pub struct Ticket {
 impl Ticket {
     pub fn new(kind: u8, key: u32, value: u64) -> Ticket {
         Ticket { kind, key, value }
+    }
+
+    /// The same with zeros in the fields that its kind does not use; one of an
+    /// unknown kind as it is.
+    pub fn cleaned(self) -> Ticket {
+        let Some(uses) = uses(self.kind) else {
+            return self;
+        };
+        Ticket {
+            kind: self.kind,
+            key: if uses.key { self.key } else { 0 },
+            value: if uses.value { self.value } else { 0 },
+        }
+    }
+
+    pub fn is_clean(self) -> bool {
+        self == self.cleaned()
     }
 
     /// The ticket in 13 bytes.
@@ -203,6 +252,14 @@ impl Outcome {
             answer: Answer::Refused(cause),
             leaves: 0,
             peak: 0,
+        }
+    }
+
+    /// The number of a refusal, 0 with an answer.
+    pub fn cause(&self) -> u8 {
+        match self.answer {
+            Answer::Refused(cause) => cause,
+            _ => 0,
         }
     }
 }

@@ -4,6 +4,7 @@
 mod common;
 
 use common::*;
+use reference::fields;
 use reference::listing;
 use reference::paper::*;
 use reference::plain::{path, read_slot, write_slot, Node, Reading, Side, State};
@@ -597,7 +598,7 @@ fn crowded_stores() {
     }
 }
 
-/// Foreign kinds and wrong lengths among good calls.
+/// Foreign kinds, stray fields and wrong lengths among good calls.
 #[test]
 fn odd_calls() {
     let mut random = seeded(24);
@@ -607,10 +608,14 @@ fn odd_calls() {
             let mut pair = Pair::open(structure, size);
             let rounds = fetch_rounds(structure, size);
             for _ in 0..300 {
-                let mut ticket = random_ticket(&mut random, structure, size);
-                if random.one_in(5) {
-                    ticket.kind = random.next() as u8 % 12;
-                }
+                let ticket = match random.below(5) {
+                    0 => {
+                        let kind = random.next() as u8 % 12;
+                        fields::any(&mut random, kind)
+                    }
+                    1 => fields::stray_of(&mut random, structure),
+                    _ => random_ticket(&mut random, structure, size),
+                };
                 let ticket = ticket.bytes();
                 let ticket = &ticket[..if random.one_in(8) {
                     random.index(13)
@@ -628,7 +633,13 @@ fn odd_calls() {
         }
         tally.assert_met(
             structure,
-            &["refused 4", "refused 5", "refused 6", "refused 7"],
+            &[
+                "refused 4",
+                "refused 5",
+                "refused 6",
+                "refused 7",
+                "refused 19",
+            ],
         );
     }
 }

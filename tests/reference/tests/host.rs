@@ -4,6 +4,7 @@
 mod common;
 
 use common::*;
+use reference::fields;
 use reference::host::{read_state, state_bytes};
 use reference::lent::{records, Buffers, Opening, ReadOut, Record, Told};
 use reference::paper::*;
@@ -404,6 +405,9 @@ fn each_refusal_alone() {
     refused(|lent| lent.ticket.clear(), 4);
     refused(|lent| lent.ticket[0] = 3, 5);
     refused(|lent| lent.ticket[0] = 6, 5);
+    refused(|lent| lent.ticket[1] = 1, 19);
+    refused(|lent| lent.ticket[4] = 255, 19);
+    refused(|lent| lent.ticket[0] = POP, 19);
     refused(|lent| lent.tape.truncate(4), 6);
     refused(|lent| lent.tape.clear(), 6);
     refused(|lent| lent.trace.truncate(2), 7);
@@ -470,14 +474,14 @@ fn waiting_places() {
 }
 
 /// Each two causes at once: the one that is checked first is returned. The
-/// kind 8 of a queue without keys is not foreign.
+/// kind 8 of a queue without keys is not foreign, and has no key.
 #[test]
 fn order_of_two_causes() {
     let mut good = queue(0, 0, 5, queue_in(7));
     assert_eq!(call(&mut good.clone()), 0);
     good.trace.fill(ANY);
     type Change = fn(&mut Buffers);
-    let causes: [(u8, Change); 13] = [
+    let causes: [(u8, Change); 15] = [
         (18, |lent| lent.state.push(0)),
         (18, |lent| lent.result.push(0)),
         (18, |lent| lent.tape.push(0)),
@@ -488,6 +492,8 @@ fn order_of_two_causes() {
         (4, |lent| lent.ticket.push(0)),
         (4, |lent| lent.ticket.truncate(12)),
         (5, |lent| lent.ticket[0] = 4),
+        (19, |lent| lent.ticket[1] = 1),
+        (19, |lent| lent.ticket[4] = 128),
         (17, |lent| lent.state[8..12].fill(255)),
         (6, |lent| lent.tape.truncate(lent.tape.len() - 2)),
         (7, |lent| lent.trace.truncate(lent.trace.len() - 2)),
@@ -621,16 +627,15 @@ fn grown_stores() {
         let mut lent = fresh(structure, size, get(0), &[]);
         let tape = [Tape::Uniform, Tape::Few(2), Tape::Zero][random.index(3)];
         for _ in 0..random.below(150) {
-            let ticket = random_ticket(&mut random, structure, size);
+            let ticket = match random.one_in(fields::STRAY) {
+                true => fields::stray_of(&mut random, structure),
+                false => random_ticket(&mut random, structure, size),
+            };
             let numbers = tape.numbers(&mut random, tape_length(structure, size));
             again(&mut lent, ticket, &numbers);
             let number = call(&mut lent);
             let (outcome, trace) = pair.call(ticket, &numbers);
-            let expected = match outcome.answer {
-                Answer::Refused(cause) => cause,
-                _ => 0,
-            };
-            assert_eq!(number, expected);
+            assert_eq!(number, outcome.cause());
             let read = read_state(&lent.state).expect("a state as it was written");
             assert_eq!(
                 listing::state_lines(&read),

@@ -50,6 +50,7 @@ fn every_line_is_reached() {
         "refused 10",
         "refused 11",
         "refused 12",
+        "refused 19",
         "refused 5",
         "refused 9",
         "removed",

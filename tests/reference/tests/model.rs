@@ -4,6 +4,7 @@
 mod common;
 
 use common::*;
+use reference::fields;
 use reference::origin::{Machine, Origin};
 use reference::paper::*;
 use std::collections::{BTreeMap, VecDeque};
@@ -112,12 +113,18 @@ fn run(random: &mut Random, structure: u8, size: u8, tape: Tape, calls: usize) -
     let mut tapes = vec![];
     let filling = 1 + random.below(4) as usize;
     for number in 0..calls {
-        let mut ticket = random_ticket(random, structure, size);
-        if number % (calls / filling + 1) < calls / 8 {
-            ticket.kind = adding_kind(structure);
-        }
+        let ticket = match number % (calls / filling + 1) < calls / 8 {
+            true => adding_ticket(random, structure, size),
+            false => random_ticket(random, structure, size),
+        };
         let length = tape_length(structure, size) + random.index(2);
         tapes.push(tape.numbers(random, length));
+        if random.one_in(fields::STRAY) {
+            // Neither the model nor the machine hears of it: it does not count.
+            let stray = fields::stray_of(random, structure);
+            let refused = Outcome::refused(STRAY_FIELD);
+            assert_eq!(pair.call(stray, &tapes[number]), (refused, vec![]));
+        }
         let (outcome, trace) = pair.call(ticket, &tapes[number]);
         let leaves = named_leaves(&machine.feed(ticket), &tapes, size);
         assert_eq!(trace, leaves[..trace.len()]);

@@ -126,6 +126,8 @@ fn refusals() {
     let ticket = push(5).bytes();
     assert_eq!(refused(whole.clone(), &ticket[..12], 3, 2), 4);
     assert_eq!(refused(whole.clone(), &get(5).bytes(), 3, 2), 5);
+    let stray = Ticket::new(POP, 1, 0).bytes();
+    assert_eq!(refused(whole.clone(), &stray, 3, 2), 19);
     assert_eq!(refused(whole.clone(), &ticket, 2, 2), 6);
     assert_eq!(refused(whole.clone(), &ticket, 3, 1), 7);
     let edits: [fn(&mut State, &mut Vec<u8>); 3] = [

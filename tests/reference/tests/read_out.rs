@@ -479,10 +479,10 @@ fn overflow(
     let spare = fetch_rounds(structure, size)..first_put_draw(structure, size);
     let other_tags = random.one_in(2);
     for _ in 0..3 * leaf_count(size) {
-        let mut ticket = random_ticket(random, structure, size);
-        if random.one_in(2) {
-            ticket.kind = adding_kind(structure);
-        }
+        let ticket = match random.one_in(2) {
+            true => adding_ticket(random, structure, size),
+            false => random_ticket(random, structure, size),
+        };
         let mut tape = Tape::Few(1).numbers(random, tape_length(structure, size));
         if other_tags {
             tape[spare.clone()].fill_with(|| random.next() as u16);

@@ -1,8 +1,9 @@
-//! The causes 1 to 7 and 17: each alone, and the order of check.
+//! The causes 1 to 7, 17 and 19: each alone, and the order of check.
 
 mod common;
 
 use common::*;
+use reference::fields;
 use reference::paper::*;
 use reference::plain::{write_slot, Node, State};
 
@@ -243,7 +244,7 @@ fn sixty_four_may_wait() {
 }
 
 /// The order of check.
-const ORDER: [u8; 8] = [1, 2, 3, 4, 5, 17, 6, 7];
+const ORDER: [u8; 9] = [1, 2, 3, 4, 5, 19, 17, 6, 7];
 
 /// Any of the causes at once: the first in order is returned.
 #[test]
@@ -302,7 +303,7 @@ fn faulty_store(random: &mut Random, structure: u8, size: u8, causes: &[u8]) -> 
     pair
 }
 
-/// A ticket for the causes 4, 5 and 17.
+/// A ticket for the causes 4, 5, 19 and 17. A foreign kind has figures or not.
 fn faulty_ticket(random: &mut Random, structure: u8, causes: &[u8]) -> Vec<u8> {
     let kinds = [0, 1, 2, 3, 4, 5, 6, 7, 8, 9, 10, 255].into_iter();
     let foreign = causes.contains(&5);
@@ -313,7 +314,14 @@ fn faulty_ticket(random: &mut Random, structure: u8, causes: &[u8]) -> Vec<u8> {
         true => IN,
         false => random.pick(&kinds),
     };
-    let mut ticket = Ticket::new(kind, 7, 8).bytes().to_vec();
+    let clean = Ticket::new(kind, 7, 8).cleaned();
+    let ticket = match (causes.contains(&19), kind) {
+        (false, _) => clean,
+        (true, PUT) if !foreign => fields::stray_of(random, structure),
+        (true, GET..=OUT) if kind != PUT => fields::stray(random, kind),
+        (true, _) => fields::any(random, kind),
+    };
+    let mut ticket = ticket.bytes().to_vec();
     if causes.contains(&4) {
         ticket.resize(random.pick(&[0, 1, 12, 14, 30]), 0);
     }

@@ -6,13 +6,13 @@ use borrow.Author.Tests.{eqb-true, eqb-false, not-true, not-false}
 use Rattle.slot_spec.specs.Tree.{treeLength}
 use Rattle.operation_spec.specs.declared.Op.{Op}
 use Rattle.operation_spec.specs.Method.{toOp}
-use Rattle.state_spec.specs.Ticket.{outOfKeys}
+use Rattle.state_spec.specs.Ticket.{outOfKeys, strayFields}
 use Rattle.state_spec.specs.Fetching.{roundsOf, spareOf}
 use Rattle.tickets.specs.declared.Asked.the-variants.{Call}
 use Rattle.tickets.specs.Asked.{asked}
 use Rattle.state_spec.specs.declared.State.{State}
 use Rattle.call_core.specs.Run.{StandsFor}
-use Rattle.call_core.specs.CallLaws.{Checked, bytes-of, head-sizes, head-rounds, head-spare, gives-3, gives-4, gives-5, gives-17, gives-6, gives-7, all-checked, head-runs, head-left, core-refuses}
+use Rattle.call_core.specs.CallLaws.{Checked, bytes-of, head-sizes, head-rounds, head-spare, gives-3, gives-4, gives-5, gives-19, gives-17, gives-6, gives-7, all-checked, head-runs, head-left, core-refuses}
 use borrow.Author.Needs.{needs}
 use native.Mathlib.Omega.{arith}
 use Rattle.call_core.proofs.call_words.Statement.{statement}
@@ -25,6 +25,7 @@ use Rattle.call_core.proofs.run.run.Reads as run-reads
 use Rattle.tree_paths.proofs.tree_length.Reads as tree-length-reads
 use Rattle.call_draws.proofs.draws_of.Reads as draws-of-reads
 use Rattle.call_draws.proofs.rounds_of.Reads as rounds-of-reads
+use Rattle.unused_fields.proofs.has_stray.Reads as has-stray-reads
 use Rattle.tickets.proofs.is_whole.Reads as is-whole-reads
 use Rattle.tickets.proofs.out_of_keys.Reads as out-of-keys-reads
 use Rattle.tickets.proofs.read_ticket.Reads as read-ticket-reads
@@ -38,19 +39,22 @@ whole c =
 -- ---- once it is known what the ticket asks
 module _ (c : tie.After-draws-of) where
   abbrev start : tie.Start
-  start = c .before .before .before .before .before .before .before .before .before .before .before .before .before .before .before .before
+  start = c .before .before .before .before .before .before .before .before .before .before .before .before .before .before .before .before .before
 
   abbrev op : Op
-  op = c .before .before .before .before .asked .given .0 .0
+  op = c .before .before .before .before .before .asked .given .0 .0
 
   sized : length (start .args .tree .now) ≡ treeLength (start .args .head .size)
-  sized = omega (arith, c .before .before .before .before .before .before .before .before .before .if1 .left, c .before .before .before .before .before .before .before .before .before .before .tree-length .ensures)
+  sized = omega (arith, c .before .before .before .before .before .before .before .before .before .before .if1 .left, c .before .before .before .before .before .before .before .before .before .before .before .tree-length .ensures)
 
   whole-ticket : length (start .args .ticket .now) ≡ 13
-  whole-ticket = whole (c .before .before .before .before .before .before .before)
+  whole-ticket = whole (c .before .before .before .before .before .before .before .before)
 
   asks : asked (start .args .head .structure) (start .args .ticket .now) ≡ Call op
-  asks = sym (c .before .before .before .before .before .before .read-ticket .ensures) ∙ c .before .before .before .before .asked .given .1
+  asks = sym (c .before .before .before .before .before .before .before .read-ticket .ensures) ∙ c .before .before .before .before .before .asked .given .1
+
+  strays-are : c .before .before .before .has-stray .result ≡ strayFields (start .args .ticket .now)
+  strays-are = c .before .before .before .has-stray .ensures
 
   keys-are : c .before .out-of-keys .result ≡ outOfKeys (toOp op) (start .args .head .ahead .key)
   keys-are = c .before .out-of-keys .ensures
@@ -106,11 +110,14 @@ returns-3 c =
     core-refuses (s .pre) 5 (c .refused3 .ensures)
     (λ x st. gives-5 st (a .tree .now) (a .ticket .now) (a .tape .now) (a .trace .now) (omega (arith, c .before .before .before .before .before .before .if1 .left, c .before .before .before .before .before .before .before .tree-length .ensures)) (whole (c .before .before .before .before)) (sym (c .before .before .before .read-ticket .ensures) ∙ c .before .enum-told .given .1))
 
+has-stray-requires : tie.Need-has-stray-requires
+has-stray-requires c κs = whole (c .before .before .before .before)
+
 out-of-keys-requires : tie.Need-out-of-keys-requires
 out-of-keys-requires c κs = search needs
 
 draws-of-requires : tie.Need-draws-of-requires
-draws-of-requires c κs = head-sizes (c .before .before .before .before .before .before .before .before .before .before .before .before .before .before .before .pre .for)
+draws-of-requires c κs = head-sizes (c .before .before .before .before .before .before .before .before .before .before .before .before .before .before .before .before .pre .for)
 
 refused-requires-4 : tie.Need-refused-requires-4
 refused-requires-4 c κs = search needs
@@ -119,56 +126,76 @@ returns-4 : tie.Need-returns-4
 returns-4 c =
     let d = c .before .before in
     let a = start d .args in
-    core-refuses (start d .pre) 17 (c .refused4 .ensures)
-    (λ x st. gives-17 st (a .tree .now) (a .ticket .now) (a .tape .now) (a .trace .now) (sized d) (whole-ticket d) (op d) (asks d) (sym (keys-are d) ∙ c .before .if3 .taken))
+    core-refuses (start d .pre) 19 (c .refused4 .ensures)
+    (λ x st. gives-19 st (a .tree .now) (a .ticket .now) (a .tape .now) (a .trace .now) (sized d) (whole-ticket d) (op d) (asks d) (sym (strays-are d) ∙ c .before .if3 .taken))
 
--- There is a key.
-has-key : (c : tie.Else3) → outOfKeys (toOp (op (c .before))) (start (c .before) .args .head .ahead .key) ≡ false
-has-key c = sym (keys-are (c .before)) ∙ c .if3 .left
-
--- ---- where all checks were passed
-module _ (c : tie.Else5) where
-  abbrev told : tie.After-draws-of
-  told = c .before .before .before .before
-
-  ok : (s : State) → StandsFor s (start told .args .head) (start told .args .w .now)
-      → Checked s (op told) (c .before .rounds-of .result) (start told .args .tree .now) (start told .args .ticket .now) (start told .args .tape .now) (start told .args .trace .now)
-  ok s st =
-      let a = start told .args in
-      let widths = told .before .before .before .before .before .before .before .before .before .before .before .struct-known .given .1 .1 .1 in
-      let rounds = c .before .rounds-of in
-      all-checked st (a .tree .now) (a .ticket .now) (a .tape .now) (a .trace .now) (sized told) (whole-ticket told) (op told) (asks told) (has-key (c .before .before .before)) (rounds .result) (rounds .ensures .0)
-      (omega (arith, c .before .before .if4 .left, draws-are told, rounds .ensures .0)) (omega (arith, c .if5 .left))
-      (bytes-of (a .tree .now) (λ i. omega (arith, told .before .before .before .before .before .before .before .before .before .before .before .before .before .before .before .slice-known .given i))) (bytes-of (a .ticket .now) (λ i. omega (arith, told .before .before .before .before .before .before .before .before .before .before .before .before .before .before .shared-slice-known .given i)))
-      (omega (arith, widths .0), (omega (arith, widths .0), omega (arith, widths .0))) (omega (arith, widths .1 .0), omega (arith, widths .1 .0))
+-- No unused field is in the way.
+clean : (c : tie.Else3) → strayFields (start (c .before) .args .ticket .now) ≡ false
+clean c = sym (strays-are (c .before)) ∙ c .if3 .left
 
 refused-requires-5 : tie.Need-refused-requires-5
 refused-requires-5 c κs = search needs
 
 returns-5 : tie.Need-returns-5
 returns-5 c =
-    let d = c .before .before .before in
+    let f = c .before .before in
+    let d = f .before in
     let a = start d .args in
-    core-refuses (start d .pre) 6 (c .refused5 .ensures)
-    (λ x st. gives-6 st (a .tree .now) (a .ticket .now) (a .tape .now) (a .trace .now) (sized d) (whole-ticket d) (op d) (asks d) (has-key (c .before .before)) _ refl (omega (arith, c .before .if4 .taken, draws-are d)))
+    core-refuses (start d .pre) 17 (c .refused5 .ensures)
+    (λ x st. gives-17 st (a .tree .now) (a .ticket .now) (a .tape .now) (a .trace .now) (sized d) (whole-ticket d) (op d) (asks d) (clean f) (sym (keys-are d) ∙ c .before .if4 .taken))
 
-rounds-of-requires : tie.Need-rounds-of-requires
-rounds-of-requires c κs = head-sizes (start (c .before .before) .pre .for)
+-- There is a key.
+has-key : (c : tie.Else4) → outOfKeys (toOp (op (c .before .before))) (start (c .before .before) .args .head .ahead .key) ≡ false
+has-key c = sym (keys-are (c .before .before)) ∙ c .if4 .left
 
-mul-if5 : tie.Need-mul-if5
-mul-if5 c = search needs
+-- ---- where all checks were passed
+module _ (c : tie.Else6) where
+  abbrev keyed : tie.Else4
+  keyed = c .before .before .before
+
+  abbrev told : tie.After-draws-of
+  told = keyed .before .before
+
+  ok : (s : State) → StandsFor s (start told .args .head) (start told .args .w .now)
+      → Checked s (op told) (c .before .rounds-of .result) (start told .args .tree .now) (start told .args .ticket .now) (start told .args .tape .now) (start told .args .trace .now)
+  ok s st =
+      let a = start told .args in
+      let widths = told .before .before .before .before .before .before .before .before .before .before .before .before .struct-known .given .1 .1 .1 in
+      let rounds = c .before .rounds-of in
+      all-checked st (a .tree .now) (a .ticket .now) (a .tape .now) (a .trace .now) (sized told) (whole-ticket told) (op told) (asks told) (clean (keyed .before)) (has-key keyed) (rounds .result) (rounds .ensures .0)
+      (omega (arith, c .before .before .if5 .left, draws-are told, rounds .ensures .0)) (omega (arith, c .if6 .left))
+      (bytes-of (a .tree .now) (λ i. omega (arith, told .before .before .before .before .before .before .before .before .before .before .before .before .before .before .before .before .slice-known .given i))) (bytes-of (a .ticket .now) (λ i. omega (arith, told .before .before .before .before .before .before .before .before .before .before .before .before .before .before .before .shared-slice-known .given i)))
+      (omega (arith, widths .0), (omega (arith, widths .0), omega (arith, widths .0))) (omega (arith, widths .1 .0), omega (arith, widths .1 .0))
 
 refused-requires-6 : tie.Need-refused-requires-6
 refused-requires-6 c κs = search needs
 
 returns-6 : tie.Need-returns-6
 returns-6 c =
-    let d = c .before .before .before .before .before in
+    let k = c .before .before in
+    let d = k .before .before in
+    let a = start d .args in
+    core-refuses (start d .pre) 6 (c .refused6 .ensures)
+    (λ x st. gives-6 st (a .tree .now) (a .ticket .now) (a .tape .now) (a .trace .now) (sized d) (whole-ticket d) (op d) (asks d) (clean (k .before)) (has-key k) _ refl (omega (arith, c .before .if5 .taken, draws-are d)))
+
+rounds-of-requires : tie.Need-rounds-of-requires
+rounds-of-requires c κs = head-sizes (start (c .before .before .before) .pre .for)
+
+mul-if6 : tie.Need-mul-if6
+mul-if6 c = search needs
+
+refused-requires-7 : tie.Need-refused-requires-7
+refused-requires-7 c κs = search needs
+
+returns-7 : tie.Need-returns-7
+returns-7 c =
+    let k = c .before .before .before .before in
+    let d = k .before .before in
     let a = start d .args in
     let rounds = c .before .before .rounds-of in
-    core-refuses (start d .pre) 7 (c .refused6 .ensures)
-    (λ x st. gives-7 st (a .tree .now) (a .ticket .now) (a .tape .now) (a .trace .now) (sized d) (whole-ticket d) (op d) (asks d) (has-key (c .before .before .before .before)) (rounds .result) (rounds .ensures .0)
-    (omega (arith, c .before .before .before .if4 .left, draws-are d, rounds .ensures .0)) (omega (arith, c .before .if5 .taken)))
+    core-refuses (start d .pre) 7 (c .refused7 .ensures)
+    (λ x st. gives-7 st (a .tree .now) (a .ticket .now) (a .tape .now) (a .trace .now) (sized d) (whole-ticket d) (op d) (asks d) (clean (k .before)) (has-key k) (rounds .result) (rounds .ensures .0)
+    (omega (arith, c .before .before .before .if5 .left, draws-are d, rounds .ensures .0)) (omega (arith, c .before .if6 .taken)))
 
 job-for-requires : tie.Need-job-for-requires
 job-for-requires c κs =
@@ -192,8 +219,8 @@ same-length c = search needs
 same-length-2 : tie.Need-same-length-2
 same-length-2 c = search needs
 
-returns-7 : tie.Need-returns-7
-returns-7 c =
+returns-8 : tie.Need-returns-8
+returns-8 c =
     let k = c .before .before .before .before .before .before .before .before .before .before .before in
     let r = c .before .before .before .before .run in
     record {
@@ -217,19 +244,22 @@ call-words-spec =
     enum-told
     refused-requires-3
     returns-3
+    has-stray-requires
     out-of-keys-requires
     draws-of-requires
     refused-requires-4
     returns-4
     refused-requires-5
     returns-5
-    rounds-of-requires
-    mul-if5
     refused-requires-6
     returns-6
+    rounds-of-requires
+    mul-if6
+    refused-requires-7
+    returns-7
     job-for-requires
     cast-run
     run-requires
     same-length
     same-length-2
-    returns-7)
+    returns-8)

@@ -85,5 +85,5 @@ fn any_call(random: &mut Random, structure: u8, size: u8, entries: u32) -> Ticke
         _ => TAKE,
     };
     let key = random.below(room * 3 / 2 + 1) as u32;
-    Ticket::new(kind, key, random.next())
+    Ticket::new(kind, key, random.next()).cleaned()
 }

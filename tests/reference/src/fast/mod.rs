@@ -51,7 +51,7 @@ pub fn call(
     }
 }
 
-/// The causes 1 to 5, 17, 6 and 7, in order.
+/// The causes 1 to 5, 19, 17, 6 and 7, in order.
 fn check(state: &State, tree: usize, ticket: &[u8], tape: usize, trace: usize) -> Result<(), u8> {
     let unless = |holds: bool, cause: u8| if holds { Ok(()) } else { Err(cause) };
     unless(state.mark == 0, CLOSED)?;
@@ -59,6 +59,7 @@ fn check(state: &State, tree: usize, ticket: &[u8], tape: usize, trace: usize) -
     unless(tree == tree_bytes(state.size), TREE_LENGTH)?;
     unless(ticket.len() == TICKET_BYTES, TICKET_LENGTH)?;
     unless(kind_fits(state.structure, ticket[0]), FOREIGN_KIND)?;
+    unless(!has_stray_field(Ticket::read(ticket)), STRAY_FIELD)?;
     let keys_used_up = ticket[0] == IN && state.ahead.key == u32::MAX;
     unless(!keys_used_up, KEYS_USED_UP)?;
     let rounds = fetch_rounds(state.structure, state.size);
@@ -67,6 +68,11 @@ fn check(state: &State, tree: usize, ticket: &[u8], tape: usize, trace: usize) -
         TAPE_SHORT,
     )?;
     unless(trace >= 2 * rounds, TRACE_SHORT)
+}
+
+fn has_stray_field(ticket: Ticket) -> bool {
+    let stray = |uses: Uses| !uses.key && ticket.key != 0 || !uses.value && ticket.value != 0;
+    uses(ticket.kind).is_some_and(stray)
 }
 
 impl Store for State {

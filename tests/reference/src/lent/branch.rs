@@ -4,6 +4,7 @@
 use super::names::*;
 use super::record::{Buffers, Opening, ReadOut, Record, Told};
 use super::{at, cause, get};
+use crate::fields;
 use crate::host::{read_state, RESULT_BYTES, STATE_BYTES};
 use crate::paper::*;
 use crate::plain::call_and_met;
@@ -116,6 +117,10 @@ fn of_lengths(structure: u64, size: u64) -> Vec<Name> {
 fn of_call(lent: &Buffers, number: u8, left: &Buffers) -> Vec<Name> {
     let causes = cause::of_call(lent);
     let mut met = of_causes([CALL_NUMBERS, CALL_PAIRS], number, &causes);
+    if number != 18 {
+        let words = fields::met(lent.state[at::STRUCTURE], &lent.ticket, number);
+        met.extend(words.into_iter().map(|words| (FIELDS, words)));
+    }
     if let Some(first) = causes.first() {
         assert!(number == *first && lent == left);
         met.push((RESULTS, "kept".to_string()));
@@ -149,6 +154,7 @@ fn call_words(lent: &Buffers, number: u8) -> String {
             GET..=OUT => "kind of another structure".to_string(),
             kind => format!("kind {kind}"),
         },
+        19 => stray_words(&lent.ticket),
         17 => match get(state, at::ENTRIES, 2) {
             0 => "keys used up, queue empty".to_string(),
             _ => "keys used up, queue with entries".to_string(),
@@ -156,6 +162,17 @@ fn call_words(lent: &Buffers, number: u8) -> String {
         6 => short_words("tape", lent.tape.len() / 2, tape_numbers(state)),
         _ => short_words("trace", lent.trace.len() / 2, trace_places(state)),
     }
+}
+
+fn stray_words(ticket: &[u8]) -> String {
+    let ticket = Ticket::read(ticket);
+    let clean = ticket.cleaned();
+    match (ticket.key != clean.key, ticket.value != clean.value) {
+        (true, true) => "stray key and value",
+        (true, false) => "stray key",
+        _ => "stray value",
+    }
+    .to_string()
 }
 
 fn tape_numbers(state: &[u8]) -> usize {

@@ -62,10 +62,22 @@ pub fn of_call(lent: &Buffers) -> Vec<u8> {
         (3, size_known && !is_tree_of(u64::from(size), &lent.tree)),
         (4, lent.ticket.len() != TICKET_BYTES),
         (5, structure_is_known(structure) && foreign),
+        (19, !foreign && has_stray_byte(&lent.ticket)),
         (17, used_up && kind == Some(IN)),
         (6, lent.tape.len() / 2 < needed.0),
         (7, lent.trace.len() / 2 < needed.1),
     ])
+}
+
+/// Whether a byte of a field that the kind does not use is not zero, whatever
+/// the ticket's length.
+fn has_stray_byte(ticket: &[u8]) -> bool {
+    let Some(uses) = ticket.first().and_then(|kind| uses(*kind)) else {
+        return false;
+    };
+    let used = |at: usize| if at < 5 { uses.key } else { uses.value };
+    let fields = ticket.iter().enumerate().take(TICKET_BYTES).skip(1);
+    fields.into_iter().any(|(at, byte)| *byte != 0 && !used(at))
 }
 
 pub fn has_wrong_length(lent: &Buffers) -> bool {

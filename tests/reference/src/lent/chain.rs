@@ -3,6 +3,7 @@
 use super::record::{Buffers, Opening, ReadOut, Record};
 use super::{at, garbage, get};
 use crate::fast;
+use crate::fields;
 use crate::host::{number_bytes, STATE_BYTES};
 use crate::paper::*;
 use crate::random::Random;
@@ -81,7 +82,7 @@ impl Chain {
     pub fn add(&mut self, small: u64) {
         let kind = [PUT, PUSH, ADD, IN][usize::from(self.structure) - 1];
         let key = (small as u32).wrapping_mul(self.scatter);
-        let ticket = Ticket::new(kind, key, self.value());
+        let ticket = fields::clean(kind, key, self.value());
         let buffers = self.buffers_for(ticket);
         self.go_on(buffers);
     }
@@ -98,8 +99,14 @@ impl Chain {
         self.random.pick(&[0, 1, few, few, many])
     }
 
+    /// Some calls; one with a stray field may come before each.
     pub fn calls(&mut self, calls: u64) {
         for _ in 0..calls {
+            if self.random.one_in(fields::STRAY) {
+                let stray = fields::stray_of(&mut self.random, self.structure);
+                let buffers = self.buffers_for(stray);
+                self.call(buffers);
+            }
             let buffers = self.buffers();
             self.call(buffers);
         }
@@ -160,7 +167,7 @@ impl Chain {
         let small = self
             .random
             .below(u64::from(capacity(self.size)) * 5 / 4 + 2);
-        Ticket::new(kind, self.key(small), self.value())
+        fields::clean(kind, self.key(small), self.value())
     }
 
     fn key(&mut self, small: u64) -> u32 {

@@ -3,6 +3,7 @@
 use super::chain::Chain;
 use super::record::Buffers;
 use super::{at, get, set};
+use crate::fields;
 use crate::host::{read_state, state_bytes};
 use crate::paper::*;
 use crate::plain::{passes, path, read_slot, write_slot, Node, Reading};
@@ -185,7 +186,7 @@ pub fn before_a_twin(chain: &mut Chain) -> Buffers {
         _ => {}
     }
     wait(chain, vec![stray(key, last)]);
-    let mut buffers = chain.buffers_for(Ticket::new(kind, key, 7));
+    let mut buffers = chain.buffers_for(fields::clean(kind, key, 7));
     buffers.tape.fill(0);
     buffers
 }

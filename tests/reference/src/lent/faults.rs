@@ -4,12 +4,13 @@
 use super::chain::Chain;
 use super::record::Buffers;
 use super::{at, damage, garbage, get, set, unfit};
+use crate::fields;
 use crate::host::STATE_BYTES;
 use crate::paper::*;
 use crate::random::Random;
 
 /// In the order in which they can be made, so that one does not undo another.
-const CAUSES: [u8; 9] = [17, 2, 1, 3, 5, 4, 6, 7, 18];
+const CAUSES: [u8; 10] = [17, 19, 2, 1, 3, 5, 4, 6, 7, 18];
 
 /// A call with one, two or more causes at once.
 pub fn any(chain: &mut Chain) -> Buffers {
@@ -38,6 +39,7 @@ fn make(chain: &mut Chain, buffers: &mut Buffers, cause: u8) {
             buffers.ticket[0] = IN;
             damage::move_keys(&mut buffers.state, &mut buffers.tree, u32::MAX);
         }
+        19 => stray_field(random, structure, &mut buffers.ticket),
         2 => unfit::any(random, &mut buffers.state),
         1 => close(random, &mut buffers.state),
         3 => tree_length(random, size, &mut buffers.tree),
@@ -51,6 +53,15 @@ fn make(chain: &mut Chain, buffers: &mut Buffers, cause: u8) {
         ),
         _ => wrong_length(random, buffers),
     }
+}
+
+/// Of the same kind, if it has a field that it does not use.
+fn stray_field(random: &mut Random, structure: u8, ticket: &mut Vec<u8>) {
+    let stray = match ticket[0] {
+        PUT => fields::stray_of(random, structure),
+        kind => fields::stray(random, kind),
+    };
+    *ticket = stray.bytes().to_vec();
 }
 
 /// Any mark; the rest may be anything then.

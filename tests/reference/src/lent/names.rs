@@ -1,5 +1,6 @@
 //! The branches that the calls of a C host can meet, by group.
 
+use crate::fields;
 use crate::paper::*;
 use crate::plain::DAMAGE_FOUND;
 
@@ -10,6 +11,7 @@ pub const OPENING_CAUSES: &str = "openings from C refused for one cause";
 pub const CALL_NUMBERS: &str = "calls from C by number";
 pub const CALL_PAIRS: &str = "calls from C with two causes";
 pub const CALL_CAUSES: &str = "calls from C refused for one cause";
+pub const FIELDS: &str = "fields of tickets from C";
 pub const UNFIT: &str = "states from C unfit for one cause";
 pub const ANSWERS: &str = "answers to C";
 pub const ANSWERED: &str = "stores that answered C";
@@ -26,11 +28,11 @@ pub const LENGTHS: &str = "lengths told to C";
 
 /// The numbers in the order of check.
 const OF_OPENINGS: [u8; 4] = [18, 11, 12, 3];
-const OF_CALLS: [u8; 9] = [18, 1, 2, 3, 4, 5, 17, 6, 7];
+const OF_CALLS: [u8; 10] = [18, 1, 2, 3, 4, 5, 19, 17, 6, 7];
 const OF_READ_OUTS: [u8; 5] = [18, 14, 2, 3, 15];
 /// Two causes that no call can have at once: an unknown size has no tree, and
-/// a foreign kind uses up no keys.
-const NEVER: [&str; 2] = ["12 and 3", "5 and 17"];
+/// of a foreign kind neither fields nor keys are asked about.
+const NEVER: [&str; 3] = ["12 and 3", "5 and 19", "5 and 17"];
 
 /// Every branch, by group.
 pub fn all_branches() -> Vec<(&'static str, Vec<String>)> {
@@ -51,6 +53,7 @@ pub fn all_branches() -> Vec<(&'static str, Vec<String>)> {
             CALL_CAUSES,
             owned(&[&STATE_WORDS, &TREE_WORDS, &CALL_WORDS]),
         ),
+        (FIELDS, fields::names()),
         (UNFIT, [owned(&[&UNFIT_WORDS]), unfit_roots()].concat()),
         (
             ANSWERS,
@@ -215,7 +218,7 @@ const OPENING_WORDS: [&str; 13] = [
     "size 18446744073709551615",
 ];
 
-const CALL_WORDS: [&str; 24] = [
+const CALL_WORDS: [&str; 27] = [
     "no result",
     "result a byte short",
     "result a byte long",
@@ -234,6 +237,9 @@ const CALL_WORDS: [&str; 24] = [
     "kind 10",
     "kind 255",
     "kind of another structure",
+    "stray key",
+    "stray value",
+    "stray key and value",
     "no tape",
     "tape a number short",
     "no trace",

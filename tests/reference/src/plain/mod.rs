@@ -38,7 +38,27 @@ pub fn call_and_met(
     tape: &[u16],
     trace: &mut [u16],
 ) -> (Outcome, Met) {
-    if let Some(cause) = refusal(state, tree, ticket, tape, trace) {
+    call_by(Rule::Zero, state, tree, ticket, tape, trace)
+}
+
+/// What is asked of the fields that a ticket's kind does not use.
+#[derive(Clone, Copy, Debug, PartialEq, Eq)]
+pub enum Rule {
+    Zero,
+    /// They are ignored, as before 19 was asked about. Only for comparison.
+    Ignored,
+}
+
+/// A call by one of the rules, and what it met.
+pub fn call_by(
+    rule: Rule,
+    state: &mut State,
+    tree: &mut [u8],
+    ticket: &[u8],
+    tape: &[u16],
+    trace: &mut [u16],
+) -> (Outcome, Met) {
+    if let Some(cause) = refusal(rule, state, tree, ticket, tape, trace) {
         return (Outcome::refused(cause), Met::default());
     }
     let mut run = Run {
@@ -72,8 +92,15 @@ pub fn call_and_met(
     (outcome, run.met)
 }
 
-/// The first of the causes 1 to 5, 17, 6 and 7 that holds.
-fn refusal(state: &State, tree: &[u8], ticket: &[u8], tape: &[u16], trace: &[u16]) -> Option<u8> {
+/// The first of the causes 1 to 5, 19, 17, 6 and 7 that holds.
+fn refusal(
+    rule: Rule,
+    state: &State,
+    tree: &[u8],
+    ticket: &[u8],
+    tape: &[u16],
+    trace: &[u16],
+) -> Option<u8> {
     if state.mark != 0 {
         return Some(CLOSED);
     }
@@ -88,6 +115,9 @@ fn refusal(state: &State, tree: &[u8], ticket: &[u8], tape: &[u16], trace: &[u16
     }
     if !kind_fits(state.structure, ticket[0]) {
         return Some(FOREIGN_KIND);
+    }
+    if rule == Rule::Zero && !Ticket::read(ticket).is_clean() {
+        return Some(STRAY_FIELD);
     }
     if ticket[0] == IN && state.ahead.key == u32::MAX {
         return Some(KEYS_USED_UP);

@@ -3,6 +3,7 @@
 
 use super::{edit, Closed};
 use crate::fast;
+use crate::fields;
 use crate::paper::*;
 use crate::plain::{self, write_slot, Node, State};
 use crate::random::Random;
@@ -52,7 +53,8 @@ impl Calls<'_> {
             (_, false) => OUT,
         };
         let key = self.random.below(u64::from(capacity(size)) * 3 / 2 + 2) as u32;
-        let ticket = Ticket::new(kind, key, self.random.next() >> self.random.below(64));
+        let value = self.random.next() >> self.random.below(64);
+        let ticket = fields::clean(kind, key, value);
         let tape: Vec<u16> = (0..tape_length(structure, size))
             .map(|at| self.number(spare.contains(&at)))
             .collect();

@@ -136,7 +136,7 @@ impl Pair {
     ) {
         assert!(trace[outcome.leaves..] == before.2[outcome.leaves..]);
         match outcome.answer {
-            Answer::Refused(cause @ (1..=7 | 17)) => {
+            Answer::Refused(cause @ (1..=7 | 17 | 19)) => {
                 assert_eq!((outcome.leaves, outcome.peak), (0, 0), "{cause}");
                 assert!(
                     (&self.plain, &self.tree) == (&before.0, &before.1),
@@ -408,8 +408,7 @@ pub fn adding_kind(structure: u8) -> u8 {
     [PUT, PUSH, ADD, IN][usize::from(structure) - 1]
 }
 
-/// A random call of the structure; keys lie somewhat beyond the capacity, and
-/// half of the values are small, so that equal ones meet.
+/// A random call of the structure, with no stray field.
 pub fn random_ticket(random: &mut Random, structure: u8, size: u8) -> Ticket {
     let kind = match structure {
         MAP => [GET, PUT, PUT, PUT, REMOVE][random.index(5)],
@@ -417,11 +416,22 @@ pub fn random_ticket(random: &mut Random, structure: u8, size: u8) -> Ticket {
         HEAP => [ADD, ADD, ADD, TAKE, TAKE][random.index(5)],
         _ => [IN, IN, IN, OUT, OUT][random.index(5)],
     };
+    ticket_of(random, kind, size)
+}
+
+/// A random call that adds an entry.
+pub fn adding_ticket(random: &mut Random, structure: u8, size: u8) -> Ticket {
+    ticket_of(random, adding_kind(structure), size)
+}
+
+/// Keys lie somewhat beyond the capacity, and half of the values are small, so
+/// that equal ones meet.
+fn ticket_of(random: &mut Random, kind: u8, size: u8) -> Ticket {
     let spread = u64::from(capacity(size)) * 3 / 2 + 1;
     let key = match random.below(40) {
         0 => u32::MAX - random.below(2) as u32,
         _ => random.below(spread) as u32,
     };
     let bound = [8, u64::MAX][random.index(2)];
-    Ticket::new(kind, key, random.below(bound))
+    Ticket::new(kind, key, random.below(bound)).cleaned()
 }

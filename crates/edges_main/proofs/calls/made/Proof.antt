@@ -10,6 +10,21 @@ use Rattle.edges_main.proofs.calls.made.Tie as tie
 byte-requires : tie.Need-byte-requires
 byte-requires c κs = search needs
 
+array-write-ticket-space : tie.Need-array-write-ticket-space
+array-write-ticket-space c = search needs
+
+byte-requires-2 : tie.Need-byte-requires-2
+byte-requires-2 c κs = search needs
+
+array-write-ticket-space-2 : tie.Need-array-write-ticket-space-2
+array-write-ticket-space-2 c = search needs
+
+byte-requires-3 : tie.Need-byte-requires-3
+byte-requires-3 c κs = search needs
+
+array-write-ticket-space-3 : tie.Need-array-write-ticket-space-3
+array-write-ticket-space-3 c = search needs
+
 number-requires : tie.Need-number-requires
 number-requires c κs = search needs
 
@@ -32,7 +47,7 @@ array-share-prefix-ticket-space : tie.Need-array-share-prefix-ticket-space
 array-share-prefix-ticket-space c = search needs
 
 slice-aggregate-call-with : tie.Need-slice-aggregate-call-with
-slice-aggregate-call-with c = sym (length-take-le _ _ (rw length-replicate (omega arith)))
+slice-aggregate-call-with c = sym (length-take-le _ _ (simp (length-set, length-replicate) (omega arith)))
 
 array-share-prefix-tape-space : tie.Need-array-share-prefix-tape-space
 array-share-prefix-tape-space c = search needs
@@ -57,6 +72,11 @@ made-spec =
     tie.close
     (tie.spec
     byte-requires
+    array-write-ticket-space
+    byte-requires-2
+    array-write-ticket-space-2
+    byte-requires-3
+    array-write-ticket-space-3
     number-requires
     short-requires
     array-write-tape-space

@@ -1,9 +1,9 @@
--- `readout::join` meets its contract: two texts are put one after the other.
+-- `named_files::join` meets its contract: two texts are put one after the other.
 use lib.ListN.{length-append}
 use Rattle.walk_laws.specs.LinesLaws.{put-then, put-counts}
 use borrow.Author.Needs.{needs}
-use Rattle.readout.proofs.new_file.join.Statement.{statement}
-use Rattle.readout.proofs.new_file.join.Tie as tie
+use Rattle.named_files.proofs.join.Statement.{statement}
+use Rattle.named_files.proofs.join.Tie as tie
 
 put-text-requires : tie.Need-put-text-requires
 put-text-requires c κs = search needs

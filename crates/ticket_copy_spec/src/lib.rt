@@ -1,0 +1,1 @@
+// A file of tickets copied with unused fields zeroed: definitions.

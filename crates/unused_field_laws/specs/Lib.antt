@@ -1,0 +1,3 @@
+pub mod Earlier
+pub mod Theorems
+pub mod Files

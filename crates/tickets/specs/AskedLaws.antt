@@ -1,4 +1,4 @@
--- Reading a ticket, kind by kind, and a number from its last byte on.
+-- Reading a ticket: its key, and what it asks, kind by kind.
 use mathlib.Core.Path.{_≡_, refl, sym, _∙_, ap}
 use mathlib.Core.Bool.{Bool, true, false}
 use mathlib.Core.List.{List, [], _∷_}
@@ -11,53 +11,27 @@ use Rattle.state_spec.specs.Ticket.{kindIn, keyIn, valueIn, opIn, structureOf}
 use Rattle.operation_spec.specs.declared.Op.the-variants.{Get, Put, Remove, Push, Pop, Add, Take, Enqueue, Dequeue}
 use Rattle.tickets.specs.declared.Asked.the-variants.{Call, Unknown}
 use Rattle.tickets.specs.Asked.{asked, fromOp, fromAsked, mapOp, stackOp, heapOp, queueOp}
-use Prim.Native.Nat.{ℕ, suc, _+_, _-_, _*_, _≤_, _<_, _^_}
-use native.Mathlib.Nat.{pow-suc, pow-le-pow-right}
+use Prim.Native.Nat.{ℕ, _/_, _%_, _≤_, _<_, _^_}
 use native.Mathlib.Omega.{arith}
 use lib.Dec.{eqb}
 use lib.ListN.{length, take, drop, getD, length-take, length-drop}
-use lib.Seq.{drop-cons, getD-take, getD-drop, drop-length}
-use Rattle.slot_spec.specs.LittleEndian.{value}
+use lib.Seq.{take-at, take-take}
+use Rattle.slot_spec.specs.LittleEndian.{value, bytes, Bytes}
+use Rattle.slot_laws.specs.LittleEndianLaws.{length-bytes, value-bytes, bytes-value, bytes-split, bytes-from, bytes-take, bytes-drop}
 
-value-cons : (b : ℕ) (bs : List ℕ) → value (b ∷ bs) ≡ b + 256 * value bs
-unfolding value
-value-cons b bs = refl
+-- ---- the key
+-- Of a word's number the remainder by 2^32 is that of its first four bytes.
+half-word : (xs : List ℕ) → Bytes xs → 8 ≤ length xs → value (take 8 xs) % 4294967296 ≡ value (take 4 xs)
+half-word xs b l =
+    let n = value (take 8 xs) in
+    let w : length (take 8 xs) ≡ 8 = length-take 8 xs ∙ omega arith in
+    let e : bytes 8 n ≡ take 8 xs = rw w at (bytes-value (take 8 xs) (bytes-take 8 xs b)) in
+    let f : take 4 (take 8 xs) ≡ bytes 4 n =
+    ap (take 4) (sym e ∙ bytes-split 4 4 n) ∙ take-at (bytes 4 n) (bytes 4 (n / 256 ^ 4)) 4 (length-bytes 4 n) in
+    sym (value-bytes 4 n) ∙ ap value (sym f ∙ take-take 4 8 xs (omega arith))
 
--- ---- a number of w bytes at a place, from its last byte on
-module _ (s : List ℕ) (at w : ℕ) (fits : at + w ≤ length s) where
-  abbrev part : List ℕ
-  part = take w (drop at s)
-
-  part-length : length part ≡ w
-  part-length = simp (length-take, length-drop) (omega arith)
-
-  pub number-none : 0 ≡ value (drop w part)
-  unfolding value
-  number-none = sym (ap value (ap (λ (n : ℕ). drop n part) (sym part-length) ∙ drop-length part))
-
-  -- One byte more in front.
-  pub number-more : (i v b : ℕ) → 0 < i → i ≤ w → v ≡ value (drop i part) → b ≡ getD s (at + (i - 1)) 0 → v * 256 + b ≡ value (drop (i - 1) part)
-  number-more i v b h l e g =
-      let n : suc (i - 1) ≡ i = omega arith in
-      let q : i - 1 < length part = omega (arith, part-length) in
-      let y : getD part (i - 1) 0 ≡ getD s (at + (i - 1)) 0 = getD-take w (drop at s) (i - 1) 0 (omega arith) ∙ getD-drop at s (i - 1) 0 in
-      let a : drop (i - 1) part ≡ getD part (i - 1) 0 ∷ drop i part =
-      drop-cons part (i - 1) 0 q ∙ ap (λ (m : ℕ). getD part (i - 1) 0 ∷ drop m part) n in
-      let x : value (drop (i - 1) part) ≡ getD part (i - 1) 0 + 256 * value (drop i part) =
-      ap value a ∙ value-cons (getD part (i - 1) 0) (drop i part) in
-      omega arith
-
--- ---- its size
-pub more-below : (w i v b : ℕ) → 0 < i → i ≤ w → v < 256 ^ (w - i) → b < 256 → v * 256 + b < 256 ^ (w - (i - 1))
-more-below w i v b h l p q =
-    let n : w - (i - 1) ≡ suc (w - i) = omega arith in
-    rw (n, pow-suc) (omega arith)
-
--- A number of at most eight bytes fits a word.
-pub word-fits : (n v : ℕ) → n ≤ 8 → v < 256 ^ n → v < 2 ^ 64
-word-fits n v h p =
-    let q : 256 ^ n ≤ 256 ^ 8 = pow-le-pow-right {n = 256} (omega arith) h in
-    omega arith
+pub key-of : (t : List ℕ) → ((i : ℕ) → i < length t → getD t i 0 < 256) → length t ≡ 13 → value (take 8 (drop 1 t)) % 4294967296 ≡ keyIn t
+key-of t small whole = half-word (drop 1 t) (bytes-drop 1 t (bytes-from t small)) (rw length-drop (omega arith))
 
 -- ---- kinds
 -- The kinds of a structure are those from the first to the last.

@@ -1,11 +1,10 @@
 // What a ticket asks of a structure.
 use operation_spec::Op;
+use slot_words::word;
 ghost use mathlib.Core.Path.{_≡_};
-ghost use Prim.Native.Nat.{_+_, _≤_, _^_, _<_};
 ghost use lib.Dec.{eqb};
-ghost use lib.ListN.{length, take, drop};
-ghost use Rattle.slot_spec.specs.LittleEndian.{value};
-ghost use Rattle.state_spec.specs.Ticket.{ticketLength, outOfKeys};
+ghost use lib.ListN.{length};
+ghost use Rattle.state_spec.specs.Ticket.{ticketLength, keyIn, valueIn, outOfKeys};
 ghost use Rattle.operation_spec.specs.Method.{toOp};
 ghost use Rattle.tickets.specs.Asked.{asked, mapOp, stackOp, heapOp, queueOp};
 
@@ -28,24 +27,20 @@ pub fn is_whole(ticket: &[u8]) -> bool
     ticket.len() == TICKET_LENGTH
 }
 
-fn wide(x: u8) -> u64
-    ensures { λ r. ⌜ (r ≡ x) × (r < 256) ⌝ }
+// A ticket's key, four bytes of the word at its place.
+pub fn key_in(ticket: &[u8]) -> u32
+    requires { ⌜ length (now ticket) ≡ 13 ⌝ }
+    ensures { λ r. ⌜ r ≡ keyIn (now (ticket .entry)) ⌝ }
 {
-    x as u64
+    (word(ticket, 1) % 4294967296) as u32
 }
 
-// The little-endian number of that width at a byte, from its last byte on.
-fn number(s: &[u8], at: usize, width: usize) -> u64
-    requires { ⌜ (at + width ≤ length (now s)) × (width ≤ 8) ⌝ }
-    ensures { λ r. ⌜ (r ≡ value (take width (drop at (now (s .entry))))) × (r < 256 ^ width) ⌝ }
+// A ticket's value, a word.
+pub fn value_in(ticket: &[u8]) -> u64
+    requires { ⌜ length (now ticket) ≡ 13 ⌝ }
+    ensures { λ r. ⌜ r ≡ valueIn (now (ticket .entry)) ⌝ }
 {
-    let mut v: u64 = 0;
-    let mut i = width;
-    while 0 < i {
-        i -= 1;
-        v = v * 256 + wide(s[at + i]);
-    }
-    v
+    word(ticket, 5)
 }
 
 // Kinds 1 get, 2 put, 3 remove of a map.
@@ -97,8 +92,8 @@ pub fn read_ticket(structure: u8, ticket: &[u8]) -> Asked
     ensures { λ r. ⌜ r ≡ asked structure (now (ticket .entry)) ⌝ }
 {
     let kind = ticket[0];
-    let key = number(ticket, 1, 4) as u32;
-    let value = number(ticket, 5, 8);
+    let key = key_in(ticket);
+    let value = value_in(ticket);
     match kind {
         1..=3 => {
             if structure == 1 {

@@ -1,17 +1,16 @@
--- The fields that a kind uses, and bytes that are all zero.
+-- The fields that a kind uses, and those of a ticket.
 use mathlib.Core.Path.{_≡_, refl, sym, _∙_, ap}
-use mathlib.Core.Bool.{Bool, true, false, not}
+use mathlib.Core.Bool.{Bool, true, false}
 use mathlib.Core.List.{List}
 use mathlib.Core.Logic.{_⊎_, inl, inr}
-use Prim.Native.Nat.{ℕ, suc, _+_, _-_, _*_, _≤_, _<_}
+use Prim.Native.Nat.{ℕ, suc, _≤_}
 use native.Mathlib.Omega.{arith}
-use borrow.Author.Tests.{eq-eqb, ne-eqb, eqb-true, eqb-false, ltb-true, ltb-false}
-use lib.Dec.{eqb, ltb}
-use lib.ListN.{length, take, drop, getD, List·getD-eq-default}
-use lib.Seq.{drop-cons}
-use Rattle.slot_spec.specs.LittleEndian.{value}
+use borrow.Author.Tests.{ltb-true, ltb-false}
+use lib.Dec.{ltb}
+use lib.ListN.{length, getD, List·getD-eq-default}
 use Rattle.state_spec.specs.declared.Uses.{Uses}
 use Rattle.state_spec.specs.Ticket.{kindIn, keyIn, valueIn, both, usesTable, uses, stray, strayFields}
+use Rattle.tickets.specs.AskedLaws.{first-byte}
 
 -- ---- kinds
 less : (k n : ℕ) → (k ≡ suc n → ⊥) → k ≤ suc n → k ≤ n
@@ -37,44 +36,10 @@ uses-rest k no-key no-put no-value none = go (ltb 9 k) refl
     go true e = sym (List·getD-eq-default usesTable both {n = k} (ltb-true 9 k e))
     go false e = let z : k ≡ 0 = omega (arith, least (ltb-false 9 k e)) in rw z
 
--- ---- bytes from a place up to another
-abbrev pub part : (i to : ℕ) → List ℕ → List ℕ
-part i to s = take (to - i) (drop i s)
-
-module _ (s : List ℕ) (i to : ℕ) (h : i < to) (l : to ≤ length s) where
-  pub part-value : value (part i to s) ≡ getD s i 0 + 256 * value (part (i + 1) to s)
-  unfolding value
-  part-value =
-      let e : to - i ≡ suc (to - (i + 1)) = omega arith in
-      let n : suc i ≡ i + 1 = omega arith in
-      rw (e, drop-cons s i 0 (omega arith), n)
-
-  -- A zero is passed over; any other byte is enough.
-  pub zero-passed : getD s i 0 ≡ 0 → stray false (value (part i to s)) ≡ stray false (value (part (i + 1) to s))
-  zero-passed z = ap not (go (eqb (value (part (i + 1) to s)) 0) refl)
-    where
-      go : (b : Bool) → eqb (value (part (i + 1) to s)) 0 ≡ b → eqb (value (part i to s)) 0 ≡ b
-      go true e =
-          let n : value (part (i + 1) to s) ≡ 0 = eqb-true _ 0 e in
-          eq-eqb (value (part i to s)) 0 (omega (arith, part-value))
-      go false e = ne-eqb (value (part i to s)) 0 (λ q. eqb-false (value (part (i + 1) to s)) 0 e (omega (arith, part-value)))
-
-  pub other-found : (getD s i 0 ≡ 0 → ⊥) → stray false (value (part i to s)) ≡ true
-  other-found n = ap not (ne-eqb (value (part i to s)) 0 (λ q. n (omega (arith, part-value))))
-
-pub none-left : (s : List ℕ) (i to : ℕ) → to ≤ i → stray false (value (part i to s)) ≡ false
-unfolding value
-none-left s i to h = let e : to - i ≡ 0 = omega arith in rw e
-
--- The kind is the first byte.
-pub kind-byte : (t : List ℕ) → 1 ≤ length t → getD t 0 0 ≡ kindIn t
-unfolding value
-kind-byte t l = omega (arith, part-value t 0 1 (omega arith) l)
-
 -- ---- a ticket: its key, and where that is in order its value
 module _ (t : List ℕ) (used : Uses) (known : used ≡ uses (getD t 0 0)) (whole : length t ≡ 13) where
   used-kind : used ≡ uses (kindIn t)
-  used-kind = known ∙ ap uses (kind-byte t (omega arith))
+  used-kind = known ∙ ap uses (first-byte t (omega arith))
 
   pub key-tells : (k : Bool) → k ≡ stray (used .key) (keyIn t) → k ≡ true → k ≡ strayFields t
   unfolding strayFields

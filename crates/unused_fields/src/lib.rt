@@ -1,9 +1,9 @@
 // The fields that a ticket's kind does not use, which must be zero.
 use state_spec::Uses;
+use tickets::key_in;
+use tickets::value_in;
 ghost use mathlib.Core.Path.{_≡_};
-ghost use Prim.Native.Nat.{_-_, _≤_};
-ghost use lib.ListN.{length, take, drop};
-ghost use Rattle.slot_spec.specs.LittleEndian.{value};
+ghost use lib.ListN.{length};
 ghost use Rattle.state_spec.specs.Ticket.{uses, stray, strayFields};
 
 const NEITHER: Uses = Uses {
@@ -39,22 +39,14 @@ pub fn uses(kind: u8) -> Uses
     }
 }
 
-// Whether the bytes from one place up to another are a field that is not used and not zero.
-fn is_stray(used: bool, s: &[u8], from: usize, to: usize) -> bool
-    requires { ⌜ (from ≤ to) × (to ≤ length (now s)) ⌝ }
-    ensures { λ r. ⌜ r ≡ stray used (value (take (to - from) (drop from (now (s .entry))))) ⌝ }
+// Whether a field is not used and not zero.
+fn is_stray(used: bool, field: u64) -> bool
+    ensures { λ r. ⌜ r ≡ stray used field ⌝ }
 {
     if used {
         return false;
     }
-    let mut i = from;
-    while i < to {
-        if s[i] != 0 {
-            return true;
-        }
-        i += 1;
-    }
-    false
+    field != 0
 }
 
 // Whether a field that a ticket's kind does not use is not zero.
@@ -63,5 +55,7 @@ pub fn has_stray(ticket: &[u8]) -> bool
     ensures { λ r. ⌜ r ≡ strayFields (now (ticket .entry)) ⌝ }
 {
     let used = uses(ticket[0]);
-    is_stray(used.key, ticket, 1, 5) || is_stray(used.value, ticket, 5, 13)
+    let key = key_in(ticket) as u64;
+    let value = value_in(ticket);
+    is_stray(used.key, key) || is_stray(used.value, value)
 }

@@ -11,14 +11,11 @@ use Rattle.tickets.proofs.read_ticket.Tie as tie
 shared-slice-read-kind : tie.Need-shared-slice-read-kind
 shared-slice-read-kind c = search needs
 
-number-requires : tie.Need-number-requires
-number-requires c κs = search needs
+key-in-requires : tie.Need-key-in-requires
+key-in-requires c κs = search needs
 
-cast-key : tie.Need-cast-key
-cast-key c = search needs
-
-number-requires-2 : tie.Need-number-requires-2
-number-requires-2 c κs = search needs
+value-in-requires : tie.Need-value-in-requires
+value-in-requires c κs = search needs
 
 map-op-requires : tie.Need-map-op-requires
 map-op-requires c κs = search needs
@@ -34,15 +31,15 @@ queue-op-requires c κs = search needs
 
 returns : tie.Need-returns
 returns c = let s = c .before .before .before .before .before .before .before .before in let t = s .args .ticket .now in let f = first-byte t (omega (arith, s .pre)) in
-    ap Call (c .map-op .ensures ∙ rw (f, c .before .before .before .before .before .number .ensures .0, c .before .before .before .before .number2 .ensures .0)) ∙ sym (map-kinds t (s .args .structure) (c .before .if3 .taken) (omega (arith, c .before .before .before .if1 .left)) (omega (arith, c .before .before .if2 .taken)))
+    ap Call (c .map-op .ensures ∙ rw (f, c .before .before .before .before .before .key-in .ensures, c .before .before .before .before .value-in .ensures)) ∙ sym (map-kinds t (s .args .structure) (c .before .if3 .taken) (omega (arith, c .before .before .before .if1 .left)) (omega (arith, c .before .before .if2 .taken)))
 
 returns-2 : tie.Need-returns-2
 returns-2 c = let s = c .before .before .before .before .before .before .before .before .before in let t = s .args .ticket .now in let f = first-byte t (omega (arith, s .pre)) in
-    ap Call (c .stack-op .ensures ∙ rw (f, c .before .before .before .before .before .number2 .ensures .0)) ∙ sym (stack-kinds t (s .args .structure) (c .before .if5 .taken) (omega (arith, c .before .before .before .if2 .left)) (omega (arith, c .before .before .if4 .taken)))
+    ap Call (c .stack-op .ensures ∙ rw (f, c .before .before .before .before .before .value-in .ensures)) ∙ sym (stack-kinds t (s .args .structure) (c .before .if5 .taken) (omega (arith, c .before .before .before .if2 .left)) (omega (arith, c .before .before .if4 .taken)))
 
 returns-3 : tie.Need-returns-3
 returns-3 c = let s = c .before .before .before .before .before .before .before .before .before .before in let t = s .args .ticket .now in let f = first-byte t (omega (arith, s .pre)) in
-    ap Call (c .heap-op .ensures ∙ rw (f, c .before .before .before .before .before .before .number2 .ensures .0)) ∙ sym (heap-kinds t (s .args .structure) (c .before .if7 .taken) (omega (arith, c .before .before .before .if4 .left)) (omega (arith, c .before .before .if6 .taken)))
+    ap Call (c .heap-op .ensures ∙ rw (f, c .before .before .before .before .before .before .value-in .ensures)) ∙ sym (heap-kinds t (s .args .structure) (c .before .if7 .taken) (omega (arith, c .before .before .before .if4 .left)) (omega (arith, c .before .before .if6 .taken)))
 
 returns-4 : tie.Need-returns-4
 returns-4 c = let s = c .before .before .before .before .before .before .before in let t = s .args .ticket .now in let f = first-byte t (omega (arith, s .pre)) in
@@ -62,7 +59,7 @@ returns-7 c = let s = c .before .before .before .before .before .before .before 
 
 returns-8 : tie.Need-returns-8
 returns-8 c = let s = c .before .before .before .before .before .before .before .before .before .before .before in let t = s .args .ticket .now in let f = first-byte t (omega (arith, s .pre)) in
-    ap Call (c .queue-op .ensures ∙ rw (f, c .before .before .before .before .before .before .before .number2 .ensures .0)) ∙ sym (queue-kinds t (s .args .structure) (⊎-elim (λ x. inl (x .taken)) (λ x. inr (omega (arith, x .1 .left))) (c .before .if9 .came)) (omega (arith, c .before .before .before .if6 .left)) (omega (arith, c .before .before .if8 .taken)))
+    ap Call (c .queue-op .ensures ∙ rw (f, c .before .before .before .before .before .before .before .value-in .ensures)) ∙ sym (queue-kinds t (s .args .structure) (⊎-elim (λ x. inl (x .taken)) (λ x. inr (omega (arith, x .1 .left))) (c .before .if9 .came)) (omega (arith, c .before .before .before .if6 .left)) (omega (arith, c .before .before .if8 .taken)))
 
 returns-9 : tie.Need-returns-9
 returns-9 c = let s = c .before .before .before .before .before in let t = s .args .ticket .now in let f = first-byte t (omega (arith, s .pre)) in
@@ -77,9 +74,8 @@ read-ticket-spec =
     tie.close
     (tie.spec
     shared-slice-read-kind
-    number-requires
-    cast-key
-    number-requires-2
+    key-in-requires
+    value-in-requires
     map-op-requires
     returns
     stack-op-requires

@@ -1,6 +1,8 @@
 // What the benchmark times: reads an input in the walk program's format, makes the calls and prints one number, a checksum of
 // the replies, the leaves and the peaks that bench/README.md defines. An input that a good opening does not start, or that ends within a
 // call, gets a message on the standard error instead.
+use call_draws::MOST_DRAWS;
+use call_draws::MOST_LEAVES;
 use call_draws::draws_of;
 use call_draws::rounds_of;
 use call_spec::Called;
@@ -12,11 +14,9 @@ use libc::STDOUT_FILENO;
 use opening::open;
 use operation_spec::Answer;
 use state_spec::State;
-use text_writer::MOST_LEAVES;
 use tickets::TICKET_LENGTH;
 use walk_input::HEAD_LENGTH;
 use walk_input::LARGEST_TREE;
-use walk_input::MOST_DRAWS;
 use walk_input::read_tape;
 use walk_input::tree_lent;
 ghost use Prim.Native.Nat.{_≤_};

@@ -10,6 +10,11 @@ pub const MOST_ROUNDS: usize = 33;
 
 pub const MOST_SPARE: usize = 2;
 
+// The most numbers that a call takes of its tape, and the most leaves that it reveals, one for each round.
+pub const MOST_DRAWS: usize = 2 * MOST_ROUNDS + MOST_SPARE;
+
+pub const MOST_LEAVES: usize = 2 * MOST_ROUNDS;
+
 // F: the fetch rounds of a call, and as many put rounds.
 pub fn rounds_of(structure: u8, size: u8) -> usize
     requires { ⌜ (1 ≤ size) × (size ≤ largestSize) ⌝ }

@@ -1,6 +1,7 @@
 // Calls on trees that are damaged between them, for tests: reads what the walk program reads, with five bytes more after each call's
 // tape, a place of four and an amount. Before the call the tree's byte at that place, modulo the tree's length, grows by the amount,
 // modulo 256. Prints the walk program's line for each call, and then that of the program `peaks`.
+use call_draws::MOST_LEAVES;
 use input_calls::call_in;
 use input_calls::read_record;
 use input_opening::open_input;
@@ -11,7 +12,6 @@ use peak_lines::peak_line;
 use round_close::greater;
 use state_spec::State;
 use text_writer::LONGEST_LINE;
-use text_writer::MOST_LEAVES;
 use walk_input::LARGEST_TREE;
 use walk_input::LONGEST_RECORD;
 use walk_input::tree_lent;

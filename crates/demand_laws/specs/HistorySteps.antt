@@ -9,7 +9,7 @@ use lib.ListN.{length, take, drop}
 use Rattle.method_spec.specs.Answer.{Answer, found, absent, replaced, new, removed, pushed, popped, added, taken, queued, dequeued, empty, full}
 use Rattle.bucket_call_spec.specs.Fetch.{Left}
 use Rattle.call_spec.specs.Store.{stateLeft, refusing, ending, replied, replyOf}
-use Rattle.demand_spec.specs.History.{Brought, Kept, callOn, leftBy, history, finally, changesNothing, early, counted, replies, traceOf}
+use Rattle.demand_spec.specs.History.{Brought, Kept, callOn, history, finally, changesNothing, early, counted, replies, traceOf}
 use Rattle.demand_laws.specs.Marks.{Ends, closes, answers}
 use Rattle.demand_laws.specs.Refusals.{refused-closed}
 

@@ -4,10 +4,10 @@ use super::rows::number;
 use super::rows::short;
 use super::states::state_of;
 use super::trees::checksum;
+use call_draws::MOST_LEAVES;
 use call_spec::Called;
 use call_spec::Reply;
 use state_spec::State;
-use text_writer::MOST_LEAVES;
 
 // What the last call brings, its peak among it, how many wait then, and the checksum of the tree before it.
 pub struct Shown {

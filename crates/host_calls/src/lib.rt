@@ -5,8 +5,8 @@ use byte_states::waiting::save_places;
 use byte_states::write_head;
 use call_core::Head;
 use call_core::call_words;
-use call_draws::MOST_ROUNDS;
-use call_draws::MOST_SPARE;
+use call_draws::MOST_DRAWS;
+use call_draws::MOST_LEAVES;
 use call_draws::draws_of;
 use call_draws::rounds_of;
 use call_ending::Ran;
@@ -29,11 +29,6 @@ ghost use Rattle.lent_bytes_spec.specs.Numbers.{numbersOf};
 ghost use Rattle.lent_bytes_spec.specs.StateBytes.{stateBytes, keyFits};
 ghost use Rattle.call_core.specs.Run.{Stands, CallsAs};
 ghost use Rattle.host_calls.specs.Left.{coreHead, Rows, headLeft, Saves};
-
-// The most numbers that a call takes of its tape, and writes to its trace.
-const MOST_DRAWS: usize = 2 * MOST_ROUNDS + MOST_SPARE;
-
-const MOST_LEAVES: usize = 2 * MOST_ROUNDS;
 
 fn lesser(a: usize, b: usize) -> usize
     ensures { λ r. ⌜ r ≡ min a b ⌝ }

@@ -1,4 +1,5 @@
 // The calls of the walk program's input: each is read and made.
+use call_draws::MOST_DRAWS;
 use call_draws::draws_of;
 use call_draws::rounds_of;
 use call_spec::Called;
@@ -7,7 +8,6 @@ use libc::STDIN_FILENO;
 use state_spec::State;
 use tickets::TICKET_LENGTH;
 use walk_input::LONGEST_RECORD;
-use walk_input::MOST_DRAWS;
 use walk_input::arrived;
 use walk_input::read_tape;
 use walk_input::record_length;

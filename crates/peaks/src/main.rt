@@ -1,5 +1,6 @@
 // The peaks program, for people: reads what the walk program reads, makes the calls, and prints for each how many nodes at most
 // waited and were held at the close of one of its rounds, the largest such number so far, and the limit beyond which a store overflows.
+use call_draws::MOST_LEAVES;
 use input_calls::next_call;
 use input_opening::open_input;
 use input_opening::print_short;
@@ -8,7 +9,6 @@ use peak_lines::peak_line;
 use round_close::greater;
 use state_spec::State;
 use text_writer::LONGEST_LINE;
-use text_writer::MOST_LEAVES;
 use walk_input::LARGEST_TREE;
 use walk_input::tree_lent;
 use walk_spec::Arrived;

@@ -1,12 +1,9 @@
 // Text put into a lent buffer at a position. Each function returns the position after it.
-use call_draws::MOST_ROUNDS;
+use call_draws::MOST_LEAVES;
 ghost use Prim.Native.Nat.{_+_, _≤_};
 ghost use mathlib.Core.List.{[], _∷_};
 ghost use lib.ListN.{length};
 ghost use Rattle.walk_spec.specs.Lines.{decimal, numbers, Put};
-
-// The most leaves of a call, one for each fetch round and each put round.
-pub const MOST_LEAVES: usize = 2 * MOST_ROUNDS;
 
 // A word of 8 letters, a value of 20 digits and leaves of 5 digits, each after a blank, and a newline.
 pub const LONGEST_LINE: usize = 8 + 21 + 6 * MOST_LEAVES + 1;

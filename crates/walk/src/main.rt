@@ -1,5 +1,6 @@
 // The walk program: reads a structure byte, a size byte, then for each call a ticket and its tape numbers from standard
 // input, makes the calls on a store, and prints a line for each as soon as it has been made.
+use call_draws::MOST_LEAVES;
 use input_calls::call_in;
 use input_calls::read_record;
 use input_opening::open_input;
@@ -7,7 +8,6 @@ use input_opening::print_short;
 use libc::STDOUT_FILENO;
 use state_spec::State;
 use text_writer::LONGEST_LINE;
-use text_writer::MOST_LEAVES;
 use walk_input::LARGEST_TREE;
 use walk_input::LONGEST_RECORD;
 use walk_input::tree_lent;

@@ -1,6 +1,5 @@
 // The parts of the walk program's input.
-use call_draws::MOST_ROUNDS;
-use call_draws::MOST_SPARE;
+use call_draws::MOST_DRAWS;
 use call_draws::draws_of;
 use fitness::LARGEST_SIZE;
 use fitness::in_range;
@@ -20,9 +19,6 @@ ghost use Rattle.lent_bytes_spec.specs.Numbers.{numberLength};
 
 // The structure byte and the size byte.
 pub const HEAD_LENGTH: usize = 2;
-
-// The most tape numbers of a call.
-pub const MOST_DRAWS: usize = 2 * MOST_ROUNDS + MOST_SPARE;
 
 // The most bytes of one call in the input.
 pub const LONGEST_RECORD: usize = TICKET_LENGTH + 2 * MOST_DRAWS;

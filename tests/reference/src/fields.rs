@@ -12,6 +12,20 @@ pub const STRAY: u64 = 12;
 /// So many tickets of such a kind are not all clean.
 const TRIES: usize = 99;
 
+/// A kind of the structure that adds an entry, or one that does not; of a map one of those given.
+pub fn kind_of(random: &mut Random, structure: u8, adds: bool, of_map: &[u8]) -> u8 {
+    match (structure, adds) {
+        (MAP, true) => PUT,
+        (MAP, false) => random.pick(of_map),
+        (STACK, true) => PUSH,
+        (STACK, false) => POP,
+        (HEAP, true) => ADD,
+        (HEAP, false) => TAKE,
+        (_, true) => IN,
+        (_, false) => OUT,
+    }
+}
+
 /// A ticket with zeros in the fields that its kind does not use. A put uses both
 /// and goes unasked: a table by which it could be stray would be found out.
 pub fn clean(kind: u8, key: u32, value: u64) -> Ticket {

@@ -154,16 +154,7 @@ impl Chain {
 
     fn ticket(&mut self) -> Ticket {
         let adds = self.random.below(10) < self.growth;
-        let kind = match (self.structure, adds) {
-            (MAP, true) => PUT,
-            (MAP, false) => self.random.pick(&[GET, GET, REMOVE]),
-            (STACK, true) => PUSH,
-            (STACK, false) => POP,
-            (HEAP, true) => ADD,
-            (HEAP, false) => TAKE,
-            (_, true) => IN,
-            (_, false) => OUT,
-        };
+        let kind = fields::kind_of(&mut self.random, self.structure, adds, &[GET, GET, REMOVE]);
         let small = self
             .random
             .below(u64::from(capacity(self.size)) * 5 / 4 + 2);
@@ -188,6 +179,16 @@ impl Chain {
     pub fn read_out(&mut self) {
         let (state, tree) = (self.state.clone(), self.tree.clone());
         self.read_out_of(state, tree);
+    }
+
+    /// A call on such a state and tree.
+    pub fn call_of(&mut self, state: Vec<u8>, tree: Vec<u8>) {
+        let buffers = self.buffers();
+        self.records.push(Record::Call(Buffers {
+            state,
+            tree,
+            ..buffers
+        }));
     }
 
     /// Mostly the buffer is as long as the file, or a little more or less.

@@ -297,15 +297,7 @@ fn opening(chain: &mut Chain, structure: u64, size: u64) {
     opening.make::<fast::State>();
     let Opening { state, tree, .. } = opening;
     match chain.random.below(6) {
-        0 => {
-            let buffers = chain.buffers();
-            let buffers = Buffers {
-                state,
-                tree,
-                ..buffers
-            };
-            chain.records.push(Record::Call(buffers));
-        }
+        0 => chain.call_of(state, tree),
         1 => chain.read_out_of(state, tree),
         _ => {}
     }
@@ -324,15 +316,7 @@ fn anything(chain: &mut Chain) {
         }
         match chain.random.below(3) {
             0 => chain.read_out_of(state, tree),
-            _ => {
-                let buffers = chain.buffers();
-                let buffers = Buffers {
-                    state,
-                    tree,
-                    ..buffers
-                };
-                chain.records.push(Record::Call(buffers));
-            }
+            _ => chain.call_of(state, tree),
         }
     }
 }

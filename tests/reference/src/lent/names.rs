@@ -3,6 +3,7 @@
 use crate::fields;
 use crate::paper::*;
 use crate::plain::DAMAGE_FOUND;
+use crate::stores::STATE_CAUSES;
 
 pub const ENTRIES: &str = "calls from C";
 pub const OPENING_NUMBERS: &str = "openings from C by number";
@@ -69,7 +70,7 @@ pub fn all_branches() -> Vec<(&'static str, Vec<String>)> {
         (READ_OUT_PAIRS, pairs(&OF_READ_OUTS)),
         (
             READ_OUT_CAUSES,
-            owned(&[&STATE_WORDS, &TREE_WORDS, &READ_OUT_WORDS]),
+            owned(&[&STATE_WORDS, &TREE_WORDS, &STATE_CAUSES, &READ_OUT_WORDS]),
         ),
         (FILES, owned(&[&FILE_WORDS])),
         (LENGTHS, owned(&[&LENGTH_WORDS])),
@@ -299,23 +300,7 @@ const KEY_WORDS: [&str; 10] = [
     "in on a full one",
 ];
 
-const READ_OUT_WORDS: [&str; 20] = [
-    "mark 0",
-    "mark 1",
-    "mark 3",
-    "mark 7",
-    "mark 10",
-    "mark 11",
-    "mark 12",
-    "mark 255",
-    "structure 0",
-    "structure 5",
-    "structure 255",
-    "size 0",
-    "size 9",
-    "size 255",
-    "102 waiting",
-    "65535 waiting",
+const READ_OUT_WORDS: [&str; 4] = [
     "no buffer",
     "buffer a byte short",
     "buffer of a byte",

@@ -8,10 +8,11 @@ use crate::record::{Record, ZERO_BYTES};
 use std::collections::BTreeMap;
 
 /// The branches by group.
-pub const BRANCHES: [(&str, &[&str]); 7] = [
+pub const BRANCHES: [(&str, &[&str]); 8] = [
     (NUMBERS, &["file", "14", "2", "3", "15"]),
     (ORDER, &OF_ORDER),
-    (CAUSES, &OF_CAUSES),
+    (CAUSES, &STATE_CAUSES),
+    (CAUSES, &OTHER_CAUSES),
     (STORES, &OF_STORES),
     (FILES, &OF_FILES),
     (BADS, &OF_BADS),
@@ -35,7 +36,8 @@ const OF_ORDER: [&str; 6] = [
     "3 and 15",
 ];
 
-const OF_CAUSES: [&str; 25] = [
+/// What a state can be refused for, one for each cause that is tried.
+pub const STATE_CAUSES: [&str; 16] = [
     "mark 0",
     "mark 1",
     "mark 3",
@@ -52,6 +54,9 @@ const OF_CAUSES: [&str; 25] = [
     "size 255",
     "102 waiting",
     "65535 waiting",
+];
+
+const OTHER_CAUSES: [&str; 9] = [
     "tree a byte short",
     "tree a byte long",
     "tree a bucket short",

@@ -5,7 +5,7 @@ pub(crate) mod branch;
 pub(crate) mod edit;
 mod origin;
 
-pub use branch::{branches, BRANCHES};
+pub use branch::{branches, BRANCHES, STATE_CAUSES};
 
 use crate::paper::*;
 use crate::plain::{self, State};

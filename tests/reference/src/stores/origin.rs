@@ -42,16 +42,7 @@ impl Calls<'_> {
         let rounds = fetch_rounds(structure, size);
         let spare = rounds..first_put_draw(structure, size);
         let adds = self.random.below(10) < self.growth;
-        let kind = match (structure, adds) {
-            (MAP, true) => PUT,
-            (MAP, false) => self.random.pick(&[GET, REMOVE]),
-            (STACK, true) => PUSH,
-            (STACK, false) => POP,
-            (HEAP, true) => ADD,
-            (HEAP, false) => TAKE,
-            (_, true) => IN,
-            (_, false) => OUT,
-        };
+        let kind = fields::kind_of(&mut self.random, structure, adds, &[GET, REMOVE]);
         let key = self.random.below(u64::from(capacity(size)) * 3 / 2 + 2) as u32;
         let value = self.random.next() >> self.random.below(64);
         let ticket = fields::clean(kind, key, value);

@@ -104,7 +104,7 @@ module _ (s : State) (tree ticket tape trace : List ℕ) where
       go (ill-brought n (inl h) q) = refused n (ill-changes n (inl h)) (λ z. omega (arith, h .1)) q
       go (ill-brought n (inr (inl h)) q) = refused n (ill-changes n (inr (inl h))) (λ z. omega arith) q
       go (ill-brought n (inr (inr h)) q) = refused n (ill-changes n (inr (inr h))) (λ z. omega arith) q
-      go (counts fit sized op h keyed q) = rounded op h q
+      go (counts fit sized op h keyed long q) = rounded op h q
 
   -- The call's peak is the largest count at the close of one of its rounds, one round for each leaf that it revealed.
   pub peak-is-largest : Peaks s tree ticket tape trace

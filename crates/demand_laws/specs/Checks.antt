@@ -8,7 +8,7 @@ use mathlib.Core.Option.{Option, none, some}
 use lib.Dec.{eqb, ltb}
 use lib.ListN.{length}
 use native.Mathlib.Omega.{arith}
-use borrow.Author.Tests.{eqb-true, eqb-false, le-leb}
+use borrow.Author.Tests.{eqb-true, eqb-false, ltb-false, le-leb}
 use Rattle.list_spec.specs.Choice.{pick}
 use Rattle.slot_spec.specs.Tree.{treeLength}
 use Rattle.method_spec.specs.Answer.{Structure, Op}
@@ -45,34 +45,35 @@ module _ (st : Structure) (s : State) (tree ticket tape trace : List ℕ) where
   peakBy op = callPeak (s .size) (rounds st (s .size)) op (drawOf (s .size) tape) (storeOf s tree)
 
   -- What a call comes to: refusal 1, 2 or 3, one that what it brings decides, or, on a fit state and a tree of its size, the
-  -- rounds, with a key for what it stores.
+  -- rounds, with a key for what it stores and a tape for its draws.
   pub data Verdict (e : Ended) : Type 0 where
     closed : (s .mark ≡ 0 → ⊥) → e ≡ refusing 1 s tree trace → Verdict e
     unfit : fits s ≡ false → e ≡ refusing 2 s tree trace → Verdict e
     other-tree : (length tree ≡ treeLength (s .size) → ⊥) → e ≡ refusing 3 s tree trace → Verdict e
     ill-brought : (n : ℕ) → IllBrought n → e ≡ refusing n s tree trace → Verdict e
     counts : fits s ≡ true → length tree ≡ treeLength (s .size) → (op : Op st) → opIn st ticket ≡ some op
-        → outOfKeys op (s .ahead .key) ≡ false → e ≡ ending s trace (leftBy op) (peakBy op) → Verdict e
+        → outOfKeys op (s .ahead .key) ≡ false → draws st (s .size) ≤ length tape → e ≡ ending s trace (leftBy op) (peakBy op) → Verdict e
 
   -- ---- the checks of what the call brings
 
   module _ (fit : fits s ≡ true) (sized : length tree ≡ treeLength (s .size)) where
     by-room : (op : Op st) → opIn st ticket ≡ some op → (strays gone short few : Bool) → outOfKeys op (s .ahead .key) ≡ gone
+        → ltb (length tape) (draws st (s .size)) ≡ short
         → Verdict
         (pick strays (refusing 19 s tree trace)
         (pick gone (refusing 17 s tree trace)
         (pick short (refusing 6 s tree trace) (pick few (refusing 7 s tree trace) (ending s trace (leftBy op) (peakBy op))))))
-    by-room op e true gone short few g = ill-brought 19 (inr (inr refl)) refl
-    by-room op e false true short few g = ill-brought 17 (inr (inl refl)) refl
-    by-room op e false false true few g = ill-brought 6 (inl (omega arith, omega arith)) refl
-    by-room op e false false false true g = ill-brought 7 (inl (omega arith, omega arith)) refl
-    by-room op e false false false false g = counts fit sized op e g refl
+    by-room op e true gone short few g h = ill-brought 19 (inr (inr refl)) refl
+    by-room op e false true short few g h = ill-brought 17 (inr (inl refl)) refl
+    by-room op e false false true few g h = ill-brought 6 (inl (omega arith, omega arith)) refl
+    by-room op e false false false true g h = ill-brought 7 (inl (omega arith, omega arith)) refl
+    by-room op e false false false false g h = counts fit sized op e g (omega (arith, ltb-false (length tape) (draws st (s .size)) h)) refl
 
     by-kind : (o : Option (Op st)) → opIn st ticket ≡ o → Verdict (callWith st s tree ticket tape trace o)
     unfolding callWith
     by-kind none e = ill-brought 5 (inl (omega arith, omega arith)) refl
     by-kind (some op) e =
-        by-room op e (strayFields ticket) (outOfKeys op (s .ahead .key)) (ltb (length tape) (draws st (s .size))) (ltb (length trace) (2 * rounds st (s .size))) refl
+        by-room op e (strayFields ticket) (outOfKeys op (s .ahead .key)) (ltb (length tape) (draws st (s .size))) (ltb (length trace) (2 * rounds st (s .size))) refl refl
 
     by-length : (same : Bool) → Verdict (pick (not same) (refusing 4 s tree trace) (callWith st s tree ticket tape trace (opIn st ticket)))
     by-length true = by-kind (opIn st ticket) refl

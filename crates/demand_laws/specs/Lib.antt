@@ -11,4 +11,5 @@ pub mod ListSteps
 pub mod ListRuns
 pub mod OpenedRuns
 pub mod UntilClosed
+pub mod CountedTapes
 pub mod Proved

@@ -72,7 +72,7 @@ module _ (st : Structure) (k : ℕ) where
         go (unfit h e) = let z : true ≡ false = sym (state-fits st k positive small s m sim t held) ∙ h in let y : _≡_ {A = ℕ} 0 1 = cc in absurd (omega arith)
         go (other-tree h e) = absurd (h (sim .kept .is-tree .sized))
         go (ill-brought n h e) = refused n h e
-        go (counts fit sized op h keyed e) =
+        go (counts fit sized op h keyed long e) =
             runs op h (op-fits st (b .ticket) bytes op h) (key-left op (s .ahead .key) (sim .known .key) keyed)
             (e
             ∙ ap (λ (x : Store). ending (stateOf st k s) (b .trace) (leaving x b op) (peaking x b op))

@@ -80,7 +80,7 @@ module _ (s : State) (tree ticket tape trace : List ℕ) where
       go (other-tree h e) = absurd (not-early (inl (omega arith)) c e r)
       go (ill-brought m (inl h) e) = absurd (not-early (inl (h .1)) c e r)
       go (ill-brought m (inr h) e) = absurd (not-early (inr h) c e r)
-      go (counts fit sized other h keyed e) =
+      go (counts fit sized other h keyed long e) =
           let same : other ≡ op = cc in
           record {
             fit = fit;
@@ -100,7 +100,8 @@ module _ (s : State) (tree ticket tape trace : List ℕ) where
 
   -- Damage or overflow, in a fetch round or in a put round.
   pub none-lost : Bytes tree → Bytes ticket → Widths s → (n : ℕ) → called s tree ticket tape trace .reply ≡ Refused n → Closing n
-      → (op : Op structure) → opIn structure ticket ≡ some op → NoneLost s tree ticket tape trace structure op
+      → (op : Op structure) → opIn structure ticket ≡ some op
+      → NoneLost s tree ticket tape trace structure op (pairsIn (called s tree ticket tape trace .state) (called s tree ticket tape trace .tree))
   none-lost tree-bytes ticket-bytes widths n r c op asked =
       let rs = closing-rounds n r c op asked in
       let size = fit-state s (rs .fit) .size in
@@ -108,10 +109,11 @@ module _ (s : State) (tree ticket tape trace : List ℕ) where
       let asks = op-fits structure ticket ticket-bytes op asked in
       let left = key-left op (s .ahead .key) (widths .ahead .0) (rs .keyed) in
       let leaves : (d : ℕ) → drawOf (s .size) tape d < 2 ^ s .size = λ d. mod-lt _ (pow-pos (s .size)) in
+      let by-puts = put-closing (s .size) (size .0) (omega arith) op asks (drawOf (s .size) tape) leaves (storeOf s tree) store left in
       record {
         comes-to = never-left-wanting (s .size) (size .0) (omega arith) op asks (drawOf (s .size) tape) leaves (storeOf s tree) store left;
         in-fetch = λ m g e.
             left-pairs op rs (fetch-closing (s .size) (size .0) (omega arith) op asks (drawOf (s .size) tape) leaves (storeOf s tree) store left m g e .2);
-        in-put = λ g o e.
-            left-pairs op rs (put-closing (s .size) (size .0) (omega arith) op asks (drawOf (s .size) tape) leaves (storeOf s tree) store left g o e .keeps);
+        in-step = λ g o e. record { kind = by-puts g o e .kind; changed = by-puts g o e .changed };
+        in-put = λ g o e. left-pairs op rs (by-puts g o e .keeps);
       }

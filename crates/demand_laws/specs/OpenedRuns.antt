@@ -1,13 +1,13 @@
 -- A list of calls from a good opening: it is a run over buckets, its trace is the leaves of the named draws, and its state and tree keep the
 -- nodes of the method's memory.
-use Prim.Native.Nat.{ℕ, _+_, _-_, _*_, _≤_}
+use Prim.Native.Nat.{ℕ, suc, _+_, _*_, _≤_}
 use mathlib.Core.Path.{_≡_, sym, _∙_, ap, subst⁻¹}
 use mathlib.Core.Bool.{true}
 use mathlib.Core.Logic.{inl, inr}
 use mathlib.Core.List.{List, [], _++_, map, map-map, append-nil}
 use mathlib.Core.Option.{some}
 use native.Mathlib.Omega.{arith}
-use lib.ListN.{length, getD, length-map, List·getD-map}
+use lib.ListN.{length, getD, length-map}
 use Rattle.list_spec.specs.Distinct.{All}
 use Rattle.slot_spec.specs.Tree.{treeLength}
 use Rattle.slot_spec.specs.LittleEndian.{Bytes}
@@ -15,8 +15,8 @@ use Rattle.method_spec.specs.Answer.{Structure, Op}
 use Rattle.method_spec.specs.Plain.{plainContents, plainAnswers, nothing}
 use Rattle.method_spec.specs.Rounds.{rounds}
 use Rattle.method_spec.specs.Call.{capacity, emptyMemory}
-use Rattle.method_spec.specs.Origin as origin
-use Rattle.method_spec.specs.Origin.{drawn, names, leafOf, leafRun}
+use Rattle.method_spec.specs.Origin.{drawn, tapeOf, names, leafOf, leafRun}
+use Rattle.run_laws.specs.Leaves.{leaf-getD}
 use Rattle.method_laws.specs.Represented.{Held, held-empty}
 use Rattle.method_laws.specs.Theorems.{names-counted, held}
 use Rattle.bucket_call_spec.specs.Call.{Store, drawOf}
@@ -43,8 +43,8 @@ not-both p q = omega arith
 drawn-tapes : (st : Structure) (k : ℕ) (cs : List Brought) → Drawn st k (λ c d. leafOf k (tapesOf cs) (drawn c d)) 1 cs
 unfolding leafOf
 drawn-tapes st k cs i =
-    let same : (1 + i) - 1 ≡ i = omega arith in
-    ap (λ (n : ℕ). drawOf k (getD (tapesOf cs) n [])) same
+    let same : 1 + i ≡ suc i = omega arith in
+    ap (λ (n : ℕ). drawOf k (tapeOf (tapesOf cs) n)) same
 
 module _ (st : Structure) (k : ℕ) (positive : 1 ≤ k) (small : k ≤ 8) (tree : List ℕ) (sized : length tree ≡ treeLength k)
     (bs : List Brought) (bytes : All (λ b. Bytes (b .ticket)) bs) where
@@ -132,7 +132,6 @@ module _ (st : Structure) (k : ℕ) (positive : 1 ≤ k) (small : k ≤ 8) (tree
 
   pub leaf-in-trace : finally start bs .state .mark ≡ 0 → (place : ℕ)
       → leafAt st k start bs place ≡ getD (traceOf (history start bs)) place 0
-  unfolding leafOf
   leaf-in-trace m place =
-      sym (List·getD-map (leafOf k tapes) (namesFor st k start bs) place origin.none)
+      sym (leaf-getD k tapes (namesFor st k start bs) place)
       ∙ ap (λ (ls : List ℕ). getD ls place 0) (sym (trace-named m))

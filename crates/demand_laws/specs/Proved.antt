@@ -4,21 +4,26 @@ use Prim.Native.Nat.{ℕ, suc, _*_, _≤_, _<_}
 use mathlib.Core.Path.{_≡_, refl, sym, _∙_, ap, subst}
 use mathlib.Core.List.{List, [], _∷_}
 use native.Mathlib.Omega.{arith}
-use lib.ListN.{length, getD}
+use lib.ListN.{length, getD, length-map}
 use Rattle.list_spec.specs.Distinct.{All}
 use Rattle.slot_spec.specs.Tree.{treeLength}
 use Rattle.slot_spec.specs.LittleEndian.{Bytes}
 use Rattle.slot_laws.specs.ReadLaws.{written-reads-back, read-is-written}
 use Rattle.method_spec.specs.Answer.{Structure}
-use Rattle.method_spec.specs.Rounds.{rounds}
-use Rattle.method_laws.specs.Theorems.{named-once, tickets-only}
+use Rattle.method_spec.specs.Rounds.{rounds, draws}
+use Rattle.method_spec.specs.Origin.{DrawOnTape}
+use Rattle.method_laws.specs.Theorems.{named-once, named-draws, tickets-only}
 use Rattle.state_spec.specs.declared.State.{State}
-use Rattle.demand_spec.specs.History.{Brought, Kept, history, finally, counted, traceOf, opsIn}
-use Rattle.demand_spec.specs.Demands.{Demand1, openedStore, before, Demand2, Demand3, leafAt}
+use Rattle.state_spec.specs.Ticket.{structureOf}
+use Rattle.demand_spec.specs.History.{Brought, Kept, history, finally, counted, traceOf, opsIn, tapesOf}
+use Rattle.demand_spec.specs.Demands.{Demand1, openedStore, before, Demand2, Demand3, namesFor, leafAt}
 use Rattle.demand_laws.specs.Refusals.{one-reply, unchanged, stays-closed}
 use Rattle.demand_laws.specs.NoneLost.{none-lost}
 use Rattle.demand_laws.specs.SoundReplies.{sound-at}
 use Rattle.demand_laws.specs.OpenedRuns.{opened-runs, answered, follows, trace-count, trace-length, leaf-in-trace}
+use Rattle.demand_laws.specs.Fresh.{opened-empty}
+use Rattle.demand_laws.specs.ListSteps.{structure-back}
+use Rattle.demand_laws.specs.CountedTapes.{counted-tapes, tape-long}
 use Rattle.demand_laws.specs.UntilClosed.{before-open, before-bytes, ending}
 
 pub demand1 : (s : State) (tree ticket tape trace : List ℕ) → Demand1 s tree ticket tape trace
@@ -75,6 +80,7 @@ module _ (st : Structure) (k : ℕ) (positive : 1 ≤ k) (small : k ≤ 8) (tree
         );
         by-tickets = λ same. tickets-only k (opsIn st (counted start₁ bs)) (opsIn st (counted start₂ cs)) same;
         one-each = λ m. sym (trace-count st k positive small tree sized bs bytes m);
+        names-draws = on-tapes;
         none-twice = named-once k (opsIn st (counted start₁ bs));
       }
     where
@@ -83,6 +89,17 @@ module _ (st : Structure) (k : ℕ) (positive : 1 ≤ k) (small : k ≤ 8) (tree
 
       start₂ : Kept
       start₂ = openedStore st k tree′
+
+      -- A name is a draw of a counted call, and such a call has a tape for all its draws.
+      on-tapes : All (DrawOnTape (draws st k) (tapesOf (counted start₁ bs))) (namesFor st k start₁ bs)
+      on-tapes o named =
+          let from = named-draws k (opsIn st (counted start₁ bs)) o named in
+          let each = opened-runs st k positive small tree sized bs bytes .0 .each in
+          let many : length (tapesOf (counted start₁ bs)) ≡ length (counted start₁ bs) = length-map (counted start₁ bs) (λ (b : Brought). b .tape) in
+          let fresh = opened-empty st k positive small tree sized in
+          let tapes = counted-tapes st k start₁ (ap (λ (s : Kept). structureOf (s .state .structure)) fresh ∙ structure-back st) (ap (λ (s : Kept). s .state .size) fresh) bs in
+          let long = tape-long (draws st k) (counted start₁ bs) tapes (o .call) (from .numbered) (omega (arith, from .of-the-list)) in
+          record { numbered = from .numbered; of-the-list = omega (arith, from .of-the-list); used = from .used; on-tape = omega (arith, from .used) }
 
       leaf : finally start₁ bs .state .mark ≡ 0 → (place : ℕ) → leafAt st k start₁ bs place ≡ getD (traceOf (history start₁ bs)) place 0
       leaf = leaf-in-trace st k positive small tree sized bs bytes

@@ -74,7 +74,7 @@ module _ (s : State) (tree ticket tape trace : List ℕ) where
       go (other-tree h e) = early-says 3 n (inl (omega arith, omega arith)) e r
       go (ill-brought m (inl h) e) = early-says m n (inl (omega arith, h .1)) e r
       go (ill-brought m (inr h) e) = early-says m n (inr h) e r
-      go (counts fit sized op h keyed e) =
+      go (counts fit sized op h keyed long e) =
           let l : Left = leftBy (structureOf (s .structure)) s tree ticket tape trace op in
           which (counted-number l (call-ends (s .size) (rounds (structureOf (s .structure)) (s .size)) op (drawOf (s .size) tape) (storeOf s tree)) n
           (ap (λ (x : Ended). x .reply) (sym e) ∙ r))

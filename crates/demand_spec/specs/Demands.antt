@@ -8,25 +8,26 @@ use mathlib.Core.List.{List, [], _∷_, _++_, map}
 use mathlib.Core.Option.{none, some}
 use lib.ListN.{length, getD}
 use Rattle.list_spec.specs.Perm.{Perm}
-use Rattle.list_spec.specs.Distinct.{Distinct}
+use Rattle.list_spec.specs.Distinct.{Distinct, All}
 use Rattle.slot_spec.specs.LittleEndian.{Bytes}
 use Rattle.slot_spec.specs.Slot.{Ranged, encode, wellFormed, readSlot}
 use Rattle.slot_spec.specs.Tree.{passes, slotLength}
 use Rattle.slot_spec.specs.declared.Node as slot
 use Rattle.slot_spec.specs.declared.Reading.the-variants.{Full}
 use Rattle.method_spec.specs.Answer.{Structure, Op}
-use Rattle.method_spec.specs.Plain.{Contents, plain, plainContents, plainAnswers, nothing, Entries}
+use Rattle.method_spec.specs.Plain.{Pair, Contents, plain, plainContents, plainAnswers, nothing, Entries}
 use Rattle.method_spec.specs.Node.{Node}
+use Rattle.method_spec.specs.Changes.{keyAsked, valueAsked, takenOut, broughtIn, Answers, trackedIn}
 use Rattle.method_spec.specs.Call.{capacity, Memory, call, Ran}
 use Rattle.bucket_call_spec.specs.Simulates.{Simulates, Remains}
 use Rattle.state_spec.specs.Fit.{fits}
-use Rattle.method_spec.specs.Rounds.{rounds}
-use Rattle.method_spec.specs.Origin as origin
-use Rattle.method_spec.specs.Origin.{Origin, names, leafOf, leafRun}
+use Rattle.method_spec.specs.Rounds.{rounds, draws}
+use Rattle.method_spec.specs.Origin.{Origin, noDraw, DrawOnTape, names, leafOf, leafRun}
 use Rattle.method_spec.specs.Prog.{Prog, Want, done, want}
 use Rattle.method_spec.specs.Map.{Outcome}
 use Rattle.round_spec.specs.Round.{join}
 use Rattle.round_spec.specs.Whole.{contents}
+use Rattle.leaf_spec.specs.Convert.{toLink}
 use Rattle.leaf_spec.specs.Leaf.{leafFormat}
 use Rattle.bucket_call_spec.specs.Fetch.{Going, Round, on, shut}
 use Rattle.bucket_call_spec.specs.Call.{drawOf, fetchedBy}
@@ -67,15 +68,28 @@ module _ (s : State) (tree ticket tape trace : List ℕ) where
   abbrev pub ComesTo : (st : Structure) → Op st → Type 0
   ComesTo st op = (g : Going) (w : Want ℕ) (c : Node ℕ → Prog ℕ (Outcome ℕ)) → fetching st op ≡ on g (want w c) → ⊥
 
-  -- No node is lost: the key and value pairs that waiting nodes and good slots hold are, with repeats, those before the call
-  -- where the closing round was a fetch round, and those after the step where it was a put round.
-  pub record NoneLost (st : Structure) (op : Op st) : Type 0 where
+  -- The key that the ticket is about, on this store.
+  abbrev pub keyFor : {st : Structure} → Op st → ℕ
+  keyFor op = keyAsked op (s .entries) (s .ahead .key) (toLink (s .root))
+
+  -- The pairs after the step: those of good slots, of waiting nodes and of the nodes that the step made.
+  abbrev pub pairsAfterStep : Going → Outcome ℕ → List Pair
+  pairsAfterStep g o = map pairOf (contents leafFormat (s .size) (g .tree) ++ join leafFormat (o .nodes) (g .waiting))
+
+  -- The step loses none: its answer is one of the ticket's kind, and what it leaves is what was there before the call, but for the one change that
+  -- the answer tells.
+  pub record StepKeeps (st : Structure) (op : Op st) (g : Going) (o : Outcome ℕ) : Type 0 where
+    pub kind : Answers op (o .answer)
+    pub changed : Perm (trackedIn st (takenOut (keyFor op) (o .answer) ++ pairsAfterStep g o))
+        (trackedIn st (broughtIn (keyFor op) (valueAsked op) (o .answer) ++ pairsIn s tree))
+
+  -- No node is lost, of the pairs left in the end: the key and value pairs that waiting nodes and good slots hold are, with repeats, those before the
+  -- call where the closing round was a fetch round; where it was a put round they are those after the step, which loses none either.
+  pub record NoneLost (st : Structure) (op : Op st) (left : List Pair) : Type 0 where
     pub comes-to : ComesTo st op
-    pub in-fetch : (m : ℕ) (g : Going) → fetching st op ≡ shut m g
-        → Perm (pairsIn s tree) (pairsIn (called s tree ticket tape trace .state) (called s tree ticket tape trace .tree))
-    pub in-put : (g : Going) (o : Outcome ℕ) → fetching st op ≡ on g (done o)
-        → Perm (map pairOf (contents leafFormat (s .size) (g .tree) ++ join leafFormat (o .nodes) (g .waiting)))
-        (pairsIn (called s tree ticket tape trace .state) (called s tree ticket tape trace .tree))
+    pub in-fetch : (m : ℕ) (g : Going) → fetching st op ≡ shut m g → Perm (pairsIn s tree) left
+    pub in-step : (g : Going) (o : Outcome ℕ) → fetching st op ≡ on g (done o) → StepKeeps st op g o
+    pub in-put : (g : Going) (o : Outcome ℕ) → fetching st op ≡ on g (done o) → Perm (pairsAfterStep g o) left
 
   pub record Demand1 : Type 0 where
     pub one-reply : OneReply
@@ -83,7 +97,7 @@ module _ (s : State) (tree ticket tape trace : List ℕ) where
     pub stays-closed : StaysClosed
     pub none-lost : Bytes tree → Bytes ticket → Widths s → (n : ℕ) → called s tree ticket tape trace .reply ≡ Refused n → (n ≡ 8) ⊎ (n ≡ 9)
         → (op : Op (structureOf (s .structure))) → opIn (structureOf (s .structure)) ticket ≡ some op
-        → NoneLost (structureOf (s .structure)) op
+        → NoneLost (structureOf (s .structure)) op (pairsIn (called s tree ticket tape trace .state) (called s tree ticket tape trace .tree))
 
 -- ---- demands 2 and 3: lists of calls from a good opening
 -- A node written to its slot reads back as that node, and no other slot bytes read as it.
@@ -156,7 +170,7 @@ module _ (st : Structure) (k : ℕ) where
   namesFor s bs = names (rounds st k) k (opsIn st (counted s bs))
 
   abbrev pub leafAt : Kept → List Brought → ℕ → ℕ
-  leafAt s bs place = leafOf k (tapesOf (counted s bs)) (getD (namesFor s bs) place origin.none)
+  leafAt s bs place = leafOf k (tapesOf (counted s bs)) (getD (namesFor s bs) place noDraw)
 
   pub record Demand3 (tree tree′ : List ℕ) (bs cs : List Brought) : Type 0 where
     pub traces : finally (openedStore st k tree) bs .state .mark ≡ 0 → finally (openedStore st k tree′) cs .state .mark ≡ 0
@@ -164,9 +178,12 @@ module _ (st : Structure) (k : ℕ) where
         → (traceOf (history (openedStore st k tree) bs) ≡ traceOf (history (openedStore st k tree′) cs))
         ↔ ((place : ℕ) → place < length (counted (openedStore st k tree) bs) * (2 * rounds st k)
         → leafAt (openedStore st k tree) bs place ≡ leafAt (openedStore st k tree′) cs place)
-    -- The names depend on the counted tickets alone; there is one for each place; none twice.
+    -- The rule sees tickets, never the tape: that is the type of `names`, which is given the counted tickets alone; so the same tickets have the same
+    -- names.
     pub by-tickets : opsIn st (counted (openedStore st k tree) bs) ≡ opsIn st (counted (openedStore st k tree′) cs)
         → namesFor (openedStore st k tree) bs ≡ namesFor (openedStore st k tree′) cs
+    -- One draw for each place: as many names as places, each a draw of a call that counts, which its tape has; none twice.
     pub one-each : finally (openedStore st k tree) bs .state .mark ≡ 0
         → length (namesFor (openedStore st k tree) bs) ≡ length (traceOf (history (openedStore st k tree) bs))
+    pub names-draws : All (DrawOnTape (draws st k) (tapesOf (counted (openedStore st k tree) bs))) (namesFor (openedStore st k tree) bs)
     pub none-twice : Distinct (namesFor (openedStore st k tree) bs)

@@ -128,7 +128,7 @@ module _ (s : State) (k : StateKept s) (low : s .ahead .key < 2 ^ 32) (few : s .
       go (unfit f q) = same q
       go (other-tree f q) = same q
       go (ill-brought n i q) = same q
-      go (counts fit sized op asked keyed q) =
+      go (counts fit sized op asked keyed long q) =
           let f = fit-state s fit in
           let l = leftBy (structureOf (s .structure)) s tree ticket tape trace op in
           let ends = left-ends fit sized op asked keyed in
@@ -156,7 +156,7 @@ module _ (s : State) (k : StateKept s) (low : s .ahead .key < 2 ^ 32) (few : s .
       go (unfit f q) = same q
       go (other-tree f q) = same q
       go (ill-brought n i q) = same q
-      go (counts fit sized op asked keyed q) =
+      go (counts fit sized op asked keyed long q) =
           let size = fit-state s fit .size in
           let most = rounds-most (structureOf (s .structure)) (s .size) (size .1) in
           subst⁻¹ (λ (x : Ended). x .leaves ≤ 66) q (omega (arith, ends-leaves (left-ends fit sized op asked keyed), most))

@@ -5,7 +5,7 @@ use mathlib.Core.List.{List, [], _++_, map, map-append}
 use mathlib.Core.Option.{some}
 use Prim.Native.Nat.{ℕ, suc, _+_, _*_, _≤_, _<_}
 use native.Mathlib.Omega.{arith}
-use lib.ListN.{length, getD, List·getD-map}
+use lib.ListN.{length, getD}
 use Rattle.list_spec.specs.Perm.{Perm, trans}
 use Rattle.list_laws.specs.PermLaws.{perm-of-eq, perm-map}
 use Rattle.list_spec.specs.Distinct.{Distinct, All}
@@ -21,15 +21,15 @@ use Rattle.method_spec.specs.Answer.{Structure, stack, heap, queue, Op}
 use Rattle.method_spec.specs.Plain.{Pair, Contents, nothing, plainContents, plainAnswers}
 use Rattle.method_spec.specs.Rounds.{rounds, draws}
 use Rattle.method_spec.specs.Call.{capacity, program, test, Memory, emptyMemory, run, Ran}
-use Rattle.method_spec.specs.Origin.{Origin, none, drawn, origins, names, leafOf, leafRun}
+use Rattle.method_spec.specs.Origin.{Origin, noDraw, drawn, origins, names, leafOf, leafRun}
 use Rattle.method_spec.specs.Safe.{Safe, Within}
 use Rattle.run_laws.specs.SafeLaws.{safe-map}
 use Rattle.run_laws.specs.Fetches.{keys, safe-distinct}
 use Rattle.run_laws.specs.Natural.{mapRan}
-use Rattle.run_laws.specs.Leaves.{run-mapped, leaves, leaves-revealed}
+use Rattle.run_laws.specs.Leaves.{run-mapped, leaves, leaves-revealed, leaf-getD}
 use Rattle.run_laws.specs.Answers.{run-answers, represents-keeps}
 use Rattle.run_laws.specs.Calls.{Keeps}
-use Rattle.run_laws.specs.Origins.{callOf, drawOf, drawn-of, OnTape, names-count, names-prefix, names-once, names-on-tapes, name-at}
+use Rattle.run_laws.specs.Origins.{OnTape, names-count, names-prefix, names-once, names-on-tapes, name-at}
 use Rattle.run_laws.specs.StackRepresents.{HoldsStack, chain-countdown, cells-counted, countdown}
 use Rattle.heap_laws.specs.HeapTree.{HoldsHeap}
 use Rattle.heap_laws.specs.HeapFacts.{heap-keys}
@@ -168,19 +168,20 @@ module _ {s : Structure} (k : ℕ) where
 
   -- The leaf revealed at each place is the leaf of the draw that the origin rule names there.
   pub leaf-at : (tapes : List (List ℕ)) (ops : List (Op s)) (place : ℕ)
-      → getD (leafRun (rounds s k) k tapes ops .revealed) place 0 ≡ leafOf k tapes (getD (names (rounds s k) k ops) place none)
-  unfolding leafOf
+      → getD (leafRun (rounds s k) k tapes ops .revealed) place 0 ≡ leafOf k tapes (getD (names (rounds s k) k ops) place noDraw)
   leaf-at tapes ops place =
-      rw (leaves-revealed (rounds s k) k tapes ops) (List·getD-map (leafOf k tapes) (names (rounds s k) k ops) place none)
+      rw (leaves-revealed (rounds s k) k tapes ops) (leaf-getD k tapes (names (rounds s k) k ops) place)
 
 -- ---- 5. Named once
 
 -- A draw of one of the calls 1 to n, where each call has so many.
-abbrev pub DrawOf : (count n : ℕ) → Origin → Type 0
-DrawOf count n o = (c : ℕ) × (d : ℕ) × (o ≡ drawn c d) × (1 ≤ c) × (c ≤ n) × (d < count)
+pub record DrawOf (count n : ℕ) (o : Origin) : Type 0 where
+  pub numbered : 1 ≤ o .call
+  pub of-the-list : o .call ≤ n
+  pub used : o .draw < count
 
 draw-of : (count n : ℕ) (o : Origin) → OnTape count 1 n o → DrawOf count n o
-draw-of count n o on = (callOf o, drawOf o, drawn-of o (on .0), on .0, omega arith, on .2)
+draw-of count n o on = record { numbered = on .0; of-the-list = omega arith; used = on .2 }
 
 module _ {s : Structure} (k : ℕ) where
   -- Each call names 2F draws, one for each of its places.
@@ -192,23 +193,23 @@ module _ {s : Structure} (k : ℕ) where
       → (more : List Origin) × (names (rounds s k) k (ops ++ later) ≡ names (rounds s k) k ops ++ more)
   names-in-order ops later = names-prefix (rounds s k) k ops later
 
-  keeps : Keeps s none (rounds s k) (capacity k) (λ m. (t : Contents s) × Held none s (capacity k) t m)
-  keeps = represents-keeps (represents none s k)
+  keeps : Keeps s noDraw (rounds s k) (capacity k) (λ m. (t : Contents s) × Held noDraw s (capacity k) t m)
+  keeps = represents-keeps (represents noDraw s k)
 
   -- No draw is named twice.
   pub named-once : (ops : List (Op s)) → Distinct (names (rounds s k) k ops)
-  named-once = names-once k keeps (nothing s, held-empty none s (capacity k))
+  named-once = names-once k keeps (nothing s, held-empty noDraw s (capacity k))
 
   -- Each name is a draw of a call of the list.
   pub named-draws : (ops : List (Op s)) → All (DrawOf (draws s k) (length ops)) (names (rounds s k) k ops)
   named-draws ops o i =
-      draw-of (draws s k) (length ops) o (names-on-tapes k keeps (nothing s, held-empty none s (capacity k)) ops o i)
+      draw-of (draws s k) (length ops) o (names-on-tapes k keeps (nothing s, held-empty noDraw s (capacity k)) ops o i)
 
   -- At the places of call c + 1, a draw of that call or of an earlier one.
   pub named-at : (ops : List (Op s)) (c j : ℕ) → c < length ops → j < 2 * rounds s k
-      → DrawOf (draws s k) (suc c) (getD (names (rounds s k) k ops) (c * (2 * rounds s k) + j) none)
+      → DrawOf (draws s k) (suc c) (getD (names (rounds s k) k ops) (c * (2 * rounds s k) + j) noDraw)
   named-at ops c j before place =
-      draw-of (draws s k) (suc c) _ (name-at k keeps (nothing s, held-empty none s (capacity k)) ops c j before place)
+      draw-of (draws s k) (suc c) _ (name-at k keeps (nothing s, held-empty noDraw s (capacity k)) ops c j before place)
 
   -- ---- 6. Tickets only
 

@@ -2,6 +2,7 @@ pub mod Node
 pub mod Prog
 pub mod Answer
 pub mod Plain
+pub mod Changes
 pub mod Map
 pub mod Stack
 pub mod Heap

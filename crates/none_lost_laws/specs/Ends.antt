@@ -19,7 +19,7 @@ use Rattle.round_spec.specs.Whole.{IsTree}
 use Rattle.leaf_spec.specs.Leaf.{ProperLeaf}
 use Rattle.leaf_laws.specs.Proper.{FitLink}
 use Rattle.none_lost_laws.specs.Given.{RootFor}
-use Rattle.none_lost_laws.specs.Changes.{keyIn, valueIn, takenOut, broughtIn, seenIn, Answers}
+use Rattle.method_spec.specs.Changes.{keyAsked, valueAsked, takenOut, broughtIn, trackedIn, Answers}
 use Rattle.none_lost_laws.specs.Sound.{entriesWith, placesFor}
 
 -- ---- before a call
@@ -46,7 +46,7 @@ entriesBefore k st = entriesWith k (st .tree) (st .waiting)
 
 -- The key that a ticket is about.
 abbrev pub keyOf : {s : Structure} → Op s → Store → ℕ
-keyOf op st = keyIn op (st .entries) (st .ahead .key) (st .root)
+keyOf op st = keyAsked op (st .entries) (st .ahead .key) (st .root)
 
 abbrev pub entriesLeft : ℕ → Left → List Pair
 entriesLeft k l = entriesWith k (l .tree) (l .waiting)
@@ -81,7 +81,7 @@ pub record Answered (shown : ℕ) (a : Answer) (l : Left) : Type 0 where
 -- The step changed the entries as its answer a says, and then the store was closed, or a was answered.
 pub record StepEnds {s : Structure} (k F : ℕ) (op : Op s) (st : Store) (a : Answer) (now : List Pair) (l : Left) : Type 0 where
   pub kind : Answers op a
-  pub changed : Perm (seenIn s (takenOut (keyOf op st) a ++ now)) (seenIn s (broughtIn (keyOf op st) (valueIn op) a ++ entriesBefore k st))
+  pub changed : Perm (trackedIn s (takenOut (keyOf op st) a ++ now)) (trackedIn s (broughtIn (keyOf op st) (valueAsked op) a ++ entriesBefore k st))
   pub keeps : Keeps k now l
   pub ended : Closed (2 * F) l ⊎ Answered (2 * F) a l
 

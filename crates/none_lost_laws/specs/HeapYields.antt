@@ -27,18 +27,19 @@ use Rattle.none_lost_laws.specs.Fitting.{LinkFits, NodeFits, link-more, 
 use Rattle.none_lost_laws.specs.Yields.{ends, asks, yields-pick, yields-then}
 use Rattle.none_lost_laws.specs.AtHand.{pairsOf}
 use Rattle.none_lost_laws.specs.Given.{Given, YieldsBy}
-use Rattle.none_lost_laws.specs.Changes.{keyIn, valueIn, takenOut, broughtIn, Answers, add-added, add-full, take-taken, take-empty, mostHigh, seen, seenIn, Made}
+use Rattle.method_spec.specs.Changes.{keyAsked, valueAsked, takenOut, broughtIn, Answers, add-added, add-full, take-taken, take-empty, tracked, trackedIn}
+use Rattle.none_lost_laws.specs.Changes.{mostHigh, Made}
 
 -- ---- numbers
 abbrev number : ℕ → Pair
 number v = record { key = 0; value = v }
 
 abbrev numbersOf : List (Node ℕ) → List Pair
-numbersOf ns = seenIn answer.heap (pairsOf ns)
+numbersOf ns = trackedIn answer.heap (pairsOf ns)
 
 numbers-append : (xs ys : List (Node ℕ)) → numbersOf (xs ++ ys) ≡ numbersOf xs ++ numbersOf ys
 numbers-append xs ys =
-    ap (seenIn answer.heap) (map-append pairOf xs ys) ∙ map-append (seen answer.heap) (pairsOf xs) (pairsOf ys)
+    ap (trackedIn answer.heap) (map-append pairOf xs ys) ∙ map-append (tracked answer.heap) (pairsOf xs) (pairsOf ys)
 
 -- A node with another link has its number.
 same-number : (s : Bool) (n : Node ℕ) (l : Link ℕ) → numbersOf (withChild s n l ∷ []) ≡ numbersOf (n ∷ [])
@@ -302,8 +303,8 @@ module _ (k h entries : ℕ) where
       }))
 
   pub heap-yields : (spares : ℕ → ℕ) (limit : ℕ) (a : Ahead ℕ) (l : Link ℕ) → spares 0 < 2 ^ k → LinkFits k h l → suc entries < 2 ^ 32 → (op : Op answer.heap) → OpFits op
-      → YieldsBy k (heapTest entries) (Made answer.heap k h (keyIn op entries (a .key) l) (valueIn op) (Answers op)) (program 0 op spares limit entries a l) []
-  unfolding program addProg takeProg keyIn valueIn takenOut broughtIn
+      → YieldsBy k (heapTest entries) (Made answer.heap k h (keyAsked op entries (a .key) l) (valueAsked op) (Answers op)) (program 0 op spares limit entries a l) []
+  unfolding program addProg takeProg keyAsked valueAsked takenOut broughtIn
   heap-yields spares limit a l leaf f small (answer.add value) fits =
       let new = newNode 0 value (spares 0) entries in
       let fn : NodeFits k b new = record { own = record { key = small; value = fits; tag = leaf }; left = absent-fits; right = absent-fits } in

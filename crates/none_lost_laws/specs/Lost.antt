@@ -34,7 +34,8 @@ use Rattle.bucket_call_spec.specs.Call.{fetchedBy, aheadThen, Store, putRounds,
 use Rattle.none_lost_laws.specs.Fitting.{LinkFits, link-of-fit}
 use Rattle.none_lost_laws.specs.Yields.{yields-done, yields-map, yields-both}
 use Rattle.leaf_spec.specs.Entries.{OpFits, KeyLeft}
-use Rattle.none_lost_laws.specs.Changes.{valueIn, Answers, takenOut, broughtIn, mostHigh, seenIn, Made}
+use Rattle.method_spec.specs.Changes.{valueAsked, Answers, takenOut, broughtIn, trackedIn}
+use Rattle.none_lost_laws.specs.Changes.{mostHigh, Made}
 use Rattle.none_lost_laws.specs.ProgramYields.{program-yields}
 use Rattle.none_lost_laws.specs.Present.{program-seeks}
 use Rattle.none_lost_laws.specs.Sound.{entriesWith, Sound, After, goes, closes}
@@ -69,7 +70,7 @@ entriesAfter k g o = entriesWith k (g .tree) (join leafFormat (o .nodes) (g .wai
 abbrev pub FetchEnds : {s : Structure} → (k n left : ℕ) → Op s → Store → Round (Outcome ℕ) → Type 0
 FetchEnds {s} k n left op st =
     After k (st .root) (entriesBefore k st) (0 + n)
-    (Fetching s (st .entries) k (st .root) (Made s k (highest s k) (keyOf op st) (valueIn op) (Answers op)) left)
+    (Fetching s (st .entries) k (st .root) (Made s k (highest s k) (keyOf op st) (valueAsked op) (Answers op)) left)
 
 -- Where a call stands after the step: the nodes of the outcome wait too, and none is held.
 pub record Stepping {s : Structure} (k F : ℕ) (op : Op s) (st : Store) (g : Going) (o : Outcome ℕ) : Type 0 where
@@ -78,7 +79,7 @@ pub record Stepping {s : Structure} (k F : ℕ) (op : Op s) (st : Store) (g : Go
   pub root : LinkFits k (suc (mostHigh (highest s k))) (o .root)
   pub leaves : length (g .leaves) ≡ F
   pub kind : Answers op (o .answer)
-  pub changed : Perm (seenIn s (takenOut (keyOf op st) (o .answer) ++ entriesAfter k g o)) (seenIn s (broughtIn (keyOf op st) (valueIn op) (o .answer) ++ entriesBefore k st))
+  pub changed : Perm (trackedIn s (takenOut (keyOf op st) (o .answer) ++ entriesAfter k g o)) (trackedIn s (broughtIn (keyOf op st) (valueAsked op) (o .answer) ++ entriesBefore k st))
 
 -- No program is left with a want where none is left to it.
 within-none : {A : Type 0} {t : Want ℕ → Node ℕ → Bool} {n : ℕ} {p : Prog ℕ A} → Within t n p → n ≡ 0 → (w : Want ℕ) (c : Node ℕ → Prog ℕ A) → p ≡ want w c → ⊥

@@ -26,7 +26,8 @@ use Rattle.leaf_spec.specs.Entries.{OpFits, pairOf}
 use Rattle.none_lost_laws.specs.AtHand.{AtHand, at-hand-perm, at-hand-given, at-hand-aside, at-hand-anew, at-hand-add}
 use Rattle.none_lost_laws.specs.Given.{YieldsBy, given-fits}
 use Rattle.none_lost_laws.specs.Rotations.{Raised, nodesOn, climbing, climb-yields, unwind-raised}
-use Rattle.none_lost_laws.specs.Changes.{keyIn, valueIn, takenOut, broughtIn, Answers, get-found, get-absent, put-replaced, put-new, put-full, remove-removed, remove-absent, mostHigh, Yielded}
+use Rattle.method_spec.specs.Changes.{keyAsked, valueAsked, takenOut, broughtIn, Answers, get-found, get-absent, put-replaced, put-new, put-full, remove-removed, remove-absent}
+use Rattle.none_lost_laws.specs.Changes.{mostHigh, Yielded}
 
 -- ---- the walk down
 -- Where a walk from a link of height h ended: all nodes given are on its path, which is no longer than that height.
@@ -181,8 +182,8 @@ module _ {k h : ℕ} (spares : ℕ → ℕ) (limit entries : ℕ) (a : Ahead ℕ
   walked key = walk-yields key (l .height) (start l) [] (omega arith) f (record { fit = all-nil (NodeFits k h); whole = perm-refl [] })
 
   pub map-yields : (op : Op answer.map) → OpFits op
-      → YieldsBy k mapTest (Yielded k h (keyIn op entries (a .key) l) (valueIn op) (Answers op)) (program 0 op spares limit entries a l) []
-  unfolding program getProg putProg removeProg keyIn valueIn
+      → YieldsBy k mapTest (Yielded k h (keyAsked op entries (a .key) l) (valueAsked op) (Answers op)) (program 0 op spares limit entries a l) []
+  unfolding program getProg putProg removeProg keyAsked valueAsked
   map-yields (answer.get key) fits = yields-then _ (walked key) (λ s given a. ends (getStep-yields 0 entries a))
   map-yields (answer.put key value) fits =
       yields-then _ (walked key) (λ s given a. putStep-yields value (spares 0) entries limit (fits .0) (fits .1) leaf a)

@@ -21,7 +21,8 @@ use Rattle.none_lost_laws.specs.Yields.{ends, asks, yields-map, yields-p
 use Rattle.none_lost_laws.specs.AtHand.{at-hand-none, at-hand-given, at-hand-aside, at-hand-add}
 use Rattle.none_lost_laws.specs.Given.{Given, YieldsBy}
 use Rattle.leaf_spec.specs.Entries.{OpFits, KeyLeft}
-use Rattle.none_lost_laws.specs.Changes.{keyIn, valueIn, takenOut, broughtIn, Answers, push-pushed, push-full, pop-popped, pop-empty, mostHigh, Yielded, Made, yielded-made}
+use Rattle.method_spec.specs.Changes.{keyAsked, valueAsked, takenOut, broughtIn, Answers, push-pushed, push-full, pop-popped, pop-empty}
+use Rattle.none_lost_laws.specs.Changes.{mostHigh, Yielded, Made, yielded-made}
 use Rattle.none_lost_laws.specs.MapYields.{map-yields}
 use Rattle.none_lost_laws.specs.HeapYields.{heap-yields}
 use Rattle.none_lost_laws.specs.QueueYields.{queue-yields}
@@ -46,8 +47,8 @@ popped-fits {k} {b} {w} {n} le got =
 
 module _ {k h : ℕ} (spares : ℕ → ℕ) (limit entries : ℕ) (a : Ahead ℕ) (l : Link ℕ) (leaf : spares 0 < 2 ^ k) (f : LinkFits k h l) where
   stack-yields : suc entries < 2 ^ 32 → (op : Op answer.stack) → OpFits op
-      → YieldsBy k stackTest (Yielded k h (keyIn op entries (a .key) l) (valueIn op) (Answers op)) (program 0 op spares limit entries a l) []
-  unfolding program pushProg popProg keyIn valueIn takenOut broughtIn
+      → YieldsBy k stackTest (Yielded k h (keyAsked op entries (a .key) l) (valueAsked op) (Answers op)) (program 0 op spares limit entries a l) []
+  unfolding program pushProg popProg keyAsked valueAsked takenOut broughtIn
   stack-yields small (answer.push value) fits =
       let n : Node ℕ = record { key = suc entries; value = value; tag = spares 0; left = l; right = absent 0 } in
       let fn : NodeFits k (mostHigh h) n =
@@ -75,7 +76,7 @@ module _ {k h : ℕ} (spares : ℕ → ℕ) (limit entries : ℕ) (a : Ahead ℕ
 -- There is a key for what is stored, the spare draws and the tag drawn ahead are leaves, and the root link is in order.
 pub program-yields : {s : Structure} {k h : ℕ} (op : Op s) (spares : ℕ → ℕ) (limit entries : ℕ) (a : Ahead ℕ) (l : Link ℕ)
     → OpFits op → KeyLeft op (a .key) → ((i : ℕ) → i < spare s → spares i < 2 ^ k) → a .tag < 2 ^ k → suc entries < 2 ^ 32 → LinkFits k h l
-    → YieldsBy k (test s entries) (Made s k h (keyIn op entries (a .key) l) (valueIn op) (Answers op)) (program 0 op spares limit entries a l) []
+    → YieldsBy k (test s entries) (Made s k h (keyAsked op entries (a .key) l) (valueAsked op) (Answers op)) (program 0 op spares limit entries a l) []
 unfolding test spare
 program-yields {s = answer.map} op spares limit entries a l fits key-left leaves ahead small f =
     yields-map (λ o held y. yielded-made answer.map y) (map-yields spares limit entries a l (leaves 0 (omega arith)) f op fits)

@@ -24,7 +24,8 @@ use Rattle.round_laws.specs.Room.{join-length}
 use Rattle.none_lost_laws.specs.Fitting.{fits-is-proper}
 use Rattle.leaf_spec.specs.Entries.{pairOf}
 use Rattle.none_lost_laws.specs.AtHand.{pairsOf, pairs-three}
-use Rattle.none_lost_laws.specs.Changes.{takenOut, broughtIn, mostHigh, seen, seenIn, Made}
+use Rattle.method_spec.specs.Changes.{takenOut, broughtIn, tracked, trackedIn}
+use Rattle.none_lost_laws.specs.Changes.{mostHigh, Made}
 use Rattle.none_lost_laws.specs.Sound.{nodesIn, entriesWith, Sound, After, goes, closes, idle-after}
 
 -- ---- the put rounds
@@ -56,8 +57,8 @@ module _ {k : ℕ} (draw : ℕ → ℕ) (leaves : (d : ℕ) → draw d < 2 ^ k) 
           → After k l all (length (h .leaves) + n) (Resting o) (putRounds k draw n (suc d) o h))
           → (x : Round (Outcome ℕ)) → idleRound k (draw d) (done o) g ≡ x → After k l all (suc (length (g .leaves))) (Resting o) x
           → After k l all (length (g .leaves) + suc n) (Resting o) (putRounds k draw (suc n) d o g)
-      go later x e (closes {m = m} {g = h} mark good room seen) = rw (puts-shut k draw n d o g m h e) (closes mark good room (omega arith))
-      go later x e (goes {g = h} {q = q} good room seen next) =
+      go later x e (closes {m = m} {g = h} mark good room tracked) = rw (puts-shut k draw n d o g m h e) (closes mark good room (omega arith))
+      go later x e (goes {g = h} {q = q} good room tracked next) =
           let same : length (g .leaves) + suc n ≡ length (h .leaves) + n = omega arith in
           rw (puts-on k draw n d o g q h e, same) (later h good (omega arith) (λ z. room) (next .none-held))
 
@@ -80,8 +81,8 @@ brought-one key value full = omega arith
 
 module _ {s : Structure} {k h key value : ℕ} {Kind : Answer → Type 0} {l : Link ℕ} {all : List Pair} {g : Going} (sound : Sound k l all g) (o : Outcome ℕ)
     (given : List (Node ℕ)) (same : Perm (nodesIn (g .held)) given) (out : Made s k h key value Kind o given) where
-  -- The entries after the step are those before it, as far as they are seen, but for what the answer says.
-  pub step-entries : Perm (seenIn s (takenOut key (o .answer) ++ entriesWith k (g .tree) (join leafFormat (o .nodes) (g .waiting)))) (seenIn s (broughtIn key value (o .answer) ++ all))
+  -- The entries after the step are those before it, as far as they are tracked, but for what the answer says.
+  pub step-entries : Perm (trackedIn s (takenOut key (o .answer) ++ entriesWith k (g .tree) (join leafFormat (o .nodes) (g .waiting)))) (trackedIn s (broughtIn key value (o .answer) ++ all))
   step-entries =
       let tree = contents leafFormat k (g .tree) in
       let less = takenOut key (o .answer) in
@@ -93,24 +94,24 @@ module _ {s : Structure} {k h key value : ℕ} {Kind : Answer → Type 0} {l : L
       rw (← pairs-three tree (g .waiting) given)
       (trans (perm-map pairOf (perm-append-left tree (perm-append-left (g .waiting) (perm-sym same)))) (perm-sym (sound .whole))) in
       let others = pairsOf tree ++ pairsOf (g .waiting) in
-      let kept : Perm (seenIn s ((less ++ pairsOf (o .nodes)) ++ others)) (seenIn s ((more ++ pairsOf given) ++ others)) =
-      rw (map-append (seen s) (less ++ pairsOf (o .nodes)) others, map-append (seen s) (more ++ pairsOf given) others)
-      (perm-append-right (seenIn s others) (out .whole)) in
-      trans (perm-map (seen s) (perm-append-left less now))
+      let kept : Perm (trackedIn s ((less ++ pairsOf (o .nodes)) ++ others)) (trackedIn s ((more ++ pairsOf given) ++ others)) =
+      rw (map-append (tracked s) (less ++ pairsOf (o .nodes)) others, map-append (tracked s) (more ++ pairsOf given) others)
+      (perm-append-right (trackedIn s others) (out .whole)) in
+      trans (perm-map (tracked s) (perm-append-left less now))
       (trans
-      (perm-map (seen s)
+      (perm-map (tracked s)
       (shuffle (less ∷ pairsOf tree ∷ pairsOf (o .nodes) ∷ pairsOf (g .waiting) ∷ []) (part 0 & (part 1 & (part 2 & part 3))) ((part 0 & part 2) & (part 1 & part 3)) refl))
       (trans kept
       (trans
-      (perm-map (seen s)
+      (perm-map (tracked s)
       (shuffle (more ∷ pairsOf given ∷ pairsOf tree ∷ pairsOf (g .waiting) ∷ []) ((part 0 & part 1) & (part 2 & part 3)) (part 0 & (part 2 & (part 3 & part 1))) refl))
-      (perm-map (seen s) (perm-append-left more before)))))
+      (perm-map (tracked s) (perm-append-left more before)))))
 
   pub step-total : total (stepped o g) ≤ total g + 1
   step-total =
       let a = perm-length (out .whole) in
-      let p = length-map (takenOut key (o .answer) ++ pairsOf (o .nodes)) (seen s) in
-      let q = length-map (broughtIn key value (o .answer) ++ pairsOf given) (seen s) in
+      let p = length-map (takenOut key (o .answer) ++ pairsOf (o .nodes)) (tracked s) in
+      let q = length-map (broughtIn key value (o .answer) ++ pairsOf given) (tracked s) in
       let b = length-append (takenOut key (o .answer)) (pairsOf (o .nodes)) in
       let c = length-append (broughtIn key value (o .answer)) (pairsOf given) in
       let d = brought-one key value (o .answer) in

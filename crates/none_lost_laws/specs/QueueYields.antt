@@ -18,7 +18,8 @@ use Rattle.none_lost_laws.specs.Fitting.{LinkFits, NodeFits, link-more, 
 use Rattle.none_lost_laws.specs.Yields.{ends, asks, yields-pick}
 use Rattle.none_lost_laws.specs.AtHand.{at-hand-none, at-hand-given, at-hand-aside, at-hand-add}
 use Rattle.none_lost_laws.specs.Given.{Given, YieldsBy}
-use Rattle.none_lost_laws.specs.Changes.{keyIn, valueIn, takenOut, broughtIn, Answers, enqueue-queued, enqueue-full, dequeue-dequeued, dequeue-empty, mostHigh, Yielded}
+use Rattle.method_spec.specs.Changes.{keyAsked, valueAsked, takenOut, broughtIn, Answers, enqueue-queued, enqueue-full, dequeue-dequeued, dequeue-empty}
+use Rattle.none_lost_laws.specs.Changes.{mostHigh, Yielded}
 
 -- The queue's test bounds a node's heights by 1.
 dequeued-fits : {k b : ℕ} {w : Want ℕ} {n : Node ℕ} → 1 ≤ b → Given k queueTest w n → NodeFits k b n
@@ -33,8 +34,8 @@ dequeued-fits {k} {b} {w} {n} le got =
 module _ {k h : ℕ} (spares : ℕ → ℕ) (limit entries : ℕ) (a : Ahead ℕ) (l : Link ℕ) (first : spares 0 < 2 ^ k) (second : spares 1 < 2 ^ k)
     (ahead : a .tag < 2 ^ k) (f : LinkFits k h l) where
   pub queue-yields : (op : Op answer.queue) → OpFits op → KeyLeft op (a .key)
-      → YieldsBy k queueTest (Yielded k h (keyIn op entries (a .key) l) (valueIn op) (Answers op)) (program 0 op spares limit entries a l) []
-  unfolding program enqueueProg dequeueProg keyIn valueIn takenOut broughtIn
+      → YieldsBy k queueTest (Yielded k h (keyAsked op entries (a .key) l) (valueAsked op) (Answers op)) (program 0 op spares limit entries a l) []
+  unfolding program enqueueProg dequeueProg keyAsked valueAsked takenOut broughtIn
   queue-yields (answer.enqueue value) fits key-left =
       let n = newest 0 value (spares 0) (spares 1) entries a in
       let tag : n .tag < 2 ^ k = either (λ t. t < 2 ^ k) (eqb entries 0) first ahead in

@@ -12,23 +12,10 @@ use Rattle.list_laws.specs.DistinctLaws.{all-nil, all-append, all-getD, distinc
 use Rattle.method_spec.specs.Answer.{Structure, Op}
 use Rattle.method_spec.specs.Rounds.{spare}
 use Rattle.method_spec.specs.Call.{Memory, capacity, emptyMemory, drawsFrom, Ran, run}
-use Rattle.method_spec.specs.Origin.{Origin, none, drawn, origins, names}
+use Rattle.method_spec.specs.Origin.{Origin, noDraw, drawn, origins, names}
 use Rattle.run_laws.specs.Calls.{ownDraws, allDraws, tagsOf, tags-empty, run-length, run-append, Keeps, keeps-run}
 
 -- ---- draws as origins
-
--- The call and the draw that a name says; calls are numbered from 1.
-abbrev pub callOf : Origin → ℕ
-callOf none = 0
-callOf (drawn c d) = c
-
-abbrev pub drawOf : Origin → ℕ
-drawOf none = 0
-drawOf (drawn c d) = d
-
-pub drawn-of : (o : Origin) → 1 ≤ callOf o → o ≡ drawn (callOf o) (drawOf o)
-drawn-of none h = let z : ⊥ = omega arith in absurd z
-drawn-of (drawn c d) h = refl
 
 pub draws-member : {T : Type 0} {t : T} (draw : ℕ → T) (n d : ℕ) → List·Memᴰ t (drawsFrom draw n d)
     → (e : ℕ) × (d ≤ e) × (e < d + n) × (t ≡ draw e)
@@ -45,19 +32,19 @@ origin-draws-distinct : (c n d : ℕ) → Distinct (drawsFrom (drawn c) n d)
 unfolding drawsFrom
 origin-draws-distinct c zero d = tt
 origin-draws-distinct c (suc n) d = (
-  λ m. let r = draws-member (drawn c) n (suc d) m in let e = ap drawOf (r .3) in omega arith,
+  λ m. let r = draws-member (drawn c) n (suc d) m in let e = ap (λ (o : Origin). o .draw) (r .3) in omega arith,
   origin-draws-distinct c n (suc d),
 )
 
 -- A draw of the tapes of n calls from call c, where each has so many draws.
 abbrev pub OnTape : (count c n : ℕ) → Origin → Type 0
-OnTape count c n o = (c ≤ callOf o) × (callOf o < c + n) × (drawOf o < count)
+OnTape count c n o = (c ≤ o .call) × (o .call < c + n) × (o .draw < count)
 
-own-draws : (count c : ℕ) → All (λ o. (callOf o ≡ c) × (drawOf o < count)) (ownDraws count (drawn c))
+own-draws : (count c : ℕ) → All (λ o. (o .call ≡ c) × (o .draw < count)) (ownDraws count (drawn c))
 own-draws count c o m =
     let r = draws-member (drawn c) count 0 m in
-    let d = ap drawOf (r .3) in
-    (ap callOf (r .3), omega arith)
+    let d = ap (λ (o : Origin). o .draw) (r .3) in
+    (ap (λ (o : Origin). o .call) (r .3), omega arith)
 
 all-draws : (count c n : ℕ) → All (OnTape count c n) (allDraws count drawn c n)
 unfolding allDraws
@@ -77,24 +64,24 @@ all-draws-distinct count c (suc n) =
 
 -- ---- any structure whose programs are safe
 
-module _ {s : Structure} {rounds limit : ℕ} {Inv : Memory Origin → Type 0} (keeps : Keeps s none rounds limit Inv)
+module _ {s : Structure} {rounds limit : ℕ} {Inv : Memory Origin → Type 0} (keeps : Keeps s noDraw rounds limit Inv)
     (c : ℕ) (ops : List (Op s)) (m : Memory Origin) (inv : Inv m) where
   -- The calls on a memory, numbered from c: what they show is a tag that waited, or one of their own draws; and so are the
   -- tags that wait afterwards.
   pub names-from : All (λ o. List·Memᴰ o (tagsOf s m) ⊎ OnTape (2 * rounds + spare s) c (length ops) o)
-      (run none rounds limit drawn c ops m .revealed ++ tagsOf s (run none rounds limit drawn c ops m .memory))
+      (run noDraw rounds limit drawn c ops m .revealed ++ tagsOf s (run noDraw rounds limit drawn c ops m .memory))
   names-from o i =
       let a = keeps-run keeps drawn c ops m inv .1 in
       ⊎-map (λ (k : List·Memᴰ o (tagsOf s m)). k) (all-draws (2 * rounds + spare s) c (length ops) o)
       (List·Memᴰ·append-cases (tagsOf s m) (perm-member (a .balanced) (Memᴰ·append-left (a .dropped) i)))
 
-  -- Where the tags that wait are distinct and of earlier calls, no name is shown twice, and none that was shown waits.
-  pub names-distinct : Distinct (tagsOf s m) → All (λ o. callOf o < c) (tagsOf s m)
-      → Distinct (run none rounds limit drawn c ops m .revealed ++ tagsOf s (run none rounds limit drawn c ops m .memory))
+  -- Where the tags that wait are distinct and of earlier calls, no name is shown twice, and noDraw that was shown waits.
+  pub names-distinct : Distinct (tagsOf s m) → All (λ o. o .call < c) (tagsOf s m)
+      → Distinct (run noDraw rounds limit drawn c ops m .revealed ++ tagsOf s (run noDraw rounds limit drawn c ops m .memory))
   names-distinct distinct earlier =
       let a = keeps-run keeps drawn c ops m inv .1 in
       distinct-left
-      (run none rounds limit drawn c ops m .revealed ++ tagsOf s (run none rounds limit drawn c ops m .memory))
+      (run noDraw rounds limit drawn c ops m .revealed ++ tagsOf s (run noDraw rounds limit drawn c ops m .memory))
       (a .dropped)
       (distinct-perm (perm-sym (a .balanced))
       (distinct-append (tagsOf s m) (allDraws (2 * rounds + spare s) drawn c (length ops)) distinct
@@ -106,34 +93,34 @@ module _ {s : Structure} {rounds limit : ℕ} {Inv : Memory Origin → Type 0} (
 -- One name for each place, whatever the structure.
 pub names-count : {s : Structure} (rounds size : ℕ) (ops : List (Op s)) → length (names rounds size ops) ≡ length ops * (2 * rounds)
 unfolding origins
-names-count rounds size ops = run-length none rounds (capacity size) drawn 1 ops (emptyMemory none)
+names-count rounds size ops = run-length noDraw rounds (capacity size) drawn 1 ops (emptyMemory noDraw)
 
 -- The names of the first calls do not depend on the later ones.
 pub names-prefix : {s : Structure} (rounds size : ℕ) (xs ys : List (Op s))
     → (later : List Origin) × (names rounds size (xs ++ ys) ≡ names rounds size xs ++ later)
 unfolding origins
 names-prefix rounds size xs ys =
-    (_, ap (λ (r : Ran Origin). r .revealed) (run-append none rounds (capacity size) drawn 1 xs ys (emptyMemory none)))
+    (_, ap (λ (r : Ran Origin). r .revealed) (run-append noDraw rounds (capacity size) drawn 1 xs ys (emptyMemory noDraw)))
 
 module _ {s : Structure} {rounds : ℕ} (size : ℕ) {Inv : Memory Origin → Type 0}
-    (keeps : Keeps s none rounds (capacity size) Inv) (inv : Inv (emptyMemory none)) where
+    (keeps : Keeps s noDraw rounds (capacity size) Inv) (inv : Inv (emptyMemory noDraw)) where
   -- No draw is named twice.
   pub names-once : (ops : List (Op s)) → Distinct (names rounds size ops)
   unfolding origins
   names-once ops =
       distinct-left (names rounds size ops) (tagsOf s (origins rounds size ops .memory))
-      (names-distinct keeps 1 ops (emptyMemory none) inv (rw (tags-empty s none) tt) (rw (tags-empty s none) (all-nil (λ o. callOf o < 1))))
+      (names-distinct keeps 1 ops (emptyMemory noDraw) inv (rw (tags-empty s noDraw) tt) (rw (tags-empty s noDraw) (all-nil (λ o. o .call < 1))))
 
   -- Each name is a draw of a call of the list.
   pub names-on-tapes : (ops : List (Op s)) → All (OnTape (2 * rounds + spare s) 1 (length ops)) (names rounds size ops)
   unfolding origins
   names-on-tapes ops o i =
       ⊎-elim {A = List·Memᴰ o []} {B = OnTape (2 * rounds + spare s) 1 (length ops) o} (λ k. absurd (List·Memᴰ·not-nil k)) (λ k. k)
-      (rw (tags-empty s none) at (names-from keeps 1 ops (emptyMemory none) inv o (Memᴰ·append-left _ i)))
+      (rw (tags-empty s noDraw) at (names-from keeps 1 ops (emptyMemory noDraw) inv o (Memᴰ·append-left _ i)))
 
   -- A name at a place of the call after the first k is a draw of that call or of an earlier one.
   pub name-at : (ops : List (Op s)) (k j : ℕ) → k < length ops → j < 2 * rounds
-      → OnTape (2 * rounds + spare s) 1 (suc k) (getD (names rounds size ops) (k * (2 * rounds) + j) none)
+      → OnTape (2 * rounds + spare s) 1 (suc k) (getD (names rounds size ops) (k * (2 * rounds) + j) noDraw)
   name-at ops k j before place =
       let first = take (suc k) ops in
       let split = names-prefix rounds size first (drop (suc k) ops) in
@@ -142,6 +129,6 @@ module _ {s : Structure} {rounds : ℕ} (size : ℕ) {Inv : Memory Origin → Ty
       let inside : k * (2 * rounds) + j < length (names rounds size first) = omega arith in
       let same : names rounds size ops ≡ names rounds size first ++ split .0 =
       ap (names rounds size) (sym (take-append-drop (suc k) ops)) ∙ split .1 in
-      let found = all-getD (names rounds size first) (names-on-tapes first) (k * (2 * rounds) + j) none inside in
-      rw (same, List·getD-append (names rounds size first) (split .0) none (k * (2 * rounds) + j) inside)
+      let found = all-getD (names rounds size first) (names-on-tapes first) (k * (2 * rounds) + j) noDraw inside in
+      rw (same, List·getD-append (names rounds size first) (split .0) noDraw (k * (2 * rounds) + j) inside)
       (found .0, omega arith, found .2)

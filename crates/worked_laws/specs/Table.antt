@@ -82,7 +82,7 @@ zeroToTwelve = 0 ∷ 1 ∷ 2 ∷ 3 ∷ 4 ∷ 5 ∷ 6 ∷ 7 ∷ 8 ∷ 9 ∷ 10 �
 
 -- The third place that the origin rule names for a list of two calls on a stack of size 2.
 abbrev third : List (Op stack) → Origin
-third ops = getD (names (rounds stack 2) 2 ops) 2 origin.none
+third ops = getD (names (rounds stack 2) 2 ops) 2 origin.noDraw
 
 -- A node's slot: key, value, tag, and links that are absent.
 abbrev lone : (key value tag : ℕ) → List ℕ

@@ -12,7 +12,7 @@ use lib.Dec.{eqb}
 use lib.Pow.{pow-pos}
 use lib.ListN.{length, getD, drop, length-append}
 use lib.Seq.{drop-at}
-use borrow.Author.Tests.{eqb-true, eq-eqb, ne-eqb}
+use borrow.Author.Tests.{eqb-true, eqb-false, eq-eqb, ne-eqb}
 use native.Mathlib.Nat.{mod-lt}
 use Rattle.list_spec.specs.Choice.{pick}
 use Rattle.list_spec.specs.Distinct.{All}
@@ -36,7 +36,12 @@ use Rattle.state_laws.specs.FetchingLaws.{rounds-most}
 use Rattle.fitness_laws.specs.FitState.{fit-state}
 use Rattle.fitness_laws.specs.FitStores.{fit-store}
 use Rattle.fitness_laws.specs.Tickets.{op-fits, key-left}
+use Rattle.call_spec.specs.declared.Reply.{Reply}
+use Rattle.call_spec.specs.declared.Reply.the-variants.{Answered, Refused}
 use Rattle.call_spec.specs.Store.{Ended, storeOf, refusing, called}
+use Rattle.call_peak_laws.specs.Theorems.{within-limit, overflow-waits}
+use Rattle.demand_spec.specs.History.{pairsIn}
+use Rattle.demand_laws.specs.Refusals.{same-number}
 use Rattle.readout_spec.specs.ReadOut.{readOut}
 use Rattle.lent_bytes_spec.specs.declared.StateHead.{StateHead}
 use Rattle.lent_bytes_spec.specs.Numbers.{numbersOf, numbersBytes}
@@ -161,6 +166,22 @@ module _ (s : State) (k : StateKept s) (low : s .ahead .key < 2 ^ 32) (few : s .
           let most = rounds-most (structureOf (s .structure)) (s .size) (size .1) in
           subst⁻¹ (λ (x : Ended). x .leaves ≤ 66) q (omega (arith, ends-leaves (left-ends fit sized op asked keyed), most))
 
+  -- The peak fits a byte.
+  pub called-peak : e .peak < 256
+  called-peak = by-reply (nine (e .reply))
+    where
+      nine : (r : Reply) → Dec (r ≡ Refused 9)
+      nine (Answered a) = no (λ q. let z : _≡_ {A = ℕ} 0 1 = cc in omega arith)
+      nine (Refused n) = by (eqb n 9) refl
+        where
+          by : (b : Bool) → eqb n 9 ≡ b → Dec (Refused n ≡ Refused 9)
+          by true q = yes (ap Refused (eqb-true n 9 q))
+          by false q = no (λ h. eqb-false n 9 q (same-number h))
+
+      by-reply : Dec (e .reply ≡ Refused 9) → e .peak < 256
+      by-reply (yes q) = omega (arith, overflow-waits s tree ticket tape trace q, called-left .count)
+      by-reply (no q) = omega (arith, within-limit s tree ticket tape trace q)
+
 -- ---- its bytes
 -- Numbers in bytes are read back modulo what their widths hold.
 abbrev cut : List ℕ → List ℕ → List ℕ
@@ -225,6 +246,10 @@ module _ (s : State) (k : LeftKept s) where
   reads-alike : stateIn bs ≡ alike (headIn bs)
   unfolding stateIn
   reads-alike = rw (mark-is, structure-is, size-is, count-is, places-are)
+
+  -- The pairs that it holds are those of the state.
+  pub same-pairs : (tree : List ℕ) → pairsIn (stateIn bs) tree ≡ pairsIn s tree
+  same-pairs tree = ap (λ (x : State). pairsIn x tree) reads-alike
 
   -- It is read out as the state is.
   pub reads-out : (tree out : List ℕ) → hostReadOut bs tree out ≡ readAs (readOut s tree out)

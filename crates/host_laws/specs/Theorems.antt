@@ -31,13 +31,13 @@ use Rattle.demand_spec.specs.Demands.{Demand1}
 use Rattle.demand_laws.specs.Checks.{Later}
 use Rattle.demand_laws.specs.Proved.{demand1}
 use Rattle.demand_laws.specs.Refusals.{same-number}
-use Rattle.call_peak_laws.specs.Theorems.{within-limit, overflow-waits}
 use Rattle.host_spec.specs.Result.{numberOf}
 use Rattle.host_spec.specs.Host.{HostEnded, hostLeaving, lengthsGood, endedAs, hostCalled, readAs, hostReadOut}
+use Rattle.promise_spec.specs.HostHistory.{changesNoByte}
 use Rattle.host_laws.specs.LengthLaws.{good-lengths}
 use Rattle.host_laws.specs.KeptStates.{grown, grown-kept}
 use Rattle.host_laws.specs.ClosedStates.{grown-whole}
-use Rattle.host_laws.specs.LeftStates.{LeftKept, called-left, called-shown, reads-out, stays-closed}
+use Rattle.host_laws.specs.LeftStates.{LeftKept, called-left, called-shown, called-peak, reads-out, stays-closed}
 
 -- ---- the byte state
 -- Every 3,248 bytes read as exactly one state, or as unfit.
@@ -60,10 +60,6 @@ none-as-one a b ba bb la lb s ea eb = go (one-or-unfit a) (one-or-unfit b)
     go (inr x) y = let z : _≡_ {A = ℕ} 0 1 = cc in absurd (omega arith)
 
 -- ---- the refusals
--- 1 to 7, 17 and 19, as for the existing call, and 18.
-abbrev pub changesNoByte : ℕ → Bool
-changesNoByte n = changesNothing n || eqb n 18
-
 module _ (state tree ticket tape trace result : List ℕ) (state-bytes : Bytes state) (trace-bytes : Bytes trace) where
   abbrev left : HostEnded
   left = hostCalled state tree ticket tape trace result
@@ -161,19 +157,7 @@ module _ (st : Structure) (k : ℕ) (positive : 1 ≤ k) (small : k ≤ 8) (tree
       pub result-says : (called s tree′ ticket tape trace .leaves < 256) × (called s tree′ ticket tape trace .peak < 256)
       result-says =
           let shown = called-shown s (facts .0 .0) (facts .1) (omega (arith, fit-state s (facts .0 .1) .few)) tree′ ticket tape trace tree-bytes ticket-bytes in
-          (omega (arith, shown), by-reply (nine (called s tree′ ticket tape trace .reply)))
-        where
-          nine : (r : Reply) → Dec (r ≡ Refused 9)
-          nine (Answered a) = no (λ q. let z : _≡_ {A = ℕ} 0 1 = cc in omega arith)
-          nine (Refused n) = by (eqb n 9) refl
-            where
-              by : (b : Bool) → eqb n 9 ≡ b → Dec (Refused n ≡ Refused 9)
-              by true q = yes (ap Refused (eqb-true n 9 q))
-              by false q = no (λ h. eqb-false n 9 q (same-number h))
-
-          by-reply : Dec (called s tree′ ticket tape trace .reply ≡ Refused 9) → called s tree′ ticket tape trace .peak < 256
-          by-reply (yes q) = omega (arith, overflow-waits s tree′ ticket tape trace q, left-kept .count)
-          by-reply (no q) = omega (arith, within-limit s tree′ ticket tape trace q)
+          (omega (arith, shown), called-peak s (facts .0 .0) (facts .1) (omega (arith, fit-state s (facts .0 .1) .few)) tree′ ticket tape trace tree-bytes ticket-bytes)
 
       -- Read out from its bytes it gives what it gives as a state.
       pub means-read-out : (tree″ out : List ℕ) → hostReadOut (stateBytes after) tree″ out ≡ readAs (readOut after tree″ out)

@@ -2,3 +2,4 @@ pub mod NumbersLaws
 pub mod HeadLaws
 pub mod PlaceLaws
 pub mod StateLaws
+pub mod KeptBytes

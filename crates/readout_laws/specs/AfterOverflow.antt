@@ -1,5 +1,5 @@
 -- Document 02, change 3: "After a 9 in a store that began fresh and that only its own calls changed, nothing is left out and the file
--- holds the contents before or after that call." The statement first, for every structure and size, then its proof.
+-- holds the contents before or after that call." The statement, for every structure and size, is `ReadsOut` (promise_spec).
 use Prim.Native.Nat.{ℕ, _≤_}
 use mathlib.Core.Path.{_≡_, refl, sym, _∙_, ap, subst, subst⁻¹}
 use mathlib.Core.Bool.{true}
@@ -30,43 +30,11 @@ use Rattle.demand_laws.specs.Proved.{demand2}
 use Rattle.readout_spec.specs.Taken.{Omitted, pairOfEntry, entries, report}
 use Rattle.readout_spec.specs.ReadOut.{Left, fileOf, writing, readOut}
 use Rattle.readout_spec.specs.ReadBack.{readBack}
+use Rattle.promise_spec.specs.ReadsOut.{closed, plainBefore, ReadsOut}
 use Rattle.readout_laws.specs.Whole.{whole-entries, whole-report}
 use Rattle.readout_laws.specs.InOrder.{valuesOf, oldest-first, keysOf, plain-ascends, entries-ascend, in-order-once}
 use Rattle.readout_laws.specs.BackLaws.{ranged-read-back}
 use Rattle.readout_laws.specs.LeftWhole.{Readable, left-readable}
-
--- ---- the statement
-
-module _ (st : Structure) (k : ℕ) (tree : List ℕ) (bs : List Brought) where
-  -- The store at the end, which the call that met 9 left.
-  abbrev pub closed : Kept
-  closed = finally (start st k tree bs) bs
-
-  -- What the plain machine held before that call.
-  abbrev pub plainBefore : Contents st
-  plainBefore = plainContents (capacity k) (asked st k tree bs) (nothing st)
-
-  -- The store is read out: nothing is left out, and the file's entries are what the plain machine held before the call b that met 9
-  -- where a fetch round closed the store, and what it holds after it where a put round did.
-  pub record ReadsOut : Type 0 where
-    pub b : Brought
-    pub after : List Brought
-    pub then-closed : bs ≡ before st k tree bs ++ (b ∷ after)
-    pub op : Op st
-    pub asks : opIn st (b .ticket) ≡ some op
-    pub overflow : callOn (left st k tree bs) b .reply ≡ Refused 9
-    pub written : (out : List ℕ) → length (fileOf (closed .state) (closed .tree)) ≤ length out
-        → readOut (closed .state) (closed .tree) out ≡ writing (fileOf (closed .state) (closed .tree)) out
-    pub nothing-left-out : report (closed .state) (closed .tree) ≡ []
-    pub contents : Remains (Entries st plainBefore) (Entries st (plain (capacity k) op plainBefore .contents))
-        (map pairOfEntry (entries (closed .state) (closed .tree)))
-        (fetching (left st k tree bs .state) (left st k tree bs .tree) (b .ticket) (b .tape) (b .trace) st op)
-    -- So a reader of the buffer and the returned length has these entries, and no line of a report.
-    pub reads-back : (out : List ℕ) → length (fileOf (closed .state) (closed .tree)) ≤ length out
-        → readBack (length (fileOf (closed .state) (closed .tree))) (readOut (closed .state) (closed .tree) out .out)
-        ≡ record { entries = map pairOfEntry (entries (closed .state) (closed .tree)); report = [] }
-
--- ---- the proof
 
 -- A closed store that can be read out is written into each buffer that has room.
 written-out : (s : State) (tree : List ℕ) → s .mark ≡ 9 → Readable s tree → (out : List ℕ) → length (fileOf s tree) ≤ length out

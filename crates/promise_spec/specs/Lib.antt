@@ -1,0 +1,3 @@
+pub mod ReadsOut
+pub mod HostHistory
+pub mod HostDemands

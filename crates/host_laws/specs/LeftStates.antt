@@ -9,14 +9,14 @@ use Prim.Native.Nat.{ℕ, zero, suc, _+_, _-_, _%_, _/_, _^_, _≤_, _<_}
 use native.Mathlib.Nat.{mod-eq-of-lt}
 use native.Mathlib.Omega.{arith}
 use lib.Dec.{eqb}
-use lib.Pow.{pow-pos}
-use lib.ListN.{length, getD, drop, length-append}
+use lib.Pow.{pow-pos, pow-mono}
+use lib.ListN.{length, getD, take, drop, length-append, take-append-drop}
 use lib.Seq.{drop-at}
 use borrow.Author.Tests.{eqb-true, eqb-false, eq-eqb, ne-eqb}
 use native.Mathlib.Nat.{mod-lt}
 use Rattle.list_spec.specs.Choice.{pick}
 use Rattle.list_spec.specs.Distinct.{All}
-use Rattle.list_laws.specs.DistinctLaws.{all-nil, all-cons}
+use Rattle.list_laws.specs.DistinctLaws.{all-nil, all-cons, all-append, all-right}
 use Rattle.slot_spec.specs.LittleEndian.{Bytes, bytes}
 use Rattle.slot_spec.specs.Layout.{fields, pack, Fit}
 use Rattle.slot_spec.specs.Slot.{fieldsOf, Ranged, noNode}
@@ -165,6 +165,26 @@ module _ (s : State) (k : StateKept s) (low : s .ahead .key < 2 ^ 32) (few : s .
           let size = fit-state s fit .size in
           let most = rounds-most (structureOf (s .structure)) (s .size) (size .1) in
           subst⁻¹ (λ (x : Ended). x .leaves ≤ 66) q (omega (arith, ends-leaves (left-ends fit sized op asked keyed), most))
+
+  -- The numbers of the trace buffer stay of 16 bits: leaves are below 2^k.
+  pub called-trace : All (λ (t : ℕ). t < 65536) trace → All (λ (t : ℕ). t < 65536) (e .trace)
+  called-trace low-trace = go (verdict (structureOf (s .structure)) s tree ticket tape trace refl)
+    where
+      same : {n : ℕ} → e ≡ refusing n s tree trace → All (λ (t : ℕ). t < 65536) (e .trace)
+      same q = subst⁻¹ (λ (x : Ended). All (λ (t : ℕ). t < 65536) (x .trace)) q low-trace
+
+      go : Verdict (structureOf (s .structure)) s tree ticket tape trace e → All (λ (t : ℕ). t < 65536) (e .trace)
+      go (closed m q) = same q
+      go (unfit f q) = same q
+      go (other-tree f q) = same q
+      go (ill-brought n i q) = same q
+      go (counts fit sized op asked keyed long q) =
+          let l = leftBy (structureOf (s .structure)) s tree ticket tape trace op in
+          let leaves = ends-kept (left-ends fit sized op asked keyed) .1 .leaves in
+          let p : 2 ^ s .size ≤ 2 ^ 8 = pow-mono {i = s .size} {j = 8} (omega (arith, fit-state s fit .size)) in
+          subst⁻¹ (λ (x : Ended). All (λ (t : ℕ). t < 65536) (x .trace)) q
+          (all-append {P = λ (t : ℕ). t < 65536} (l .leaves) (λ t m. let below = leaves t m in omega (arith, below, p))
+          (all-right {P = λ (t : ℕ). t < 65536} (take (length (l .leaves)) trace) (rw (take-append-drop (length (l .leaves)) trace) low-trace)))
 
   -- The peak fits a byte.
   pub called-peak : e .peak < 256

@@ -6,3 +6,4 @@ pub mod Theorems
 pub mod ByteCalls
 pub mod Runs
 pub mod FileRoom
+pub mod Proved

@@ -126,7 +126,7 @@ module _ (st : Structure) (k : ℕ) (positive : 1 ≤ k) (small : k ≤ 8) (tree
     facts : (StateKept s × (fits s ≡ true)) × (s .ahead .key < 2 ^ 32)
     facts = grown-kept st k positive small tree sized bs bytes open-still
 
-    fit-whole : fitBytes (stateBytes s) ≡ true
+    pub fit-whole : fitBytes (stateBytes s) ≡ true
     fit-whole = kept-fits s (facts .0 .0) (omega (arith, facts .1)) (facts .0 .1)
 
     -- While it is open, its bytes fit.

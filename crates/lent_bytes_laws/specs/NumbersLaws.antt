@@ -1,16 +1,18 @@
 -- Numbers of two bytes each: read one by one, read back as written, and cut.
 use mathlib.Core.Path.{_≡_, refl, sym, _∙_, ap, ap₂}
-use mathlib.Core.List.{List, [], _∷_, _++_, append-assoc, append-nil}
+use mathlib.Core.List.{List, [], _∷_, _++_, append-assoc, append-nil, List·Memᴰ·head, List·Memᴰ·tail}
 use Prim.Native.Nat.{ℕ, zero, suc, _+_, _-_, _*_, _/_, _%_, _≤_, _<_}
 use native.Mathlib.Nat.{suc-add}
 use native.Mathlib.Numerals.{add-one}
 use native.Mathlib.Omega.{arith}
 use lib.ListN.{length, getD, take, drop, set, length-append, length-drop, length-take, take-append-drop}
 use lib.Seq.{take-suc, drop-cons, drop-drop, take-suc-set, take-at, drop-at, sets, sets-eq, length-sets, length-take-le}
+use Rattle.list_spec.specs.Distinct.{All}
+use Rattle.list_laws.specs.DistinctLaws.{all-nil, all-cons}
 use Rattle.slot_spec.specs.LittleEndian.{value, bytes, Bytes}
-use Rattle.slot_laws.specs.LittleEndianLaws.{length-bytes, bytes-value, value-read, bytes-take, bytes-drop}
+use Rattle.slot_laws.specs.LittleEndianLaws.{length-bytes, bytes-value, value-read, value-below, bytes-take, bytes-drop}
 use Rattle.slot_laws.specs.WordLaws.{sets-append}
-use Rattle.lent_bytes_spec.specs.Numbers.{numbersIn, numbersOf, numbersBytes}
+use Rattle.lent_bytes_spec.specs.Numbers.{numberLength, numbersIn, numbersOf, numbersBytes}
 
 -- ---- reading, one number after another
 pub value-two : (s : List ℕ) (at : ℕ) → at + 2 ≤ length s → value (take 2 (drop at s)) ≡ getD s at 0 + 256 * getD s (at + 1) 0
@@ -137,3 +139,23 @@ numbers-left bs ns room low =
     ∙ ap₂ numbersIn (sym whole) written
     ∙ numbers-read ns m (drop (2 * n) bs) low
     ∙ ap (λ (x : List ℕ). ns ++ x) (sym (numbers-drop n m bs) ∙ ap (λ (k : ℕ). drop n (numbersIn k bs)) whole)
+
+-- Numbers read from bytes are of 16 bits, and such numbers are read back as written.
+pub numbers-low : (n : ℕ) (bs : List ℕ) → Bytes bs → 2 * n ≤ length bs → All (λ (t : ℕ). t < 65536) (numbersIn n bs)
+unfolding numbersIn
+numbers-low zero bs b long = all-nil (λ (t : ℕ). t < 65536)
+numbers-low (suc n) bs b long =
+    let l : length (take 2 bs) ≡ 2 = length-take-le 2 bs (omega arith) in
+    all-cons {P = λ (t : ℕ). t < 65536} (rw l at (value-below (take 2 bs) (bytes-take 2 bs b)))
+    (numbers-low n (drop 2 bs) (bytes-drop 2 bs b) (simp length-drop (omega arith)))
+
+low-at : (ns : List ℕ) → All (λ (t : ℕ). t < 65536) ns → (i : ℕ) → getD ns i 0 < 65536
+low-at [] low i = omega arith
+low-at (n ∷ ns) low zero = low n (List·Memᴰ·head refl)
+low-at (n ∷ ns) low (suc i) = low-at ns (λ t m. low t (List·Memᴰ·tail m)) i
+
+pub numbers-back : (ns : List ℕ) → All (λ (t : ℕ). t < 65536) ns → numbersOf (numbersBytes ns) ≡ ns
+unfolding numbersIn
+numbers-back ns low =
+    let half : length (numbersBytes ns) / numberLength ≡ length ns + 0 = omega (arith, numbers-bytes-length ns) in
+    ap₂ numbersIn half (sym (append-nil (numbersBytes ns))) ∙ numbers-read ns 0 [] (low-at ns low) ∙ append-nil ns

@@ -117,8 +117,8 @@ module _ (st : Structure) (k : ℕ) (state tree : List ℕ) (cs : List HostBroug
 
   -- No call closed the store, or the one after those before it did.
   pub data HostEnding : Type 0 where
-    stays-open : hostBefore ≡ cs → markIn (hostEnd .state) ≡ 0 → HostEnding
-    closes : (c : HostBrought) (after : List HostBrought) → cs ≡ hostBefore ++ (c ∷ after) → markIn (hostEnd .state) ≡ 9
+    host-stays-open : hostBefore ≡ cs → markIn (hostEnd .state) ≡ 0 → HostEnding
+    host-closes : (c : HostBrought) (after : List HostBrought) → cs ≡ hostBefore ++ (c ∷ after) → markIn (hostEnd .state) ≡ 9
         → HostClosedBy st k hostLeft (hostMethod st k (hostStart st k state tree) hostBefore .memory) hostHolds c → HostEnding
 
   pub record HostDemand2 : Type 0 where

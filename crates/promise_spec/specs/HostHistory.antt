@@ -1,6 +1,7 @@
 -- Lists of calls from a C host, each on the bytes that the last one left, whatever the lengths of what they lend: as `History` (demand_spec) has them
 -- for states.
 use Prim.Native.Nat.{ℕ}
+use mathlib.Core.Path.{_≡_}
 use mathlib.Core.Bool.{Bool, _&&_, _||_}
 use mathlib.Core.List.{List, [], _∷_, _++_, map}
 use lib.Dec.{eqb, ltb}
@@ -13,7 +14,7 @@ use Rattle.lent_bytes_spec.specs.Numbers.{numbersOf}
 use Rattle.lent_bytes_spec.specs.StateBytes.{stateLength, headIn, stateBytes}
 use Rattle.host_spec.specs.Result.{numberOf, valueOf}
 use Rattle.host_spec.specs.Host.{HostEnded, lengthsGood, hostLeaving, endedAs, hostCalled}
-use Rattle.demand_spec.specs.History.{Brought, Kept, callOn, leftBy, changesNothing}
+use Rattle.demand_spec.specs.History.{Brought, Kept, callOn, leftBy, history, finally, untilClosed, changesNothing, counted, replies, traceOf}
 
 -- What a C host brings with a call; and, read as numbers, what the existing call brings.
 pub record HostBrought : Type 0 where
@@ -118,3 +119,13 @@ hostOutcomes s (b ∷ bs) =
     pick (lengthsPass b)
     (endedAs (b .result) (callOn s (broughtBy b)) ∷ hostOutcomes (leftBy (callOn s (broughtBy b))) bs)
     (hostLeaving 18 (stateBytes (s .state)) (s .tree) (b .trace) (b .result) ∷ hostOutcomes s bs)
+
+-- A list of calls from C on a byte store is the list of existing calls that were heard, on a state and its tree: every number and every lent byte; the
+-- store at the end; and, of the calls that count, the replies and the trace.
+pub record HostAs (h : HostStore) (s : Kept) (bs : List HostBrought) : Type 0 where
+  pub outcomes : hostHistory h bs ≡ hostOutcomes s bs
+  pub end : hostFinally h bs ≡ bytesOf (finally s (heard bs))
+  pub until : heard (hostUntilClosed h bs) ≡ untilClosed s (heard bs)
+  pub counts : map broughtBy (hostCounted h bs) ≡ counted s (heard bs)
+  pub answers : hostReplies (hostHistory h bs) ≡ map hostReplyOf (replies (history s (heard bs)))
+  pub trace : hostTraceOf (hostHistory h bs) ≡ traceOf (history s (heard bs))

@@ -1,6 +1,6 @@
 -- The keys and widths of a fit state, and the open states that a good opening and calls leave: bytes say all of them.
 use mathlib.Core.Path.{_≡_, refl, sym, _∙_, subst, subst⁻¹}
-use mathlib.Core.Bool.{Bool, true, false, _&&_, and-eq-true-iff}
+use mathlib.Core.Bool.{Bool, true, false, not, _&&_, and-eq-true-iff}
 use mathlib.Core.List.{List, [], _∷_, map, List·Memᴰ·head, List·Memᴰ·tail}
 use Prim.Native.Nat.{ℕ, _+_, _-_, _^_, _≤_, _<_}
 use native.Mathlib.Omega.{arith}
@@ -29,6 +29,8 @@ use Rattle.simulation_laws.specs.HeldProper.{held-root}
 use Rattle.simulation_laws.specs.CallSim.{simulates-fits}
 use Rattle.state_spec.specs.declared.State.{State}
 use Rattle.state_spec.specs.Fit.{largestStructure, largestSize, inRange, zeroLink, places, noPlace, placesFit, rootGood, aheadGood, fits}
+use Rattle.state_spec.specs.Opening.{empty, closedWith, fresh, Opened, opened}
+use Rattle.state_laws.specs.FitLaws.{in-range-true}
 use Rattle.call_spec.specs.Store.{placed}
 use Rattle.lent_bytes_laws.specs.PlaceLaws.{full, AllKept, kept-append, kept-none}
 use Rattle.lent_bytes_laws.specs.StateLaws.{StateKept}
@@ -114,6 +116,45 @@ pub placed-sized : (ns : List (Node ℕ)) → length ns ≤ places → length (p
 placed-sized ns few =
     length-append (map holding ns) (replicate (places - length ns) noPlace)
     ∙ omega (arith, length-map ns holding, length-replicate (places - length ns) noPlace, few)
+
+-- ---- openings
+-- A state with no entries and none waiting, as an opening leaves it.
+empty-kept : (mark structure size : ℕ) → mark < 256 → structure < 256 → size < 256 → StateKept (empty mark structure size)
+empty-kept mark structure size m s k =
+    record {
+      head =
+          record {
+            mark = m;
+            structure = s;
+            size = k;
+            height = omega arith;
+            entries = omega arith;
+            waiting = omega arith;
+            key = either-low (eqb structure 4 && eqb 0 0) 0 0 (omega arith) (omega arith);
+            tag = omega arith;
+            ahead = omega arith;
+          };
+      sized = length-replicate places noPlace;
+      kept = kept-none places;
+      queue = λ q n. absurd (n refl);
+      empty-queue = λ q z. refl;
+      others = λ n. refl;
+    }
+
+pub opened-kept : (structure size : ℕ) (tree : List ℕ) → StateKept (opened structure size tree .state)
+unfolding opened
+opened-kept structure size tree = go (inRange structure largestStructure) refl (inRange size largestSize) refl (eqb (length tree) (treeLength size))
+  where
+    go : (a : Bool) → inRange structure largestStructure ≡ a → (b : Bool) → inRange size largestSize ≡ b → (c : Bool)
+        → StateKept
+        (pick {A = Opened} (not a) (record { state = closedWith 11; tree = tree })
+        (pick (not b) (record { state = closedWith 12; tree = tree })
+        (pick (not c) (record { state = closedWith 3; tree = tree }) (record { state = fresh structure size; tree = replicate (length tree) 0 }))) .state)
+    go false ea b eb c = empty-kept 11 0 0 (omega arith) (omega arith) (omega arith)
+    go true ea false eb c = empty-kept 12 0 0 (omega arith) (omega arith) (omega arith)
+    go true ea true eb false = empty-kept 3 0 0 (omega arith) (omega arith) (omega arith)
+    go true ea true eb true =
+        empty-kept 0 structure size (omega arith) (omega (arith, in-range-true structure largestStructure ea)) (omega (arith, in-range-true size largestSize eb))
 
 -- ---- the open states of a list of calls
 module _ (st : Structure) (k : ℕ) (positive : 1 ≤ k) (small : k ≤ 8) where

@@ -7,33 +7,41 @@ use Prim.Native.Nat.{ℕ, suc, _+_, _*_, _≤_, _<_}
 use native.Mathlib.Omega.{arith}
 use lib.Dec.{eqb}
 use lib.ListN.{length, length-append, length-map}
-use borrow.Author.Tests.{eqb-true, eqb-false}
+use borrow.Author.Tests.{eqb-false, eq-eqb}
 use Rattle.list_spec.specs.Choice.{pick}
 use Rattle.list_spec.specs.Distinct.{All}
 use Rattle.list_laws.specs.DistinctLaws.{all-nil, all-cons, all-left, all-right}
 use Rattle.slot_spec.specs.LittleEndian.{Bytes}
 use Rattle.slot_spec.specs.Tree.{treeLength}
 use Rattle.method_spec.specs.Answer.{Structure, Answer, Op}
-use Rattle.method_spec.specs.Plain.{Contents, plainContents, plainAnswers, nothing}
+use Rattle.method_spec.specs.Plain.{Contents, Entries, plain, plainContents, plainAnswers, nothing}
 use Rattle.method_spec.specs.Call.{capacity, Memory}
 use Rattle.method_spec.specs.Rounds.{rounds}
+use mathlib.Core.Option.{some}
 use Rattle.state_spec.specs.declared.State.{State}
+use Rattle.state_spec.specs.Ticket.{opIn}
+use Rattle.lent_bytes_laws.specs.StateLaws.{state-length}
 use Rattle.call_spec.specs.declared.Reply.{Reply}
 use Rattle.call_spec.specs.declared.Reply.the-variants.{Answered, Refused}
-use Rattle.call_spec.specs.Store.{Ended, replyOf, storeOf}
-use Rattle.bucket_call_spec.specs.Simulates.{Simulates}
+use Rattle.call_spec.specs.Store.{Ended, replyOf}
+use Rattle.readout_spec.specs.Taken.{pairOfEntry, entries}
+use Rattle.readout_spec.specs.ReadOut.{readOut}
+use Rattle.readout_laws.specs.AfterOverflow.{after-overflow}
+use Rattle.bucket_call_spec.specs.Simulates.{Remains}
 use Rattle.lent_bytes_spec.specs.StateBytes.{stateLength, stateIn, stateBytes, fitBytes}
 use Rattle.demand_spec.specs.History.{Brought, Kept, callOn, leftBy, history, finally, untilClosed, counted, replies, traceOf, opsIn, pairsIn}
-use Rattle.demand_spec.specs.Demands.{openedStore, before, method, Follows, ClosedBy, Ending, stays-open, closes, Demand2}
+use Rattle.demand_spec.specs.Demands.{fetching, openedStore, before, method, Follows, ClosedBy, Ending, stays-open, closes, Demand2}
 use Rattle.demand_laws.specs.SoundReplies.{Neither, Sound}
 use Rattle.demand_laws.specs.Fresh.{opened-empty}
 use Rattle.demand_laws.specs.OpenedRuns.{opened-runs}
 use Rattle.demand_laws.specs.UntilClosed.{before-open}
 use Rattle.demand_laws.specs.Proved.{demand2, demand3}
 use Rattle.host_spec.specs.Result as result
-use Rattle.host_spec.specs.Host.{HostEnded, HostOpened, hostLeaving, endedAs}
+use Rattle.host_spec.specs.Host.{HostEnded, HostOpened, hostLeaving, endedAs, readAs, hostReadOut}
 use Rattle.promise_spec.specs.HostHistory.{HostBrought, broughtBy, LentBytes, HostStore, bytesOf, markIn, hostCallOn, hostLeftBy, hostHistory, hostFinally, hostUntilClosed, hostCounted, hostReplyOf, hostReplies, hostTraceOf, lengthsPass, heard, hostOutcomes, HostAs}
-use Rattle.promise_spec.specs.HostDemands.{hostStart, hostBefore, hostLeft, hostEnd, hostAsked, hostMethod, hostHolds, HostFollows, HostClosedBy, HostEnding, host-stays-open, host-closes, HostDemand2, HostDemand3}
+use Rattle.promise_spec.specs.HostDemands.{hostStart, hostBefore, hostLeft, hostEnd, hostAsked, hostMethod, hostHolds, HostFollows, HostClosedBy, HostEnding, host-stays-open, host-closes, HostDemand2, HostReadsOut, HostDemand3}
+use Rattle.promise_spec.specs.ReadsOut.{ReadsOut}
+use Rattle.host_laws.specs.ClosedStates.{grown-whole}
 use Rattle.host_laws.specs.Theorems.{reads-back, fit-whole}
 use Rattle.host_laws.specs.LeftStates.{same-pairs}
 use Rattle.host_laws.specs.Runs.{Reads, quiet, tells, Fine, step-left, step, step-tells, step-eighteen, fine-mark, opens-as, host-run}
@@ -276,6 +284,70 @@ module _ (st : Structure) (k : ℕ) (positive : 1 ≤ k) (small : k ≤ 8) (stat
         ends = host-ends;
         never = rw (all-as .outcomes) (outcomes-sound s₀ cs (opened-runs st k positive small tree sized (heard cs) bytes .1 .0 .sound));
       }
+
+  -- ---- reading out after a 9
+  module _ (mark : markIn (hostEnd st k state tree cs .state) ≡ 9) where
+    abbrev s₉ : Kept
+    s₉ = finally s₀ (heard cs)
+
+    out-of : ReadsOut st k tree (heard cs)
+    out-of = after-overflow st k positive small tree sized (heard cs) bytes (sym end-mark ∙ mark)
+
+    closed-state : stateIn (hostEnd st k state tree cs .state) ≡ s₉ .state
+    closed-state = ap (λ (h : HostStore). stateIn (h .state)) (all-as .end) ∙ reads-back st k positive small tree sized (heard cs) bytes
+
+    closed-tree : hostEnd st k state tree cs .tree ≡ s₉ .tree
+    closed-tree = ap (λ (h : HostStore). h .tree) (all-as .end)
+
+    closed-long : length (hostEnd st k state tree cs .state) ≡ stateLength
+    closed-long =
+        ap (λ (h : HostStore). length (h .state)) (all-as .end)
+        ∙ state-length (s₉ .state) (grown-whole st k positive small tree sized (heard cs) bytes)
+
+    reads-as : (out : List ℕ) → hostReadOut (hostEnd st k state tree cs .state) (hostEnd st k state tree cs .tree) out ≡ readAs (readOut (s₉ .state) (s₉ .tree) out)
+    unfolding hostReadOut
+    reads-as out = rw (eq-eqb (length (hostEnd st k state tree cs .state)) stateLength closed-long, closed-state, closed-tree)
+
+    -- What the plain machine held before the call that met 9.
+    abbrev holds : List Brought → Contents st
+    holds ys = plainContents (capacity k) (opsIn st (counted s₀ ys)) (nothing st)
+
+    pub host-after-overflow : HostReadsOut st k state tree cs
+    host-after-overflow = go (split h₀ cs)
+      where
+        r : ReadsOut st k tree (heard cs)
+        r = out-of
+
+        go : Split h₀ cs ds → HostReadsOut st k state tree cs
+        go (whole e) =
+            absurd (not-longer xs (r .after) (r .b) (ap heard e ∙ r .then-closed ∙ ap (λ (ys : List Brought). ys ++ (r .b ∷ r .after)) same-before))
+        go (next c after e shut) =
+            let cut : r .b ≡ broughtBy c =
+            same-cut xs (r .after) (heard after) (ap (λ (ys : List Brought). ys ++ (r .b ∷ r .after)) (sym same-before) ∙ sym (r .then-closed) ∙ heard-so c after e shut) in
+            let nine : callOn (finally s₀ xs) (broughtBy c) .reply ≡ Refused 9 =
+            subst (λ (b : Brought). callOn (finally s₀ xs) b .reply ≡ Refused 9) cut
+            (of-before (λ ys. callOn (finally s₀ ys) (r .b) .reply ≡ Refused 9) (r .overflow)) in
+            let remains =
+            subst
+            (λ (b : Brought). Remains (Entries st (holds xs)) (Entries st (plain (capacity k) (r .op) (holds xs) .contents)) (map pairOfEntry (entries (s₉ .state) (s₉ .tree)))
+            (fetching (finally s₀ xs .state) (finally s₀ xs .tree) (b .ticket) (b .tape) (b .trace) st (r .op))) cut
+            (of-before
+            (λ ys. Remains (Entries st (holds ys)) (Entries st (plain (capacity k) (r .op) (holds ys) .contents)) (map pairOfEntry (entries (s₉ .state) (s₉ .tree)))
+            (fetching (finally s₀ ys .state) (finally s₀ ys .tree) (r .b .ticket) (r .b .tape) (r .b .trace) st (r .op))) (r .contents)) in
+            record {
+              c = c;
+              after = after;
+              then-closed = e;
+              op = r .op;
+              asks = subst (λ (b : Brought). opIn st (b .ticket) ≡ some (r .op)) cut (r .asks);
+              overflow = ap (λ (x : HostEnded). x .number) (ended-so c after e shut) ∙ ap result.numberOf nine;
+              written = λ out room.
+                  reads-as out ∙ rw (closed-state, closed-tree) (ap readAs (r .written out (rw (closed-state, closed-tree) at room)));
+              nothing-left-out = rw (closed-state, closed-tree) (r .nothing-left-out);
+              contents = rw (closed-state, closed-tree, state-read, ap (λ (h : HostStore). h .tree) (before-as .end), before-as .counts) remains;
+              reads-back = λ out room.
+                  rw (reads-as out, closed-state, closed-tree) (r .reads-back out (rw (closed-state, closed-tree) at room));
+            }
 
 -- ---- two lists
 module _ (st : Structure) (k : ℕ) (positive : 1 ≤ k) (small : k ≤ 8) (state state′ : List ℕ) (long : length state ≡ stateLength) (long′ : length state′ ≡ stateLength)

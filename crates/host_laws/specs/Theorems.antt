@@ -17,6 +17,7 @@ use Rattle.slot_spec.specs.Tree.{treeLength}
 use Rattle.method_spec.specs.Answer.{Structure}
 use Rattle.state_spec.specs.declared.State.{State}
 use Rattle.state_spec.specs.Fit.{fits}
+use Rattle.state_spec.specs.Opening.{opened}
 use Rattle.fitness_laws.specs.FitState.{fit-state}
 use Rattle.call_spec.specs.declared.Reply.{Reply}
 use Rattle.call_spec.specs.declared.Reply.the-variants.{Answered, Refused}
@@ -35,7 +36,7 @@ use Rattle.host_spec.specs.Result.{numberOf}
 use Rattle.host_spec.specs.Host.{HostEnded, hostLeaving, lengthsGood, endedAs, hostCalled, readAs, hostReadOut}
 use Rattle.promise_spec.specs.HostHistory.{changesNoByte}
 use Rattle.host_laws.specs.LengthLaws.{good-lengths}
-use Rattle.host_laws.specs.KeptStates.{grown, grown-kept}
+use Rattle.host_laws.specs.KeptStates.{opened-kept, grown, grown-kept}
 use Rattle.host_laws.specs.ClosedStates.{grown-whole}
 use Rattle.host_laws.specs.LeftStates.{LeftKept, called-left, called-shown, called-peak, reads-out, stays-closed}
 
@@ -111,6 +112,11 @@ module _ (state tree ticket tape trace result : List ℕ) (state-bytes : Bytes s
       go true ea false c ec h = ap (λ (m : ℕ). hostLeaving m state tree trace result) h
       go true ea true false ec h = ap (λ (m : ℕ). hostLeaving m state tree trace result) h
       go true ea true true ec h = refusal-ends n ea ec (quiet-refusal n some-number (e .reply) refl h quiet)
+
+-- ---- openings
+-- What an opening leaves reads back as written, whatever its structure, size and tree: also a state with mark 11, 12 or 3.
+pub opened-reads-back : (structure size : ℕ) (tree : List ℕ) → stateIn (stateBytes (opened structure size tree .state)) ≡ opened structure size tree .state
+opened-reads-back structure size tree = state-back (opened structure size tree .state) (opened-kept structure size tree)
 
 -- ---- calls on grown stores
 module _ (st : Structure) (k : ℕ) (positive : 1 ≤ k) (small : k ≤ 8) (tree : List ℕ) (sized : length tree ≡ treeLength k) (bs : List Brought)

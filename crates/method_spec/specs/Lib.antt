@@ -11,4 +11,5 @@ pub mod Rounds
 pub mod Call
 pub mod Origin
 pub mod Examples
+pub mod ChangeExamples
 pub mod Safe

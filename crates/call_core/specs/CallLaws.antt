@@ -7,7 +7,7 @@ use Prim.Native.Nat.{ℕ, suc, _+_, _*_, _^_, _≤_, _<_}
 use native.Mathlib.Nat.{add-zero}
 use native.Mathlib.Omega.{arith}
 use borrow.Author.Tests.{eq-eqb, ne-eqb, lt-ltb, le-ltb}
-use lib.ListN.{length, getD}
+use lib.ListN.{length, drop, getD}
 use lib.Pow.{pow-mono}
 use Rattle.list_spec.specs.Ascending.{ascending}
 use Rattle.list_spec.specs.Distinct.{All}
@@ -35,7 +35,7 @@ use Rattle.operation_spec.specs.declared.Op.{Op}
 use Rattle.operation_spec.specs.Method.{toOp, structureOf}
 use Rattle.tickets.specs.declared.Asked.the-variants.{Call, Unknown}
 use Rattle.tickets.specs.Asked.{fromOp, fromAsked, asked}
-use Rattle.call_spec.specs.Store.{refusing, storeOf, callWith, called}
+use Rattle.call_spec.specs.Store.{refusing, storeOf, byRounds, checks, firstMet, decided, called}
 use Rattle.fitness_laws.specs.FitState.{FitState, fit-state}
 use Rattle.fitness_laws.specs.FitStores.{fit-store}
 use Rattle.state_spec.specs.Widths.{LinkWidths, Widths}
@@ -145,34 +145,35 @@ pub record Checked (s : State) (op : Op) (F : ℕ) (tree ticket tape trace : Lis
 module _ (s : State) (tree ticket tape trace : List ℕ) where
   -- ---- the refusals, in document 01's order
   pub refused-1 : (s .mark ≡ 0 → ⊥) → called s tree ticket tape trace ≡ refusing 1 s tree trace
-  unfolding called
+  unfolding called checks firstMet decided
   refused-1 h = rw (ne-eqb (s .mark) 0 h)
 
   module _ (not-closed : s .mark ≡ 0) where
     pub refused-2 : fits s ≡ false → called s tree ticket tape trace ≡ refusing 2 s tree trace
-    unfolding called
+    unfolding called checks firstMet decided
     refused-2 h = rw (eq-eqb (s .mark) 0 not-closed, h)
 
     module _ (fit : fits s ≡ true) where
       pub refused-3 : (length tree ≡ treeLength (s .size) → ⊥) → called s tree ticket tape trace ≡ refusing 3 s tree trace
-      unfolding called
+      unfolding called checks firstMet decided
       refused-3 h = rw (eq-eqb (s .mark) 0 not-closed, fit, ne-eqb (length tree) (treeLength (s .size)) h)
 
       module _ (sized : length tree ≡ treeLength (s .size)) where
         pub refused-4 : (length ticket ≡ ticketLength → ⊥) → called s tree ticket tape trace ≡ refusing 4 s tree trace
-        unfolding called
+        unfolding called checks firstMet decided
         refused-4 h = rw (eq-eqb (s .mark) 0 not-closed, fit, eq-eqb (length tree) (treeLength (s .size)) sized, ne-eqb (length ticket) ticketLength h)
 
         module _ (whole : length ticket ≡ ticketLength) where
           abbrev st : Structure
           st = numbered (s .structure)
 
-          past : called s tree ticket tape trace ≡ callWith st s tree ticket tape trace (opIn st ticket)
-          unfolding called
+          -- The first four causes are not met.
+          past : called s tree ticket tape trace ≡ decided (λ n. refusing n s tree trace) (λ op. byRounds st op s tree tape trace) (firstMet (drop 4 (checks st s tree ticket tape trace (opIn st ticket)))) (opIn st ticket)
+          unfolding called checks firstMet
           past = rw (eq-eqb (s .mark) 0 not-closed, fit, eq-eqb (length tree) (treeLength (s .size)) sized, eq-eqb (length ticket) ticketLength whole)
 
           pub refused-5 : asked (s .structure) ticket ≡ Unknown → called s tree ticket tape trace ≡ refusing 5 s tree trace
-          unfolding callWith
+          unfolding checks firstMet decided
           refused-5 h = past ∙ rw (unknown-none (opIn st ticket) h)
 
           module _ (op : Op) (asks : asked (s .structure) ticket ≡ Call op) where
@@ -183,12 +184,12 @@ module _ (s : State) (tree ticket tape trace : List ℕ) where
             same-keys = sym (keys-back (a .asks) (s .ahead .key)) ∙ ap (λ (x : Op). outOfKeys (toOp x) (s .ahead .key)) (a .same)
 
             pub refused-19 : strayFields ticket ≡ true → called s tree ticket tape trace ≡ refusing 19 s tree trace
-            unfolding callWith
+            unfolding checks firstMet decided
             refused-19 h = past ∙ rw (a .is, h)
 
             module _ (clean : strayFields ticket ≡ false) where
               pub refused-17 : outOfKeys (toOp op) (s .ahead .key) ≡ true → called s tree ticket tape trace ≡ refusing 17 s tree trace
-              unfolding callWith
+              unfolding checks firstMet decided
               refused-17 h = past ∙ rw (a .is, clean, same-keys ∙ h)
 
               module _ (keys : outOfKeys (toOp op) (s .ahead .key) ≡ false) (F : ℕ) (rounds-are : F ≡ rounds st (s .size)) where
@@ -196,16 +197,16 @@ module _ (s : State) (tree ticket tape trace : List ℕ) where
                 has-key = same-keys ∙ keys
 
                 pub refused-6 : length tape < 2 * F + spareOf (s .structure) → called s tree ticket tape trace ≡ refusing 6 s tree trace
-                unfolding callWith
+                unfolding checks firstMet decided
                 refused-6 h = past ∙ rw (a .is, clean, has-key, ← rounds-are, lt-ltb (length tape) (2 * F + spareOf (s .structure)) h)
 
                 module _ (tape-long : 2 * F + spareOf (s .structure) ≤ length tape) where
                   pub refused-7 : length trace < 2 * F → called s tree ticket tape trace ≡ refusing 7 s tree trace
-                  unfolding callWith
+                  unfolding checks firstMet decided
                   refused-7 h = past ∙ rw (a .is, clean, has-key, ← rounds-are, le-ltb (length tape) (2 * F + spareOf (s .structure)) tape-long, lt-ltb (length trace) (2 * F) h)
 
                   pub goes-on : 2 * F ≤ length trace → called s tree ticket tape trace ≡ endingCall (s .structure) (s .size) trace F (toOp op) (drawOf (s .size) tape) (storeOf s tree)
-                  unfolding callWith
+                  unfolding checks firstMet decided
                   goes-on trace-long =
                       past
                       ∙ rw (a .is, clean, has-key, ← rounds-are, le-ltb (length tape) (2 * F + spareOf (s .structure)) tape-long, le-ltb (length trace) (2 * F) trace-long)

@@ -1,1 +1,2 @@
 pub mod Store
+pub mod Examples

@@ -1,7 +1,7 @@
 -- Calls: the outcome, the state, every byte of the tree and every number of the trace buffer.
 use Prim.Native.Nat.{ℕ, _+_, _-_, _*_}
-use mathlib.Core.Bool.{true, not}
-use mathlib.Core.List.{List, _++_, map}
+use mathlib.Core.Bool.{Bool, true, false, not}
+use mathlib.Core.List.{List, [], _∷_, _++_, map}
 use mathlib.Core.Option.{Option, none, some}
 use lib.Dec.{eqb, ltb}
 use lib.ListN.{length, drop, replicate}
@@ -95,22 +95,68 @@ ending s trace l peak =
       trace = l .leaves ++ drop (length (l .leaves)) trace;
     }
 
--- The calls of a structure, after the ticket's length: 5 kind, 19 unused fields, 17 keys, 6 tape, 7 trace, then the rounds.
-unfoldable pub callWith : (st : Structure) → State → (tree ticket tape trace : List ℕ) → Option (Op st) → Ended
-callWith st s tree ticket tape trace none = refusing 5 s tree trace
-callWith st s tree ticket tape trace (some op) =
-    pick (strayFields ticket) (refusing 19 s tree trace)
-    (pick (outOfKeys op (s .ahead .key)) (refusing 17 s tree trace)
-    (pick (ltb (length tape) (draws st (s .size))) (refusing 6 s tree trace)
-    (pick (ltb (length trace) (2 * rounds st (s .size))) (refusing 7 s tree trace)
-    (ending s trace (bucketCall (s .size) (rounds st (s .size)) op (drawOf (s .size) tape) (storeOf s tree))
-    (callPeak (s .size) (rounds st (s .size)) op (drawOf (s .size) tape) (storeOf s tree))))))
+-- What the rounds of an operation end in.
+abbrev pub byRounds : (st : Structure) → Op st → State → (tree tape trace : List ℕ) → Ended
+byRounds st op s tree tape trace =
+    ending s trace (bucketCall (s .size) (rounds st (s .size)) op (drawOf (s .size) tape) (storeOf s tree))
+    (callPeak (s .size) (rounds st (s .size)) op (drawOf (s .size) tape) (storeOf s tree))
 
--- One call: 1 closed mark, 2 unfit state, 3 tree length, 4 ticket length, then the structure's.
+-- ---- the causes of a refusal
+-- A cause: its number, and whether it is met.
+pub record Check : Type 0 where
+  pub number : ℕ
+  pub met : Bool
+
+abbrev pub cause : ℕ → Bool → Check
+cause n met = record { number = n; met = met }
+
+module _ {st : Structure} where
+  abbrev pub asksNothing : Option (Op st) → Bool
+  asksNothing none = true
+  asksNothing (some op) = false
+
+  abbrev pub lacksKey : Option (Op st) → (next : ℕ) → Bool
+  lacksKey none next = false
+  lacksKey (some op) next = outOfKeys op next
+
+-- Document 01's table, "Cause, in order of check | Number", with 19 and 17 where document 02 puts them; `asked` is what the ticket asks.
+unfoldable pub checks : (st : Structure) → State → (tree ticket tape trace : List ℕ) → (asked : Option (Op st)) → List Check
+checks st s tree ticket tape trace asked =
+    cause 1 (not (eqb (s .mark) 0))  -- closed mark
+    ∷ cause 2 (not (fits s))  -- state unfit
+    ∷ cause 3 (not (eqb (length tree) (treeLength (s .size))))  -- tree of another length
+    ∷ cause 4 (not (eqb (length ticket) ticketLength))  -- ticket not 13 bytes
+    ∷ cause 5 (asksNothing asked)  -- kind not one of the structure's
+    ∷ cause 19 (strayFields ticket)  -- an unused field is not zero
+    ∷ cause 17 (lacksKey asked (s .ahead .key))  -- an in, and no key is left
+    ∷ cause 6 (ltb (length tape) (draws st (s .size)))  -- tape under 2F + 1 numbers, a queue's under four
+    ∷ cause 7 (ltb (length trace) (2 * rounds st (s .size)))  -- trace buffer under 2F
+    ∷ []
+
+-- The number of the first cause that is met.
+unfoldable pub firstMet : List Check → Option ℕ
+firstMet [] = none
+firstMet (c ∷ cs) = pick (c .met) (some (c .number)) (firstMet cs)
+
+-- ---- one call
+module _ {R : Type 0} where
+  -- Refused with the first cause that is met, else ended by what the ticket asks. A ticket that asks nothing has met 5 before.
+  unfoldable pub decided : {st : Structure} → (refused : ℕ → R) → (ended : Op st → R) → (first : Option ℕ) → (asked : Option (Op st)) → R
+  decided refused ended (some n) asked = refused n
+  decided refused ended none none = refused 5
+  decided refused ended none (some op) = ended op
+
+  -- A call, by which of the checks it makes, what a refusal leaves and what an operation ends in.
+  abbrev pub calledBy : (which : List Check → List Check) → (refused : ℕ → State → (tree trace : List ℕ) → R)
+      → (ended : (st : Structure) → Op st → State → (tree tape trace : List ℕ) → R) → State → (tree ticket tape trace : List ℕ) → R
+  calledBy which refused ended s tree ticket tape trace =
+      let st = structureOf (s .structure) in
+      let asked = opIn st ticket in
+      decided (λ n. refused n s tree trace) (λ op. ended st op s tree tape trace) (firstMet (which (checks st s tree ticket tape trace asked))) asked
+
+abbrev pub every : List Check → List Check
+every cs = cs
+
+-- One call: all the checks, then the rounds.
 unfoldable pub called : State → (tree ticket tape trace : List ℕ) → Ended
-called s tree ticket tape trace =
-    pick (not (eqb (s .mark) 0)) (refusing 1 s tree trace)
-    (pick (not (fits s)) (refusing 2 s tree trace)
-    (pick (not (eqb (length tree) (treeLength (s .size)))) (refusing 3 s tree trace)
-    (pick (not (eqb (length ticket) ticketLength)) (refusing 4 s tree trace)
-    (callWith (structureOf (s .structure)) s tree ticket tape trace (opIn (structureOf (s .structure)) ticket)))))
+called s tree ticket tape trace = calledBy every refusing byRounds s tree ticket tape trace

@@ -1,15 +1,14 @@
--- Which check of a call fails, the first of them, or none: the chain of `called` taken apart once.
-use Prim.Native.Nat.{ℕ, _*_, _≤_}
+-- Which cause of a refusal a call meets first, or none: `checks` taken apart once.
+use Prim.Native.Nat.{ℕ, _≤_}
 use mathlib.Core.Path.{_≡_, refl}
-use mathlib.Core.Bool.{Bool, true, false, not}
+use mathlib.Core.Bool.{true, false}
 use mathlib.Core.Logic.{_⊎_, inl, inr}
 use mathlib.Core.List.{List}
-use mathlib.Core.Option.{Option, none, some}
-use lib.Dec.{eqb, ltb}
+use mathlib.Core.Option.{none, some}
+use lib.Dec.{eqb}
 use lib.ListN.{length}
 use native.Mathlib.Omega.{arith}
-use borrow.Author.Tests.{eqb-true, eqb-false, ltb-false, le-leb}
-use Rattle.list_spec.specs.Choice.{pick}
+use borrow.Author.Tests.{eqb-true, eqb-false, ltb-false, le-leb, not-true, not-false}
 use Rattle.slot_spec.specs.Tree.{treeLength}
 use Rattle.method_spec.specs.Answer.{Structure, Op}
 use Rattle.method_spec.specs.Rounds.{rounds, draws}
@@ -18,8 +17,10 @@ use Rattle.bucket_call_spec.specs.Call.{drawOf, bucketCall}
 use Rattle.bucket_call_spec.specs.Peak.{callPeak}
 use Rattle.state_spec.specs.declared.State.{State}
 use Rattle.state_spec.specs.Fit.{fits}
-use Rattle.state_spec.specs.Ticket.{ticketLength, opIn, structureOf, outOfKeys, strayFields}
-use Rattle.call_spec.specs.Store.{Ended, storeOf, refusing, ending, callWith, called}
+use Rattle.state_spec.specs.Ticket.{opIn, structureOf, outOfKeys}
+use Rattle.call_spec.specs.Store.{Ended, storeOf, refusing, ending, byRounds, Check, asksNothing, checks, firstMet, called}
+use Rattle.check_laws.specs.Causes.{OneOf, none-met, first-one}
+use Rattle.check_laws.specs.Decided.{decided-both}
 use Rattle.demand_spec.specs.History.{changesNothing}
 
 -- The refusals above 10 that change nothing: 17 and 19.
@@ -54,55 +55,39 @@ module _ (st : Structure) (s : State) (tree ticket tape trace : List ℕ) where
     counts : fits s ≡ true → length tree ≡ treeLength (s .size) → (op : Op st) → opIn st ticket ≡ some op
         → outOfKeys op (s .ahead .key) ≡ false → draws st (s .size) ≤ length tape → e ≡ ending s trace (leftBy op) (peakBy op) → Verdict e
 
-  -- ---- the checks of what the call brings
+  abbrev causes : List Check
+  causes = checks st s tree ticket tape trace (opIn st ticket)
 
-  module _ (fit : fits s ≡ true) (sized : length tree ≡ treeLength (s .size)) where
-    by-room : (op : Op st) → opIn st ticket ≡ some op → (strays gone short few : Bool) → outOfKeys op (s .ahead .key) ≡ gone
-        → ltb (length tape) (draws st (s .size)) ≡ short
-        → Verdict
-        (pick strays (refusing 19 s tree trace)
-        (pick gone (refusing 17 s tree trace)
-        (pick short (refusing 6 s tree trace) (pick few (refusing 7 s tree trace) (ending s trace (leftBy op) (peakBy op))))))
-    by-room op e true gone short few g h = ill-brought 19 (inr (inr refl)) refl
-    by-room op e false true short few g h = ill-brought 17 (inr (inl refl)) refl
-    by-room op e false false true few g h = ill-brought 6 (inl (omega arith, omega arith)) refl
-    by-room op e false false false true g h = ill-brought 7 (inl (omega arith, omega arith)) refl
-    by-room op e false false false false g h = counts fit sized op e g (omega (arith, ltb-false (length tape) (draws st (s .size)) h)) refl
+  asks : firstMet causes ≡ none → asksNothing (opIn st ticket) ≡ false
+  unfolding checks
+  asks none-is = none-met 5 causes none-is
 
-    by-kind : (o : Option (Op st)) → opIn st ticket ≡ o → Verdict (callWith st s tree ticket tape trace o)
-    unfolding callWith
-    by-kind none e = ill-brought 5 (inl (omega arith, omega arith)) refl
-    by-kind (some op) e =
-        by-room op e (strayFields ticket) (outOfKeys op (s .ahead .key)) (ltb (length tape) (draws st (s .size))) (ltb (length trace) (2 * rounds st (s .size))) refl refl
+  -- One clause for each cause, in their order.
+  by-cause : (n : ℕ) → OneOf n causes → Verdict (refusing n s tree trace)
+  unfolding checks
+  by-cause n (inl x) = rw (x .0) (closed (eqb-false (s .mark) 0 (not-true (eqb (s .mark) 0) (x .1))) refl)
+  by-cause n (inr (inl x)) = rw (x .0) (unfit (not-true (fits s) (x .1)) refl)
+  by-cause n (inr (inr (inl x))) =
+      rw (x .0) (other-tree (eqb-false (length tree) (treeLength (s .size)) (not-true (eqb (length tree) (treeLength (s .size))) (x .1))) refl)
+  by-cause n (inr (inr (inr (inl x)))) = ill-brought n (inl (omega arith, omega arith)) refl
+  by-cause n (inr (inr (inr (inr (inl x))))) = ill-brought n (inl (omega arith, omega arith)) refl
+  by-cause n (inr (inr (inr (inr (inr (inl x)))))) = ill-brought n (inr (inr (x .0))) refl
+  by-cause n (inr (inr (inr (inr (inr (inr (inl x))))))) = ill-brought n (inr (inl (x .0))) refl
+  by-cause n (inr (inr (inr (inr (inr (inr (inr (inl x)))))))) = ill-brought n (inl (omega arith, omega arith)) refl
+  by-cause n (inr (inr (inr (inr (inr (inr (inr (inr (inl x))))))))) = ill-brought n (inl (omega arith, omega arith)) refl
+  by-cause n (inr (inr (inr (inr (inr (inr (inr (inr (inr x))))))))) = absurd x
 
-    by-length : (same : Bool) → Verdict (pick (not same) (refusing 4 s tree trace) (callWith st s tree ticket tape trace (opIn st ticket)))
-    by-length true = by-kind (opIn st ticket) refl
-    by-length false = ill-brought 4 (inl (omega arith, omega arith)) refl
-
-  -- ---- the checks of the state and the tree
-
-  abbrev afterTree : Ended
-  afterTree =
-      pick (not (eqb (length ticket) ticketLength)) (refusing 4 s tree trace) (callWith st s tree ticket tape trace (opIn st ticket))
-
-  by-tree : fits s ≡ true → (same : Bool) → eqb (length tree) (treeLength (s .size)) ≡ same → Verdict (pick (not same) (refusing 3 s tree trace) afterTree)
-  by-tree fit true e =
-      by-length fit (eqb-true (length tree) (treeLength (s .size)) e) (eqb (length ticket) ticketLength)
-  by-tree fit false e = other-tree (eqb-false (length tree) (treeLength (s .size)) e) refl
-
-  abbrev afterFit : Ended
-  afterFit = pick (not (eqb (length tree) (treeLength (s .size)))) (refusing 3 s tree trace) afterTree
-
-  by-fit : (fit : Bool) → fits s ≡ fit → Verdict (pick (not fit) (refusing 2 s tree trace) afterFit)
-  by-fit true e = by-tree e (eqb (length tree) (treeLength (s .size))) refl
-  by-fit false e = unfit e refl
-
-  by-mark : (zero : Bool) → eqb (s .mark) 0 ≡ zero
-      → Verdict (pick (not zero) (refusing 1 s tree trace) (pick (not (fits s)) (refusing 2 s tree trace) afterFit))
-  by-mark true e = by-fit (fits s) refl
-  by-mark false e = closed (eqb-false (s .mark) 0 e) refl
+  by-rounds : (op : Op st) → firstMet causes ≡ none → opIn st ticket ≡ some op → Verdict (byRounds st op s tree tape trace)
+  unfolding checks
+  by-rounds op none-is asked =
+      counts (not-false (fits s) (none-met 2 causes none-is))
+      (eqb-true (length tree) (treeLength (s .size)) (not-false (eqb (length tree) (treeLength (s .size))) (none-met 3 causes none-is))) op asked
+      (rw asked at (none-met 17 causes none-is)) (ltb-false (length tape) (draws st (s .size)) (none-met 6 causes none-is)) refl
 
   -- The verdict on a call of a state of that structure.
   pub verdict : structureOf (s .structure) ≡ st → Verdict (called s tree ticket tape trace)
   unfolding called
-  verdict e = rw e (by-mark (eqb (s .mark) 0) refl)
+  verdict e =
+      rw e
+      (decided-both (λ (x y : Ended). Verdict x) {refused′ = λ n. refusing n s tree trace} {ended′ = λ op. byRounds st op s tree tape trace} (firstMet causes)
+      (opIn st ticket) asks (λ n first. by-cause n (first-one n causes first)) by-rounds)

@@ -13,7 +13,7 @@ use Rattle.bucket_call_spec.specs.Call.{drawOf}
 use Rattle.state_spec.specs.declared.State.{State}
 use Rattle.state_spec.specs.Ticket.{structureOf}
 use Rattle.call_spec.specs.declared.Reply.the-variants.{Refused}
-use Rattle.call_spec.specs.Store.{Ended, called, refusing, replied, replyOf, storeOf}
+use Rattle.call_spec.specs.Store.{Ended, called, refusing, replied, replyOf, storeOf, checks, firstMet, decided}
 use Rattle.demand_spec.specs.History.{changesNothing}
 use Rattle.demand_laws.specs.Marks.{Ends, closes, answers, Closing, call-ends}
 use Rattle.demand_laws.specs.Checks.{Later, Verdict, closed, unfit, other-tree, ill-brought, counts, leftBy, verdict}
@@ -112,7 +112,7 @@ module _ (s : State) (tree ticket tape trace : List ℕ) where
 
 -- A store whose mark is not 0 refuses with 1.
 pub refused-closed : (s : State) (tree ticket tape trace : List ℕ) → (s .mark ≡ 0 → ⊥) → called s tree ticket tape trace ≡ refusing 1 s tree trace
-unfolding called
+unfolding called checks firstMet decided
 refused-closed s tree ticket tape trace h = rw (ne-eqb (s .mark) 0 h)
 
 module _ (s : State) (tree ticket tape trace : List ℕ) where

@@ -1,12 +1,12 @@
--- What a ticket of bytes asks is within the widths of its fields; a ticket that is not refused for want of a key has one; a put has no unused field.
+-- What a ticket of bytes asks is within the widths of its fields; a ticket that is not refused for want of a key has one.
 use Prim.Native.Nat.{ℕ, _^_, _≤_, _<_}
-use mathlib.Core.Path.{_≡_, refl, subst}
+use mathlib.Core.Path.{_≡_, subst}
 use mathlib.Core.Bool.{Bool, true, false}
 use mathlib.Core.List.{List}
 use mathlib.Core.Option.{Option, none, some}
 use native.Mathlib.Nat.{pow-le-pow-right}
 use native.Mathlib.Omega.{arith}
-use borrow.Author.Tests.{eqb-true, eqb-false}
+use borrow.Author.Tests.{eqb-false}
 use lib.Dec.{eqb}
 use lib.ListN.{length, take, drop, length-take}
 use Rattle.list_spec.specs.Choice.{pick}
@@ -14,7 +14,7 @@ use Rattle.slot_spec.specs.LittleEndian.{value, Bytes}
 use Rattle.slot_laws.specs.LittleEndianLaws.{value-below, bytes-take, bytes-drop}
 use Rattle.method_spec.specs.Answer.{Structure, map, stack, heap, queue, Op, get, put, remove, push, pop, add, take as take-smallest, enqueue, dequeue}
 use Rattle.leaf_spec.specs.Entries.{OpFits, KeyLeft}
-use Rattle.state_spec.specs.Ticket.{kindIn, keyIn, valueIn, opIn, lastKey, outOfKeys, uses, strayFields}
+use Rattle.state_spec.specs.Ticket.{kindIn, keyIn, valueIn, opIn, lastKey, outOfKeys}
 
 -- A number in at most w bytes.
 value-fits : (w : ℕ) (bs : List ℕ) → Bytes bs → value (take w bs) < 256 ^ w
@@ -77,31 +77,3 @@ key-left (add value) next small e = tt
 key-left take-smallest next small e = tt
 key-left (enqueue value) next small e = let other = eqb-false next lastKey e in omega arith
 key-left dequeue next small e = tt
-
--- A put uses both fields.
-module _ (t : List ℕ) where
-  abbrev PutClean : {st : Structure} → Option (Op st) → Type 0
-  PutClean none = Unit {0}
-  PutClean (some (put key value)) = strayFields t ≡ false
-  PutClean (some (get key)) = Unit {0}
-  PutClean (some (remove key)) = Unit {0}
-  PutClean (some (push value)) = Unit {0}
-  PutClean (some pop) = Unit {0}
-  PutClean (some (add value)) = Unit {0}
-  PutClean (some take-smallest) = Unit {0}
-  PutClean (some (enqueue value)) = Unit {0}
-  PutClean (some dequeue) = Unit {0}
-
-  clean-put : PutClean (opIn map t)
-  unfolding opIn strayFields uses
-  clean-put = go (eqb (kindIn t) 1) (eqb (kindIn t) 2) refl (eqb (kindIn t) 3)
-    where
-      go : (a b : Bool) → eqb (kindIn t) 2 ≡ b → (c : Bool)
-          → PutClean {st = map} (pick a (some (get (keyIn t))) (pick b (some (put (keyIn t) (valueIn t))) (pick c (some (remove (keyIn t))) none)))
-      go true b e c = tt
-      go false true e c = rw (eqb-true (kindIn t) 2 e)
-      go false false e true = tt
-      go false false e false = tt
-
-  pub put-clean : (key value : ℕ) → opIn map t ≡ some (put key value) → strayFields t ≡ false
-  put-clean key value e = subst (PutClean {st = map}) e clean-put

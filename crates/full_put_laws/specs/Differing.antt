@@ -16,7 +16,7 @@ use Rattle.round_spec.specs.Format.{Format, Read, full, empty, bad}
 use Rattle.round_spec.specs.Round.{Chosen, allGood, insert, join, choose, taking, leaving}
 use Rattle.round_laws.specs.Readings.{all-good-full}
 use Rattle.round_laws.specs.Lists.{choose-full, choose-takes, choose-leaves}
-use Rattle.full_put_laws.specs.Apart.{Differ, here, there}
+use Rattle.promise_spec.specs.FullPut.{Differ, here, there}
 
 module _ {A : Type 0} {a b : A} where
   pub differ-after : (zs : List A) {xs ys : List A} → Differ a b xs ys → Differ a b (zs ++ xs) (zs ++ ys)

@@ -11,12 +11,11 @@ use Rattle.list_spec.specs.Distinct.{Distinct, All}
 use Rattle.slot_spec.specs.Slot.{bucketBytes}
 use Rattle.round_spec.specs.Format.{Format}
 use Rattle.round_spec.specs.Round.{Written, slotAt, choose, evict}
-use Rattle.round_spec.specs.Whole.{IsTree, Lawful}
-use Rattle.round_laws.specs.Paths.{InTree}
+use Rattle.round_spec.specs.Whole.{IsTree, Lawful, InTree}
 use Rattle.round_laws.specs.Places.{zeroSlot, slot-at-same, filled-length, filled-slot}
 use Rattle.round_laws.specs.Lists.{choose-few, choose-passes}
 use Rattle.round_laws.specs.Evict.{slots-sized, afterBucket, evict-none, evict-step, after-is-tree, after-other}
-use Rattle.full_put_laws.specs.Apart.{Differ, Apart, waits, stands}
+use Rattle.promise_spec.specs.FullPut.{Differ, Apart, waits, stands}
 use Rattle.full_put_laws.specs.Differing.{differ-member, map-differs, differ-place, choose-differs}
 use Rattle.full_put_laws.specs.Slots.{Agree, OneSlotOff, slots-same, bytes-apart}
 

@@ -1,19 +1,17 @@
--- A put of a present key on a full map, over buckets: what such a call is; that every other call is as it was, every byte; and that this one differs from the
+-- A put of a present key on a full map, over buckets: every other call is as it was, every byte; and that this one differs from the
 -- earlier one in the one value and the answer alone.
 use mathlib.Core.Path.{_≡_, refl, sym, _∙_, ap, ap₂, subst}
 use mathlib.Core.Bool.{Bool, true, false}
-use mathlib.Core.Logic.{_⊎_}
 use mathlib.Core.List.{List, [], _∷_}
-use mathlib.Core.Option.{Option, none, some}
+use mathlib.Core.Option.{none}
 use Prim.Native.Nat.{ℕ, max, _^_, _≤_, _<_}
 use native.Mathlib.Omega.{arith}
 use lib.Dec.{ltb}
 use Rattle.list_spec.specs.Choice.{pick}
 use Rattle.list_spec.specs.Largest.{largest}
-use Rattle.slot_spec.specs.Tree.{among}
 use Rattle.method_spec.specs.Node.{Link, Ahead, Node, withValue}
 use Rattle.method_spec.specs.Prog.{Prog, done}
-use Rattle.method_spec.specs.Answer.{Structure, map, Op, get, put, remove, push, pop, add, take, enqueue, dequeue, Answer, replaced, full}
+use Rattle.method_spec.specs.Answer.{Structure, map, Op, get, put, remove, push, pop, add, take, enqueue, dequeue, replaced, full}
 use Rattle.method_spec.specs.Map.{Outcome}
 use Rattle.method_spec.specs.Rounds.{rounds, spareDraw, putDraw}
 use Rattle.method_spec.specs.Call.{capacity, program}
@@ -23,57 +21,21 @@ use Rattle.round_spec.specs.Round.{join}
 use Rattle.round_spec.specs.Whole.{IsTree}
 use Rattle.leaf_spec.specs.Leaf.{leafFormat, ProperLeaf}
 use Rattle.leaf_spec.specs.Entries.{OpFits}
-use Rattle.bucket_call_spec.specs.Fetch.{Going, Left, heldKeys, movedLink, closing, Round, on, shut}
+use Rattle.bucket_call_spec.specs.Fetch.{Going, movedLink, closing, Round, on}
 use Rattle.bucket_call_spec.specs.Call.{Store, afterPuts, stepped, afterFetches, begun, programBy, fetchedBy, aheadThen, bucketCall}
-use Rattle.bucket_call_spec.specs.Peak.{roundsFrom, countsOf, peakOf, putsAfter, callPeak}
+use Rattle.bucket_call_spec.specs.Peak.{roundsFrom, peakOf, putsAfter, callPeak}
 use Rattle.peak_laws.specs.PeakLaws.{peak-append}
 use Rattle.none_lost_laws.specs.Fitting.{with-value-proper}
 use Rattle.none_lost_laws.specs.Sound.{nodesIn, goes}
 use Rattle.none_lost_laws.specs.Ends.{FitStore}
 use Rattle.none_lost_laws.specs.Lost.{FetchEnds, fetch-rounds, never-left-wanting}
-use Rattle.full_put_laws.specs.Apart.{Apart, waits}
 use Rattle.full_put_laws.specs.Differing.{insert-differs, join-differs}
-use Rattle.full_put_laws.specs.Earlier.{earlierPrograms, programWith, fetchedWith, bucketCallWith, peakWith}
+use Rattle.promise_spec.specs.AsBefore.{earlierPrograms, programWith, fetchedWith, bucketCallWith, peakWith}
+use Rattle.promise_spec.specs.FullPut.{holdsKey, fullPut, waits, ten-then-replaced, neither, OnlyValue}
 use Rattle.full_put_laws.specs.Peaks.{counts-together, counts-near}
 use Rattle.full_put_laws.specs.Together.{both-done, both-want, Together, both-shut, both-on, rounds-together}
 use Rattle.full_put_laws.specs.PutRounds.{Near, NearRounds, near-shut, near-on, puts-near}
 use Rattle.full_put_laws.specs.TwoPuts.{Compared, same, revalued, puts-both}
-
--- ---- definitions
--- A key is present where the call, after its fetch rounds, holds a node with it: the walk by key came to it.
-abbrev pub holdsKey : ℕ → Round (Outcome ℕ) → Bool
-holdsKey key (on g p) = among key (heldKeys g)
-holdsKey key (shut m g) = false
-
--- A put of a present key on a full map, by where the fetch rounds came to. Full is the state's entry count.
-unfoldable pub fullPut : {s : Structure} → (limit entries : ℕ) → Op s → Round (Outcome ℕ) → Bool
-fullPut limit entries (put key value) r = pick (ltb entries limit) false (holdsKey key r)
-fullPut limit entries (get key) r = false
-fullPut limit entries (remove key) r = false
-fullPut limit entries (push value) r = false
-fullPut limit entries pop r = false
-fullPut limit entries (add value) r = false
-fullPut limit entries take r = false
-fullPut limit entries (enqueue value) r = false
-fullPut limit entries dequeue r = false
-
--- The two answers, by the mark that both calls left: 10 became replaced with the old value; calls that closed the store have none.
-pub data TwoAnswers (old : ℕ) : (mark : ℕ) → (earlier now : Option Answer) → Type 0 where
-  ten-then-replaced : TwoAnswers old 0 (some full) (some (replaced old))
-  neither : {m : ℕ} → (m ≡ 8) ⊎ (m ≡ 9) → TwoAnswers old m none none
-
--- What the earlier call left and what the call leaves: the same mark, entries, root link and leaves, the same known ahead; the same nodes in the same
--- places, but that one node, which has the key, has the put's value.
-pub record OnlyValue (k key value : ℕ) (earlier now : Left) : Type 0 where
-  pub mark : now .mark ≡ earlier .mark
-  pub entries : now .entries ≡ earlier .entries
-  pub root : now .root ≡ earlier .root
-  pub ahead : now .ahead ≡ earlier .ahead
-  pub leaves : now .leaves ≡ earlier .leaves
-  pub node : Node ℕ
-  pub named : node .key ≡ key
-  pub apart : Apart leafFormat k node (withValue value node) (earlier .tree) (earlier .waiting) (now .tree) (now .waiting)
-  pub answers : TwoAnswers (node .value) (now .mark) (earlier .answer) (now .answer)
 
 -- ---- the fetch rounds
 module _ (k F key value : ℕ) (draw : ℕ → ℕ) (st : Store) where

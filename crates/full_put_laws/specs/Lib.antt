@@ -1,4 +1,3 @@
-pub mod Apart
 pub mod Differing
 pub mod Slots
 pub mod EvictApart
@@ -10,4 +9,3 @@ pub mod PutRounds
 pub mod Peaks
 pub mod FullPut
 pub mod Calls
-pub mod Examples

@@ -18,7 +18,7 @@ use Rattle.leaf_laws.specs.Proper.{leaves-lawful}
 use Rattle.bucket_call_spec.specs.Fetch.{Held, Going, heldKeys, revealing, written, tooMany, Round, on, shut, atClose, idleRound}
 use Rattle.bucket_call_spec.specs.Call.{putRounds}
 use Rattle.none_lost_laws.specs.Putting.{puts-shut, puts-on}
-use Rattle.full_put_laws.specs.Apart.{Apart}
+use Rattle.promise_spec.specs.FullPut.{Apart}
 use Rattle.full_put_laws.specs.RoundApart.{apart-length, BothRead, both-damaged, both-closed, round-apart}
 
 -- Two stores between two rounds: nothing is held, the same leaves were revealed, and of one node the one has a and the other b.

@@ -14,10 +14,10 @@ use Rattle.slot_spec.specs.Tree.{path, among}
 use Rattle.slot_laws.specs.TreeLaws.{among-member, member-among}
 use Rattle.round_spec.specs.Format.{Format, full}
 use Rattle.round_spec.specs.Round.{Hand, slotAt, noneTwice, allGood, keysOf, readBucket, readBuckets, join, granted, joined, grantedFrom, readHalf, writeHalf}
-use Rattle.round_spec.specs.Whole.{IsTree, Lawful}
-use Rattle.round_laws.specs.Paths.{InTree, path-in-tree, path-distinct}
+use Rattle.round_spec.specs.Whole.{IsTree, Lawful, InTree}
+use Rattle.round_laws.specs.Paths.{path-in-tree, path-distinct}
 use Rattle.round_laws.specs.Readings.{bucket-same, readings-same}
-use Rattle.full_put_laws.specs.Apart.{Differ, Apart, waits, stands}
+use Rattle.promise_spec.specs.FullPut.{Differ, Apart, waits, stands}
 use Rattle.full_put_laws.specs.Differing.{differ-after, differ-before, differ-length, map-same, firsts-differ, BothGood, both-bad, both-good, good-differs, join-differs, join-of-differing}
 use Rattle.full_put_laws.specs.Slots.{OneSlotOff, slot-off, slots-apart}
 use Rattle.full_put_laws.specs.EvictApart.{Midway, still-waits, stands-off, evict-apart}

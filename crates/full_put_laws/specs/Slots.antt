@@ -11,10 +11,9 @@ use lib.Seq.{drop-at, drop-drop, take-at, length-take-le}
 use Rattle.slot_spec.specs.Tree.{slotLength, bucketStart, treeLength, passes}
 use Rattle.round_spec.specs.Format.{Format}
 use Rattle.round_spec.specs.Round.{slotAt}
-use Rattle.round_spec.specs.Whole.{IsTree, Lawful}
-use Rattle.round_laws.specs.Paths.{InTree}
+use Rattle.round_spec.specs.Whole.{IsTree, Lawful, InTree}
 use Rattle.round_laws.specs.Places.{part-before, part-after, slot-fits}
-use Rattle.full_put_laws.specs.Apart.{OneSlot}
+use Rattle.promise_spec.specs.FullPut.{OneSlot}
 
 -- ---- lists by their parts
 abbrev partAt : ℕ → List ℕ → List ℕ

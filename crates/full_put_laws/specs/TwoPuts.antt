@@ -16,7 +16,7 @@ use Rattle.method_spec.specs.Map.{Outcome, Step, Sub, top, Spot, gap, hit, link
 use Rattle.bucket_call_spec.specs.Fetch.{Held}
 use Rattle.word_round_laws.specs.JoinLaws.{among-append}
 use Rattle.none_lost_laws.specs.Sound.{nodesIn}
-use Rattle.full_put_laws.specs.Earlier.{earlierPutStep, earlierPutProg}
+use Rattle.promise_spec.specs.AsBefore.{earlierPutStep, earlierPutProg}
 use Rattle.full_put_laws.specs.Together.{Both, both-done, both-want, both-same}
 
 -- ---- what upward over a path makes: the node at its end, and those passed, each with its new link

@@ -26,7 +26,8 @@ use Rattle.fitness_laws.specs.FitState.{fit-state}
 use Rattle.call_spec.specs.declared.Reply.{Reply}
 use Rattle.call_spec.specs.declared.Reply.the-variants.{Answered, Refused}
 use Rattle.call_spec.specs.Store.{Ended, called, storeOf}
-use Rattle.call_peak_laws.specs.Theorems.{Made, none-made, made, peak-is-largest}
+use Rattle.promise_spec.specs.Peaks.{Made, none-made, made}
+use Rattle.call_peak_laws.specs.Theorems.{peak-is-largest}
 use Rattle.lent_bytes_spec.specs.Numbers.{numbersOf}
 use Rattle.lent_bytes_spec.specs.StateBytes.{stateLength, headIn, stateIn, stateBytes, fitBytes}
 use Rattle.lent_bytes_laws.specs.StateLaws.{StateKept, fit-bytes}

@@ -38,7 +38,7 @@ use Rattle.fitness_laws.specs.FitStores.{fit-store}
 use Rattle.fitness_laws.specs.Tickets.{op-fits, key-left}
 use Rattle.call_spec.specs.declared.Reply.{Reply}
 use Rattle.call_spec.specs.declared.Reply.the-variants.{Answered, Refused}
-use Rattle.call_spec.specs.Store.{Ended, storeOf, refusing, called}
+use Rattle.call_spec.specs.Store.{Ended, storeOf, refusing, called, checks, firstMet, decided}
 use Rattle.call_peak_laws.specs.Theorems.{within-limit, overflow-waits}
 use Rattle.demand_spec.specs.History.{pairsIn}
 use Rattle.demand_laws.specs.Refusals.{same-number}
@@ -279,7 +279,7 @@ module _ (s : State) (k : LeftKept s) where
   -- A closed one answers every call as the state does.
   pub stays-closed : (s .mark ≡ 0 → ⊥) → (tree ticket tape trace result : List ℕ) → Bytes trace → lengthsGood stateLength (length tape) (length trace) (length result) ≡ true
       → hostCalled bs tree ticket tape trace result ≡ endedAs result (called s tree ticket (numbersOf tape) (numbersOf trace))
-  unfolding hostCalled called
+  unfolding hostCalled called checks firstMet decided
   stays-closed m tree ticket tape trace result b good =
       let marked : eqb (headIn bs .mark) 0 ≡ false = ap (λ (n : ℕ). eqb n 0) mark-is ∙ ne-eqb (s .mark) 0 m in
       let even = good-lengths stateLength (length tape) (length trace) (length result) good .trace-even in

@@ -6,6 +6,7 @@ use mathlib.Core.List.{List}
 use lib.Dec.{eqb}
 use lib.ListN.{length}
 use Rattle.list_spec.specs.Choice.{pick}
+use Rattle.state_spec.specs.declared.State.{State}
 use Rattle.state_spec.specs.Opening.{Opened, opened}
 use Rattle.call_spec.specs.Store.{Ended, called}
 use Rattle.readout_spec.specs.ReadOut as read
@@ -63,12 +64,15 @@ endedAs result e =
     }
 
 -- 18 lengths, 1 closed mark, 2 unfit bytes; then "each call means what the existing one means".
-unfoldable pub hostCalled : (state tree ticket tape trace result : List ℕ) → HostEnded
-hostCalled state tree ticket tape trace result =
+abbrev pub hostCalledBy : (existing : State → (tree ticket tape trace : List ℕ) → Ended) → (state tree ticket tape trace result : List ℕ) → HostEnded
+hostCalledBy existing state tree ticket tape trace result =
     pick (not (lengthsGood (length state) (length tape) (length trace) (length result))) (hostLeaving 18 state tree trace result)
     (pick (not (eqb (headIn state .mark) 0)) (hostLeaving 1 state tree trace result)
     (pick (not (fitBytes state)) (hostLeaving 2 state tree trace result)
-    (endedAs result (called (stateIn state) tree ticket (numbersOf tape) (numbersOf trace)))))
+    (endedAs result (existing (stateIn state) tree ticket (numbersOf tape) (numbersOf trace)))))
+
+unfoldable pub hostCalled : (state tree ticket tape trace result : List ℕ) → HostEnded
+hostCalled state tree ticket tape trace result = hostCalledBy called state tree ticket tape trace result
 
 -- ---- reading out
 -- Number and length apart: the length is 0 with every number but 0.

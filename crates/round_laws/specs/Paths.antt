@@ -13,11 +13,7 @@ use Rattle.list_laws.specs.PermLaws.{perm-refl, perm-sym, perm-remove, perm-mem
 use Rattle.list_spec.specs.Distinct.{Distinct, Disjoint, All}
 use Rattle.list_laws.specs.DistinctLaws.{all-nil, all-cons, all-append, distinct-perm, distinct-append, distinct-disjoint}
 use Rattle.slot_spec.specs.Tree.{halvings, path}
-use Rattle.round_spec.specs.Whole.{upTo, allBuckets}
-
--- A bucket of a tree of size k.
-abbrev pub InTree : ℕ → ℕ → Type 0
-InTree k b = (1 ≤ b) × (b < 2 ^ (k + 1))
+use Rattle.round_spec.specs.Whole.{upTo, allBuckets, InTree}
 
 -- ---- all buckets
 up-to-range : (n : ℕ) → All (λ b. (1 ≤ b) × (b ≤ n)) (upTo n)

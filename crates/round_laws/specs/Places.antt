@@ -13,8 +13,7 @@ use Rattle.slot_laws.specs.LittleEndianLaws.{bytes-take, bytes-drop, bytes-appe
 use Rattle.slot_spec.specs.Tree.{slotLength, bucketLength, bucketStart, treeLength}
 use Rattle.slot_spec.specs.Slot.{filled}
 use Rattle.round_spec.specs.Round.{slotAt, withBucket}
-use Rattle.round_spec.specs.Whole.{IsTree}
-use Rattle.round_laws.specs.Paths.{InTree}
+use Rattle.round_spec.specs.Whole.{IsTree, InTree}
 
 -- ---- parts of joined lists
 module _ {A : Type 0} where

@@ -16,8 +16,8 @@ use Rattle.slot_spec.specs.Tree.{path, passes, slotLength}
 use Rattle.slot_spec.specs.Slot.{bucketBytes}
 use Rattle.round_spec.specs.Format.{Format, Read, full, empty, bad}
 use Rattle.round_spec.specs.Round.{Wish, Hand, Chosen, Written, slotAt, withBucket, noneTwice, allGood, keysOf, readBucket, readBuckets, insert, join, takeFirst, tagged, granted, joined, grantedFrom, readHalf, taking, leaving, choose, evict, writeHalf}
-use Rattle.round_spec.specs.Whole.{goodOnes, listed, IsTree}
-use Rattle.round_laws.specs.Paths.{InTree, path-in-tree}
+use Rattle.round_spec.specs.Whole.{goodOnes, listed, IsTree, InTree}
+use Rattle.round_laws.specs.Paths.{path-in-tree}
 use Rattle.round_laws.specs.Places.{slot-length, slot-bytes}
 use Rattle.round_laws.specs.Readings.{good-member, all-good-full, all-good-says, bucket-readings, reading-of}
 use Rattle.round_laws.specs.Lists.{insert-perm, join-perm, take-perm, choose-takes, choose-leaves, choose-perm}

@@ -3,7 +3,7 @@ use mathlib.Core.Path.{_≡_}
 use mathlib.Core.Bool.{true}
 use mathlib.Core.List.{List, [], _∷_, _++_}
 use mathlib.Core.Option.{Option, none, some}
-use Prim.Native.Nat.{ℕ, zero, suc, _+_, _-_, _^_, _<_}
+use Prim.Native.Nat.{ℕ, zero, suc, _+_, _-_, _^_, _≤_, _<_}
 use lib.ListN.{length, replicate}
 use Rattle.list_spec.specs.Distinct.{Distinct, All}
 use Rattle.slot_spec.specs.LittleEndian.{Bytes}
@@ -19,6 +19,10 @@ upTo (suc n) = upTo n ++ (suc n ∷ [])
 
 abbrev pub allBuckets : ℕ → List ℕ
 allBuckets k = upTo (2 ^ (k + 1) - 1)
+
+-- A bucket of a tree of size k.
+abbrev pub InTree : ℕ → ℕ → Type 0
+InTree k b = (1 ≤ b) × (b < 2 ^ (k + 1))
 
 module _ {E : Type 0} where
   -- The elements that good slots hold; bad ones hold none.

@@ -1,16 +1,13 @@
 -- A call looks at no more of its tape than its draws, and at no more of its trace buffer than the length and what it writes.
 use mathlib.Core.Path.{_≡_, refl, ap}
-use mathlib.Core.Bool.{Bool, true, false, not}
+use mathlib.Core.Bool.{Bool, true, false}
 use mathlib.Core.List.{List, _++_}
-use mathlib.Core.Option.{Option, none, some}
 use Prim.Native.Nat.{ℕ, _*_, _^_, _%_, _≤_, min}
 use native.Mathlib.Omega.{arith}
 use borrow.Author.Tests.{ltb-true, ltb-false, lt-ltb, le-ltb}
-use lib.Dec.{eqb, ltb}
+use lib.Dec.{ltb}
 use lib.ListN.{length, take, drop, length-take, length-append, length-drop}
 use lib.Seq.{take-append-seam, getD-take}
-use Rattle.list_spec.specs.Choice.{pick}
-use Rattle.slot_spec.specs.Tree.{treeLength}
 use Rattle.method_spec.specs.Answer.{Structure, Op}
 use Rattle.method_spec.specs.Rounds.{rounds, draws}
 use Rattle.bucket_call_spec.specs.Fetch.{Left}
@@ -18,9 +15,9 @@ use Rattle.bucket_call_spec.specs.Call.{drawOf, bucketCall}
 use Rattle.bucket_call_spec.specs.Peak.{callPeak}
 use Rattle.state_spec.specs.declared.State.{State}
 use Rattle.state_spec.specs.Fetching.{roundsOf, drawsOf}
-use Rattle.state_spec.specs.Fit.{fits}
-use Rattle.state_spec.specs.Ticket.{ticketLength, opIn, structureOf, outOfKeys, strayFields}
-use Rattle.call_spec.specs.Store.{Ended, storeOf, refusing, ending, callWith, called}
+use Rattle.state_spec.specs.Ticket.{opIn, structureOf}
+use Rattle.call_spec.specs.Store.{Ended, storeOf, refusing, ending, byRounds, checks, firstMet, called}
+use Rattle.check_laws.specs.Decided.{decided-both, causes, asks-some}
 use Rattle.tape_laws.specs.SameDraws.{AgreeBelow, same-draws-call, same-draws-peak}
 
 -- What a call would leave of another trace buffer.
@@ -56,55 +53,50 @@ record Cuts (trace : List ℕ) (e whole : Ended) : Type 0 where
   same : onTrace trace e ≡ whole
   within : length (whole .trace) ≡ length trace → whole .leaves ≤ length trace
 
-module _ (trace : List ℕ) where
-  pick-cuts : (b : Bool) {e f x y : Ended} → Cuts trace e x → Cuts trace f y → Cuts trace (pick b e f) (pick b x y)
-  pick-cuts true p q = p
-  pick-cuts false p q = q
+module _ (s : State) (tree trace trace′ : List ℕ) where
+  refuses : (n : ℕ) → Cuts trace (refusing n s tree trace′) (refusing n s tree trace)
+  refuses n = record { same = refl; within = λ h. omega arith }
 
-  module _ (s : State) (tree trace′ : List ℕ) where
-    refuses : (n : ℕ) → Cuts trace (refusing n s tree trace′) (refusing n s tree trace)
-    refuses n = record { same = refl; within = λ h. omega arith }
+  ends : (l : Left) (peak : ℕ) → Cuts trace (ending s trace′ l peak) (ending s trace l peak)
+  ends l peak =
+      let n = length (l .leaves) in
+      record {
+        same = rw (take-append-seam (l .leaves) (drop n trace′));
+        within = λ h. omega (arith, length-append (l .leaves) (drop n trace), length-drop n trace);
+      }
 
-    ends : (l : Left) (peak : ℕ) → Cuts trace (ending s trace′ l peak) (ending s trace l peak)
-    ends l peak =
-        let n = length (l .leaves) in
-        record {
-          same = rw (take-append-seam (l .leaves) (drop n trace′));
-          within = λ h. omega (arith, length-append (l .leaves) (drop n trace), length-drop n trace);
-        }
+  module _ (ticket tape : List ℕ) (enough : length trace′ ≡ min (length trace) (2 * roundsOf (s .structure) (s .size))) where
+    abbrev st : Structure
+    st = structureOf (s .structure)
 
-    module _ (st : Structure) (ticket tape : List ℕ) (enough : length trace′ ≡ min (length trace) (2 * rounds st (s .size))) where
-      with-cuts : (o : Option (Op st)) → Cuts trace (callWith st s tree ticket (take (draws st (s .size)) tape) trace′ o) (callWith st s tree ticket tape trace o)
-      unfolding callWith
-      with-cuts none = refuses 5
-      with-cuts (some op) =
-          let k = s .size in
-          let F = rounds st k in
-          let D = draws st k in
-          let x = drawOf k (take D tape) in
-          let y = drawOf k tape in
-          let store = storeOf s tree in
-          let agree = cut-draws k D tape in
-          let tapes = cut-below (length (take D tape)) (length tape) D (omega (arith, length-take D tape)) in
-          let traces = cut-below (length trace′) (length trace) (2 * F) enough in
-          rw (tapes, traces, same-draws-call k F op x y store agree, same-draws-peak k F op x y store agree)
-          (pick-cuts (strayFields ticket) (refuses 19)
-          (pick-cuts (outOfKeys op (s .ahead .key)) (refuses 17)
-          (pick-cuts (ltb (length tape) D) (refuses 6)
-          (pick-cuts (ltb (length trace) (2 * F)) (refuses 7)
-          (ends (bucketCall k F op y store) (callPeak k F op y store))))))
+    abbrev cut : List ℕ
+    cut = take (draws st (s .size)) tape
 
-called-cuts : (s : State) (tree ticket tape trace trace′ : List ℕ) → length trace′ ≡ min (length trace) (2 * roundsOf (s .structure) (s .size))
-    → Cuts trace (called s tree ticket (take (drawsOf (s .structure) (s .size)) tape) trace′) (called s tree ticket tape trace)
-unfolding called
-called-cuts s tree ticket tape trace trace′ enough =
-    let st = structureOf (s .structure) in
-    let quits = refuses trace s tree trace′ in
-    pick-cuts trace (not (eqb (s .mark) 0)) (quits 1)
-    (pick-cuts trace (not (fits s)) (quits 2)
-    (pick-cuts trace (not (eqb (length tree) (treeLength (s .size)))) (quits 3)
-    (pick-cuts trace (not (eqb (length ticket) ticketLength)) (quits 4)
-    (with-cuts trace s tree trace′ st ticket tape enough (opIn st ticket)))))
+    -- The same cause is the first that is met.
+    same-causes : causes s tree ticket cut trace′ ≡ causes s tree ticket tape trace
+    unfolding checks
+    same-causes =
+        rw (
+          cut-below (length cut) (length tape) (draws st (s .size)) (omega (arith, length-take (draws st (s .size)) tape)),
+          cut-below (length trace′) (length trace) (2 * rounds st (s .size)) enough,
+        )
+
+    rounds-cut : (op : Op st) → Cuts trace (byRounds st op s tree cut trace′) (byRounds st op s tree tape trace)
+    rounds-cut op =
+        let k = s .size in
+        let F = rounds st k in
+        let x = drawOf k cut in
+        let y = drawOf k tape in
+        let store = storeOf s tree in
+        let agree = cut-draws k (draws st k) tape in
+        rw (same-draws-call k F op x y store agree, same-draws-peak k F op x y store agree) (ends (bucketCall k F op y store) (callPeak k F op y store))
+
+    called-cuts : Cuts trace (called s tree ticket cut trace′) (called s tree ticket tape trace)
+    unfolding called
+    called-cuts =
+        rw same-causes
+        (decided-both (Cuts trace) (firstMet (causes s tree ticket tape trace)) (opIn st ticket) (asks-some s tree ticket tape trace) (λ n e. refuses n)
+        (λ op e asked. rounds-cut op))
 
 -- A call with its tape cut to its draws, and with another buffer that is as long or has room for its leaves, is the same call.
 pub called-cut : (s : State) (tree ticket tape tape′ trace trace′ : List ℕ)
@@ -112,11 +104,11 @@ pub called-cut : (s : State) (tree ticket tape tape′ trace trace′ : List ℕ
     → length trace′ ≡ min (length trace) (2 * roundsOf (s .structure) (s .size))
     → onTrace trace (called s tree ticket tape′ trace′) ≡ called s tree ticket tape trace
 called-cut s tree ticket tape tape′ trace trace′ cut enough =
-    rw cut (called-cuts s tree ticket tape trace trace′ enough .same)
+    rw cut (called-cuts s tree trace trace′ ticket tape enough .same)
 
 -- A call that keeps the buffer's length reveals no more leaves than the buffer has numbers.
 pub leaves-within : (s : State) (tree ticket tape trace : List ℕ)
     → length (called s tree ticket tape trace .trace) ≡ length trace → called s tree ticket tape trace .leaves ≤ length trace
 leaves-within s tree ticket tape trace =
     let most = 2 * roundsOf (s .structure) (s .size) in
-    called-cuts s tree ticket tape trace (take most trace) (omega (arith, length-take most trace)) .within
+    called-cuts s tree trace (take most trace) ticket tape (omega (arith, length-take most trace)) .within

@@ -1,18 +1,14 @@
 -- The tickets of a copied file are the copies of the file's tickets, in order: so `copied-run` speaks of whole files.
 use Prim.Native.Nat.{ℕ, zero, suc, _*_, _/_, _≤_}
 use mathlib.Core.Path.{_≡_, refl, _∙_}
-use mathlib.Core.List.{List, [], _∷_, _++_, map}
+use mathlib.Core.List.{List, _++_, map}
 use native.Mathlib.Omega.{arith}
 use lib.ListN.{length, take, drop, length-take, length-drop}
 use lib.Seq.{take-at, drop-at}
 use Rattle.state_spec.specs.Ticket.{ticketLength}
 use Rattle.ticket_copy_spec.specs.Copy.{ticketCopy, copied, fileCopy}
+use Rattle.promise_spec.specs.UnusedFields.{ticketsIn}
 use Rattle.ticket_copy_laws.specs.CopyLaws.{copy-length}
-
--- The first n tickets of a file.
-unfoldable pub ticketsIn : ℕ → List ℕ → List (List ℕ)
-ticketsIn zero file = []
-ticketsIn (suc n) file = take ticketLength file ∷ ticketsIn n (drop ticketLength file)
 
 tickets-copied : (n : ℕ) (file : List ℕ) → ticketLength * n ≤ length file → ticketsIn n (copied n file) ≡ map ticketCopy (ticketsIn n file)
 unfolding copied ticketsIn

@@ -1,3 +1,3 @@
-pub mod Earlier
+pub mod Without
 pub mod Theorems
 pub mod Files

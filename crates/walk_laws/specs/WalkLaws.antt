@@ -1,26 +1,17 @@
 -- Laws for the walk program: a call keeps the store's structure and size, so every call of an input has as many bytes, and
 -- its leaves lie within its trace buffer; and what a call and the line after it leave is what the call's outcome has.
 use mathlib.Core.Path.{_≡_, refl, sym, _∙_, ap}
-use mathlib.Core.Bool.{Bool, true, false, not}
 use mathlib.Core.List.{List, _∷_, _++_}
-use mathlib.Core.Option.{Option, none, some}
-use Prim.Native.Nat.{ℕ, zero, suc, _+_, _*_, _≤_}
+use Prim.Native.Nat.{ℕ, zero, suc, _*_, _≤_}
 use native.Mathlib.Omega.{arith}
-use lib.Dec.{eqb, ltb}
 use lib.ListN.{length, take, drop, replicate, length-append, length-replicate, take-append-drop}
 use lib.Seq.{take-at, take-append-le}
-use Rattle.list_spec.specs.Choice.{pick}
-use Rattle.slot_spec.specs.Tree.{treeLength}
 use Rattle.method_spec.specs.Answer.{Structure, Op}
-use Rattle.method_spec.specs.Rounds.{rounds, draws}
-use Rattle.bucket_call_spec.specs.Fetch.{Left}
-use Rattle.bucket_call_spec.specs.Call.{drawOf, bucketCall}
-use Rattle.bucket_call_spec.specs.Peak.{callPeak}
 use Rattle.state_spec.specs.declared.State.{State}
-use Rattle.state_spec.specs.Fit.{fits}
-use Rattle.state_spec.specs.Ticket.{ticketLength, opIn, structureOf, outOfKeys, strayFields}
+use Rattle.state_spec.specs.Ticket.{structureOf}
 use Rattle.call_spec.specs.declared.Reply.{Reply}
-use Rattle.call_spec.specs.Store.{Ended, storeOf, refusing, ending, called, callWith}
+use Rattle.call_spec.specs.Store.{Ended, refusing, byRounds, called}
+use Rattle.check_laws.specs.Decided.{Decided, refused, rounded, how-decided}
 use Rattle.walk_spec.specs.Lines.{lineOf, mostLeaves}
 use Rattle.state_spec.specs.Fetching.{roundsOf, drawsOf, mostDraws}
 use Rattle.walk_spec.specs.Input.{ticketIn, tapeIn}
@@ -31,34 +22,18 @@ pub record Kept (s : State) (e : Ended) : Type 0 where
   pub size : e .state .size ≡ s .size
   pub leaves : e .leaves ≤ length (e .trace)
 
-kept-either : {s : State} (b : Bool) {x y : Ended} → Kept s x → Kept s y → Kept s (pick b x y)
-kept-either true p q = p
-kept-either false p q = q
+refused-keeps : {n : ℕ} {s : State} {tree trace : List ℕ} → Kept s (refusing n s tree trace)
+refused-keeps = record { structure = refl; size = refl; leaves = omega arith }
 
-refused : {n : ℕ} {s : State} {tree trace : List ℕ} → Kept s (refusing n s tree trace)
-refused = record { structure = refl; size = refl; leaves = omega arith }
-
-ended : (s : State) (trace : List ℕ) (l : Left) (peak : ℕ) → Kept s (ending s trace l peak)
-ended s trace l peak = record { structure = refl; size = refl; leaves = rw length-append (omega arith) }
-
-kept-with : (st : Structure) (s : State) (tree ticket tape trace : List ℕ) (op : Option (Op st)) → Kept s (callWith st s tree ticket tape trace op)
-unfolding callWith
-kept-with st s tree ticket tape trace none = refused
-kept-with st s tree ticket tape trace (some op) =
-    kept-either (strayFields ticket) refused
-    (kept-either (outOfKeys op (s .ahead .key)) refused
-    (kept-either (ltb (length tape) (draws st (s .size))) refused
-    (kept-either (ltb (length trace) (2 * rounds st (s .size))) refused
-    (ended s trace (bucketCall (s .size) (rounds st (s .size)) op (drawOf (s .size) tape) (storeOf s tree)) (callPeak (s .size) (rounds st (s .size)) op (drawOf (s .size) tape) (storeOf s tree))))))
+rounds-keep : (st : Structure) (op : Op st) (s : State) (tree tape trace : List ℕ) → Kept s (byRounds st op s tree tape trace)
+rounds-keep st op s tree tape trace = record { structure = refl; size = refl; leaves = rw length-append (omega arith) }
 
 pub call-keeps : (s : State) (tree ticket tape trace : List ℕ) → Kept s (called s tree ticket tape trace)
-unfolding called
-call-keeps s tree ticket tape trace =
-    kept-either (not (eqb (s .mark) 0)) refused
-    (kept-either (not (fits s)) refused
-    (kept-either (not (eqb (length tree) (treeLength (s .size)))) refused
-    (kept-either (not (eqb (length ticket) ticketLength)) refused
-    (kept-with (structureOf (s .structure)) s tree ticket tape trace (opIn (structureOf (s .structure)) ticket)))))
+call-keeps s tree ticket tape trace = go (how-decided s tree ticket tape trace)
+  where
+    go : {e : Ended} → Decided s tree ticket tape trace e → Kept s e
+    go (refused n first e) = rw e refused-keeps
+    go (rounded op first asked e) = rw e (rounds-keep (structureOf (s .structure)) op s tree tape trace)
 
 -- ---- what a call prints
 -- A call that was lent the first n numbers of a trace buffer: its leaves are among them, and so its line is that of the buffer's first numbers.

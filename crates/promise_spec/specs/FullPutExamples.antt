@@ -29,11 +29,9 @@ use Rattle.state_spec.specs.Ticket.{opIn, uses, strayFields}
 use Rattle.state_spec.specs.Opening.{opened}
 use Rattle.operation_spec.specs.declared.Answer.the-variants.{Replaced}
 use Rattle.call_spec.specs.declared.Reply.the-variants.{Answered, Refused}
-use Rattle.call_spec.specs.Store.{Ended, called, callWith, replied, replyOf}
-use Rattle.full_put_laws.specs.Apart.{Differ, here, there, OneSlot, stands}
-use Rattle.full_put_laws.specs.Earlier.{earlierPutStep, earlierPutProg, earlierPrograms, bucketCallWith, callWithPrograms, calledWith}
-use Rattle.full_put_laws.specs.FullPut.{fullPut, ten-then-replaced, OnlyValue}
-use Rattle.full_put_laws.specs.Calls.{presentOnFull, fullPutCall}
+use Rattle.call_spec.specs.Store.{Ended, checks, firstMet, decided, called, replied, replyOf}
+use Rattle.promise_spec.specs.FullPut.{fullPut, presentOnFull, fullPutCall, Differ, here, there, OneSlot, stands, ten-then-replaced, OnlyValue}
+use Rattle.promise_spec.specs.AsBefore.{earlierPutStep, earlierPutProg, earlierPrograms, bucketCallWith, calledWith, calledBeforeFullPut}
 
 two-lists : Differ {A = ℕ} 5 6 (4 ∷ 5 ∷ 5 ∷ []) (4 ∷ 6 ∷ 5 ∷ [])
 two-lists = there 4 (here (5 ∷ []))
@@ -150,7 +148,7 @@ abbrev putTicket : (key number : ℕ) → List ℕ
 putTicket key number = bytes 1 2 ++ (bytes 4 key ++ bytes 8 number)
 
 unfoldable filled-by-nine : Ended
-unfolding holdsNine opened called callWith calledWith callWithPrograms presentOnFull replied replyOf fits allOf ascendingFrom ascending rootGood aheadGood placesFrom opIn uses strayFields rounds greatest tallest shaped least
+unfolding holdsNine opened called checks firstMet decided calledWith presentOnFull replied replyOf fits allOf ascendingFrom ascending rootGood aheadGood placesFrom opIn uses strayFields rounds greatest tallest shaped least
 filled-by-nine =
     called (opened 1 1 (replicate 384 7) .state) (opened 1 1 (replicate 384 7) .tree) (putTicket 9 1) (replicate 7 0) (replicate 6 5)
 
@@ -159,7 +157,7 @@ next key number = called (filled-by-nine .state) (filled-by-nine .tree) (putTick
 
 abbrev nextEarlier : (key number : ℕ) → Ended
 nextEarlier key number =
-    calledWith earlierPrograms (filled-by-nine .state) (filled-by-nine .tree) (putTicket key number) (replicate 7 0) (replicate 6 5)
+    calledBeforeFullPut (filled-by-nine .state) (filled-by-nine .tree) (putTicket key number) (replicate 7 0) (replicate 6 5)
 
 abbrev is-full-put-call : ℕ → Bool
 is-full-put-call key = fullPutCall (filled-by-nine .state) (filled-by-nine .tree) (putTicket key 2) (replicate 7 0)

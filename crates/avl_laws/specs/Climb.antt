@@ -15,7 +15,8 @@ use Rattle.method_spec.specs.Node.{Node, child, withChild}
 use Rattle.method_spec.specs.Prog.{done}
 use Rattle.method_spec.specs.Plain.{Pair}
 use Rattle.method_spec.specs.Map.{Step, Sub, stub, Built, mapTest, linkOf, kids, nodesAt, seat, tall, turn, placed, rest as restAt, nearOn, othersOf, raise, climb, unwind}
-use Rattle.method_spec.specs.Safe.{Safe, ends}
+use Rattle.run_laws.specs.Safe.{Safe, ends}
+use Rattle.run_laws.specs.BalanceLaws.{tall-heights}
 use Rattle.run_laws.specs.SafeLaws.{safe-map, safe-then, safe-pick}
 use Rattle.avl_laws.specs.Search.{Entry, pairs, Search, linkTree}
 use Rattle.avl_laws.specs.Ascending.{Ascending, ascending-search}
@@ -109,13 +110,13 @@ module _ {T : Type 0} (nil : T) where
 
   tall-near : (s : Bool) (a : View T) (e : Entry T) (b : View T)
       → tall s (joinNode nil s a e b) ≡ ltb (suc (height (whole b))) (height (whole a))
-  tall-near true a e b = rw (link-height nil (whole a), link-height nil (whole b))
-  tall-near false a e b = rw (link-height nil (whole a), link-height nil (whole b))
+  tall-near true a e b = rw (tall-heights true (joinNode nil true a e b), link-height nil (whole a), link-height nil (whole b))
+  tall-near false a e b = rw (tall-heights false (joinNode nil false a e b), link-height nil (whole a), link-height nil (whole b))
 
   tall-far : (s : Bool) (a : View T) (e : Entry T) (b : View T)
       → tall (not s) (joinNode nil s a e b) ≡ ltb (suc (height (whole a))) (height (whole b))
-  tall-far true a e b = rw (link-height nil (whole a), link-height nil (whole b))
-  tall-far false a e b = rw (link-height nil (whole a), link-height nil (whole b))
+  tall-far true a e b = rw (tall-heights false (joinNode nil true a e b), link-height nil (whole a), link-height nil (whole b))
+  tall-far false a e b = rw (tall-heights true (joinNode nil false a e b), link-height nil (whole a), link-height nil (whole b))
 
   placed-way : (f : Frame T) (v : View T)
       → tall (f .way) (placed (stepOf nil f) (subOf nil v)) ≡ ltb (suc (height (f .other))) (height (whole v))

@@ -12,7 +12,8 @@ use Rattle.balance_spec.specs.Tree.{Tree, leaf, node, height, Balanced}
 use Rattle.method_spec.specs.Node.{Node}
 use Rattle.method_spec.specs.Prog.{Want, Prog, want, bind}
 use Rattle.method_spec.specs.Map.{mapTest, between, kid, opened}
-use Rattle.method_spec.specs.Safe.{Safe, meets}
+use Rattle.run_laws.specs.Safe.{Safe, meets}
+use Rattle.run_laws.specs.BalanceLaws.{tall-heights}
 use Rattle.avl_laws.specs.Search.{Entry, Above, Below, pairs, Search, linkTree, nodeAt, nodesOf}
 use Rattle.avl_laws.specs.View.{View, away, have, join, joinTree, joinNode, whole, tags, unfetched, fetched, below, further, topNode, subOf, link-height, link-node}
 
@@ -35,6 +36,8 @@ module _ {T : Type 0} (nil : T) where
       let i = link-height nil l in
       let j = link-height nil r in
       rw (
+        tall-heights true (nodeAt nil l e r),
+        tall-heights false (nodeAt nil l e r),
         le-ltb (suc (linkTree nil r .height)) (linkTree nil l .height) (omega arith),
         le-ltb (suc (linkTree nil l .height)) (linkTree nil r .height) (omega arith),
         eq-eqb (suc (max (linkTree nil l .height) (linkTree nil r .height))) (w .link .height)

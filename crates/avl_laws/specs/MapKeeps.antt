@@ -13,14 +13,14 @@ use Rattle.list_spec.specs.Perm.{Perm, nil as perm-none, trans}
 use Rattle.list_laws.specs.PermLaws.{perm-refl, perm-sym, perm-of-eq, perm-append, perm-append-right, perm-append-comm, perm-front, perm-map}
 use Rattle.balance_spec.specs.Tree.{Tree, leaf, node, height, Balanced}
 use Rattle.method_spec.specs.Node.{Ahead, Node, absent, withValue}
-use Rattle.method_spec.specs.Prog.{done, bind}
+use Rattle.method_spec.specs.Prog.{done, bind, start}
 use Rattle.method_spec.specs.Answer.{map, Op, get, put, remove, Answer, found, replaced, new, removed, full}
 use Rattle.method_spec.specs.Answer as answers
 use Rattle.method_spec.specs.Plain.{Pair, Said, lookup, store, put-into, getAnswer, removeAnswer, plain}
-use Rattle.method_spec.specs.Map.{top, Built, Spot, linkOf, nodesAt, start, mapTest, walk, climb, unwind, unwound, finish, getStep, getProg, putStep, putProg, removeStep, removeProg}
+use Rattle.method_spec.specs.Map.{top, Built, Spot, linkOf, nodesAt, mapTest, walk, climb, unwind, unwound, finish, getStep, getProg, putStep, putProg, removeStep, removeProg}
 use Rattle.method_spec.specs.Rounds.{spare}
 use Rattle.method_spec.specs.Call.{Memory, program, aheadAfter, drawsFrom}
-use Rattle.method_spec.specs.Safe.{Safe, ends}
+use Rattle.run_laws.specs.Safe.{Safe, ends}
 use Rattle.run_laws.specs.SafeLaws.{safe-then, safe-pick}
 use Rattle.run_laws.specs.Calls.{givenTags}
 use Rattle.run_laws.specs.Answers.{StepsTo}

@@ -13,7 +13,7 @@ use Rattle.balance_spec.specs.Tree.{Tree, leaf, node, height, Balanced}
 use Rattle.method_spec.specs.Node.{Link, Node}
 use Rattle.method_spec.specs.Plain.{Pair, erase}
 use Rattle.method_spec.specs.Map.{Lowest, stub, Built, mapTest, stepAt, below as wantBelow, lowest, takeOut, climb, swapped}
-use Rattle.method_spec.specs.Safe.{Safe, ends}
+use Rattle.run_laws.specs.Safe.{Safe, ends}
 use Rattle.run_laws.specs.SafeLaws.{safe-then}
 use Rattle.avl_laws.specs.Search.{Entry, pairs, linkTree, nodeAt, nodesOf}
 use Rattle.avl_laws.specs.Ascending.{Ascending, next, Split, ascending-split, erase-at}

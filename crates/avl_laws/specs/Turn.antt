@@ -15,8 +15,9 @@ use Rattle.balance_spec.specs.Tree.{Tree, height, Balanced}
 use Rattle.method_spec.specs.Node.{Link, Node, child}
 use Rattle.method_spec.specs.Prog.{Want}
 use Rattle.method_spec.specs.Plain.{Pair}
-use Rattle.method_spec.specs.Map.{Step, Built, mapTest, kid, listed, nodesAt, single, double, turn, beside, below as wantBelow, stepAt}
-use Rattle.method_spec.specs.Safe.{Safe, ends}
+use Rattle.method_spec.specs.Map.{Step, Built, mapTest, kid, listed, nodesAt, leansOut, single, double, turn, beside, below as wantBelow, stepAt}
+use Rattle.run_laws.specs.Safe.{Safe, ends}
+use Rattle.run_laws.specs.BalanceLaws.{leans-heights}
 use Rattle.run_laws.specs.SafeLaws.{safe-pick}
 use Rattle.avl_laws.specs.Search.{Entry, pairs, Search, linkTree}
 use Rattle.avl_laws.specs.View.{View, join, joinTree, nodeOn, joinNode, whole, whole-join, fetched, below, further, topNode, subOf, link-height, link-node, top-below, top-sub, hand-further, below-join, further-join}
@@ -162,12 +163,12 @@ module _ {T : Type 0} (nil : T) where
   -- ---- which rotation
 
   abbrev leans : Bool → View T → Entry T → View T → Bool
-  leans s a c b = leb (child (not s) (joinNode nil s a c b) .height) (child s (joinNode nil s a c b) .height)
+  leans s a c b = leansOut s (joinNode nil s a c b)
 
   leans-height : (s : Bool) (a : View T) (c : Entry T) (b : View T)
       → leans s a c b ≡ leb (height (whole b)) (height (whole a))
-  leans-height true a c b = rw (link-height nil (whole a), link-height nil (whole b))
-  leans-height false a c b = rw (link-height nil (whole a), link-height nil (whole b))
+  leans-height true a c b = rw (leans-heights true (joinNode nil true a c b), link-height nil (whole a), link-height nil (whole b))
+  leans-height false a c b = rw (leans-heights false (joinNode nil false a c b), link-height nil (whole a), link-height nil (whole b))
 
   -- The place p is too tall on its side s, where x stands.
   pub turn-safe : {tag : T} (p : Step T) (s : Bool) (e : Entry T) (x z : View T) {rest : List (Node T)} {more : List T}

@@ -13,7 +13,7 @@ use Rattle.method_spec.specs.Node.{Link, Node, absent}
 use Rattle.method_spec.specs.Prog.{From, root, side, Want}
 use Rattle.method_spec.specs.Plain.{Pair}
 use Rattle.method_spec.specs.Map.{Spot, gap, hit, mapTest, stepAt, below as wantBelow, walk}
-use Rattle.method_spec.specs.Safe.{Safe, ends}
+use Rattle.run_laws.specs.Safe.{Safe, ends}
 use Rattle.run_laws.specs.SafeLaws.{safe-pick}
 use Rattle.avl_laws.specs.Search.{Entry, pairs, Search, linkTree, nodeAt}
 use Rattle.avl_laws.specs.Ascending.{Ascending, next, ends as none-left, ascending-split, ascending-join, ascending-search}

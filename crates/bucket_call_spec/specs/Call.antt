@@ -7,7 +7,7 @@ use Rattle.method_spec.specs.Node.{Link, Ahead, Node}
 use Rattle.method_spec.specs.Prog.{Prog, done, want}
 use Rattle.method_spec.specs.Answer.{Structure, Op}
 use Rattle.method_spec.specs.Rounds.{putDraw}
-use Rattle.method_spec.specs.Map.{Outcome}
+use Rattle.method_spec.specs.Outcome.{Outcome}
 use Rattle.method_spec.specs.Call.{capacity, program, aheadAfter, spareTags}
 use Rattle.round_spec.specs.Round.{join}
 use Rattle.leaf_spec.specs.Leaf.{leafFormat}

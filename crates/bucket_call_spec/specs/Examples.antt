@@ -11,7 +11,7 @@ use Rattle.round_spec.specs.Round.{withBucket, noneTwice, allGood, readBucket, 
 use Rattle.method_spec.specs.Prog.{bind}
 use Rattle.method_spec.specs.Answer.{map, stack, put, push, pop, replaced, popped}
 use Rattle.method_spec.specs.Rounds.{spare}
-use Rattle.method_spec.specs.Map.{walk, single, double, turn, raise, climb, unwind, putStep, putProg, between, mapTest}
+use Rattle.method_spec.specs.Map.{walk, balanceOf, single, double, turn, raise, climb, unwind, putStep, putProg, between, mapTest}
 use Rattle.method_spec.specs.Stack.{pushProg, popProg, stackTest}
 use Rattle.method_spec.specs.Call.{program, aheadAfter, test}
 use Rattle.leaf_spec.specs.Leaf.{readLeaf}
@@ -60,5 +60,5 @@ putAgain = bucketCall {s = map} 1 3 (put 9 8) (drawOf 1 (1 ∷ 1 ∷ 0 ∷ 1 ∷
 
 -- The second answers the old value, and reveals the node's tag and then its own draws: all rounds are made.
 pub put-again : (putAgain .answer ≡ some (replaced 7)) × (putAgain .entries ≡ 1) × (putAgain .leaves ≡ 0 ∷ 1 ∷ 0 ∷ 1 ∷ 0 ∷ 1 ∷ [])
-unfolding bucketCall afterFetches afterPuts putRounds fetchRounds fetchRound wantRound tookRound idleRound atClose closing movedLink movedNode withBucket noneTwice allGood readBucket readBuckets insert join takeFirst tagged granted joined grantedFrom readHalf choose evict halvings among filled encode fieldsOf pack bytes readSlot bad fieldsIn nodeOf fields value allZero readLeaf spare program aheadAfter test walk single double turn raise climb unwind putStep putProg between mapTest bind
+unfolding bucketCall afterFetches afterPuts putRounds fetchRounds fetchRound wantRound tookRound idleRound atClose closing movedLink movedNode withBucket noneTwice allGood readBucket readBuckets insert join takeFirst tagged granted joined grantedFrom readHalf choose evict halvings among filled encode fieldsOf pack bytes readSlot bad fieldsIn nodeOf fields value allZero readLeaf spare program aheadAfter test walk balanceOf single double turn raise climb unwind putStep putProg between mapTest bind
 put-again = (refl, refl, refl)

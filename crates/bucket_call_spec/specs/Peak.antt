@@ -6,7 +6,7 @@ use Rattle.list_spec.specs.Largest.{largest}
 use Rattle.method_spec.specs.Prog.{Prog, done, want}
 use Rattle.method_spec.specs.Answer.{Structure, Op}
 use Rattle.method_spec.specs.Rounds.{putDraw}
-use Rattle.method_spec.specs.Map.{Outcome}
+use Rattle.method_spec.specs.Outcome.{Outcome}
 use Rattle.round_spec.specs.Whole.{listed}
 use Rattle.bucket_call_spec.specs.Fetch.{Going, Round, on, shut, countAtClose, fetchRound, fetchRounds}
 use Rattle.bucket_call_spec.specs.Call.{Store, stepped, begun, programBy}
@@ -31,6 +31,10 @@ module _ {A : Type 0} where
   -- The largest of these numbers, 0 if none closed.
   abbrev pub peakOf : List (Round A) → ℕ
   peakOf rs = largest (countsOf rs)
+
+  -- The peak of one round: its number, 0 if it did not close.
+  abbrev pub peakAt : Round A → ℕ
+  peakAt r = peakOf (r ∷ [])
 
 -- The put rounds of a call, by where its fetch rounds came to.
 unfoldable pub putsAfter : Structure → (size rounds : ℕ) → (draw : ℕ → ℕ) → Store → Round (Outcome ℕ) → List (Round (Outcome ℕ))

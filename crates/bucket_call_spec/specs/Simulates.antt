@@ -7,7 +7,7 @@ use Rattle.list_spec.specs.Perm.{Perm}
 use Rattle.method_spec.specs.Node.{Ahead}
 use Rattle.method_spec.specs.Prog.{done}
 use Rattle.method_spec.specs.Plain.{Pair}
-use Rattle.method_spec.specs.Map.{Outcome}
+use Rattle.method_spec.specs.Outcome.{Outcome}
 use Rattle.method_spec.specs.Call.{Memory}
 use Rattle.round_spec.specs.Round.{limit}
 use Rattle.round_spec.specs.Whole.{contents, Kept, Ascending}

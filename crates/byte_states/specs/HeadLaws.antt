@@ -6,7 +6,7 @@ use lib.Dec.{eqb}
 use borrow.Author.Tests.{eq-eqb, ne-eqb, le-leb, lt-leb, eqb-true, eqb-false}
 use Rattle.list_spec.specs.Choice.{pick}
 use Rattle.slot_spec.specs.declared.Link.{Link}
-use Rattle.state_spec.specs.Head.{headFits}
+use Rattle.state_spec.specs.Fit.{headFits}
 use Rattle.state_spec.specs.Ticket.{lastKey}
 use Rattle.fitness.specs.Refusal.{headRefusal}
 use Rattle.lent_bytes_spec.specs.declared.StateHead.{StateHead}

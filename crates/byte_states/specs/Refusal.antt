@@ -3,7 +3,7 @@ use Prim.Native.Nat.{ℕ}
 use mathlib.Core.Bool.{not, _&&_}
 use lib.Dec.{eqb}
 use Rattle.list_spec.specs.Choice.{pick}
-use Rattle.state_spec.specs.Head.{headFits}
+use Rattle.state_spec.specs.Fit.{headFits}
 use Rattle.lent_bytes_spec.specs.declared.StateHead.{StateHead}
 use Rattle.lent_bytes_spec.specs.StateBytes.{rootIn, aheadIn, keyFits}
 

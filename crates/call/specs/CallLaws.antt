@@ -6,12 +6,11 @@ use mathlib.Core.List.{List}
 use Prim.Native.Nat.{ℕ}
 use native.Mathlib.Omega.{arith}
 use Rattle.state_spec.specs.declared.State.{State}
-use Rattle.state_spec.specs.Fit.{fits, placesFit}
-use Rattle.state_spec.specs.Head.{headFits}
+use Rattle.state_spec.specs.Fit.{fits, placesFit, headFits}
 use Rattle.state_laws.specs.FitLaws.{fits-parts}
 use Rattle.call_spec.specs.declared.Called.{Called}
 use Rattle.call_spec.specs.declared.Reply.the-variants.{Refused}
-use Rattle.call_spec.specs.Store.{refusing, called}
+use Rattle.call_spec.specs.Store.{refusing, called, callEndedAs}
 use Rattle.stash.specs.Stash.{Loaded, saved}
 use Rattle.stash_laws.specs.Waiting.{waitingIn}
 use Rattle.call_ending.specs.declared.Ran.{Ran}
@@ -19,7 +18,6 @@ use Rattle.call_core.specs.Run.{headOf, StandsFor, CallsAs}
 use Rattle.fitness.specs.Refusal.{headRefusal}
 use Rattle.fitness.specs.RefusalLaws.{by-head}
 use Rattle.call_core.specs.CallLaws.{refused-1, refused-2}
-use Rattle.call.specs.Run.{endedAs}
 
 module _ (s : State) where
   abbrev head : Bool
@@ -50,8 +48,8 @@ module _ (s : State) where
 
   module _ (tree ticket tape trace : List ℕ) where
     pub refuses : {r : Called} {n : ℕ} → r ≡ record { state = s; reply = Refused n; leaves = 0; peak = 0 } → called s tree ticket tape trace ≡ refusing n s tree trace
-        → endedAs r tree trace ≡ called s tree ticket tape trace
-    refuses e h = ap (λ (c : Called). endedAs c tree trace) e ∙ sym h
+        → callEndedAs r tree trace ≡ called s tree ticket tape trace
+    refuses e h = ap (λ (c : Called). callEndedAs c tree trace) e ∙ sym h
 
     -- The head is refused, with its number.
     pub head-refused : (number ≡ 0 → ⊥) → called s tree ticket tape trace ≡ refusing number s tree trace
@@ -66,10 +64,10 @@ module _ (s : State) where
     module _ {words words′ tree′ trace′ : List ℕ} (st : StandsFor s (headOf s) words) (r : Ran)
         (made : CallsAs (headOf s) words tree ticket tape trace words′ tree′ trace′ r) where
       -- The core refused.
-      pub kept : r .ran ≡ false → endedAs (record { state = s; reply = r .reply; leaves = r .leaves; peak = r .peak }) tree′ trace′ ≡ called s tree ticket tape trace
+      pub kept : r .ran ≡ false → callEndedAs (record { state = s; reply = r .reply; leaves = r .leaves; peak = r .peak }) tree′ trace′ ≡ called s tree ticket tape trace
       kept e = rw e at (made .calls s st)
 
       -- It made its rounds, and what it left is saved.
       pub changed : {left : State} → r .ran ≡ true → left ≡ saved (s .structure) (s .size) (r .mark) (r .entries) (r .root) (r .ahead) (waitingIn (r .waiting) words′)
-          → endedAs (record { state = left; reply = r .reply; leaves = r .leaves; peak = r .peak }) tree′ trace′ ≡ called s tree ticket tape trace
-      changed e saved-so = ap (λ (x : State). endedAs (record { state = x; reply = r .reply; leaves = r .leaves; peak = r .peak }) tree′ trace′) saved-so ∙ (rw e at (made .calls s st))
+          → callEndedAs (record { state = left; reply = r .reply; leaves = r .leaves; peak = r .peak }) tree′ trace′ ≡ called s tree ticket tape trace
+      changed e saved-so = ap (λ (x : State). callEndedAs (record { state = x; reply = r .reply; leaves = r .leaves; peak = r .peak }) tree′ trace′) saved-so ∙ (rw e at (made .calls s st))

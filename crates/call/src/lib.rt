@@ -12,14 +12,13 @@ use state_places::zero_place;
 use state_spec::PLACES;
 use state_spec::State;
 ghost use mathlib.Core.Path.{_≡_};
-ghost use Rattle.call_spec.specs.Store.{called};
-ghost use Rattle.call.specs.Run.{endedAs};
+ghost use Rattle.call_spec.specs.Store.{called, callEndedAs};
 
 // One call: an answer or one numbered refusal. The store does all the checking; see `called` for every case.
 // Three loops stand here, since a function that is handed the state is handed a copy of it: the used places are looked at and their
 // nodes put into words, the other places are looked at, and in the end the waiting nodes are saved into the state that came.
 pub fn call(state: State, tree: &mut [u8], ticket: &[u8], tape: &[u16], trace: &mut [u16]) -> Called
-    ensures { λ r. ⌜ endedAs r (now (tree .exit)) (now (trace .exit)) ≡ called state (now (tree .entry)) (now (ticket .entry)) (now (tape .entry)) (now (trace .entry)) ⌝ }
+    ensures { λ r. ⌜ callEndedAs r (now (tree .exit)) (now (trace .exit)) ≡ called state (now (tree .entry)) (now (ticket .entry)) (now (tape .entry)) (now (trace .entry)) ⌝ }
 {
     let root = state.root;
     let ahead = state.ahead;

@@ -6,7 +6,7 @@ use native.Mathlib.Omega.{arith}
 use lib.ListN.{length, take, drop, replicate, length-map}
 use Rattle.method_spec.specs.Prog.{Prog, done, after}
 use Rattle.method_spec.specs.Answer as answer
-use Rattle.method_spec.specs.Map.{Outcome}
+use Rattle.method_spec.specs.Outcome.{Outcome}
 use Rattle.method_spec.specs.Call.{capacity}
 use Rattle.run_laws.specs.RoundsLaws.{some-rounds}
 use Rattle.round_spec.specs.Round.{join}

@@ -8,7 +8,7 @@ use Rattle.list_spec.specs.Distinct.{All}
 use Rattle.method_spec.specs.Node.{Ahead}
 use Rattle.method_spec.specs.Prog.{done, after}
 use Rattle.method_spec.specs.Answer.{Structure, Op}
-use Rattle.method_spec.specs.Map.{Outcome}
+use Rattle.method_spec.specs.Outcome.{Outcome}
 use Rattle.round_spec.specs.Round.{join}
 use Rattle.round_spec.specs.Whole.{IsTree, Ascending}
 use Rattle.leaf_spec.specs.Convert.{fromLink, toLink, fromAhead, toAhead}

@@ -12,7 +12,7 @@ use lib.Seq.{sets-eq}
 use Rattle.list_laws.specs.PermLaws.{perm-length}
 use Rattle.method_spec.specs.Node.{Link, Ahead, Node}
 use Rattle.method_spec.specs.Prog.{done, root}
-use Rattle.method_spec.specs.Map.{Outcome}
+use Rattle.method_spec.specs.Outcome.{Outcome}
 use Rattle.method_spec.specs.Call.{drawsFrom}
 use Rattle.run_laws.specs.Calls.{draws-length}
 use Rattle.round_spec.specs.Round.{join}

@@ -11,7 +11,7 @@ use Rattle.method_spec.specs.Node.{Link, Ahead}
 use Rattle.method_spec.specs.Prog.{done, want}
 use Rattle.method_spec.specs.Answer.{Structure, Op}
 use Rattle.method_spec.specs.Rounds.{putDraw}
-use Rattle.method_spec.specs.Map.{Outcome}
+use Rattle.method_spec.specs.Outcome.{Outcome}
 use Rattle.bucket_call_spec.specs.Fetch.{Held, Going, Left, movedNode, movedNodes, total, Round, on, shut, closing}
 use Rattle.round_laws.specs.Lists.{join-perm}
 use Rattle.leaf_spec.specs.Leaf.{leafFormat}

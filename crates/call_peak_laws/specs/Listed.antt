@@ -13,7 +13,7 @@ use Rattle.list_spec.specs.Choice.{pick}
 use Rattle.method_spec.specs.Node.{Node}
 use Rattle.method_spec.specs.Prog.{Want, Prog, done, want}
 use Rattle.method_spec.specs.Answer.{Structure}
-use Rattle.method_spec.specs.Map.{Outcome}
+use Rattle.method_spec.specs.Outcome.{Outcome}
 use Rattle.method_spec.specs.Call.{test}
 use Rattle.round_spec.specs.Round.{Hand, readHalf, limit}
 use Rattle.leaf_spec.specs.Leaf.{leafFormat}
@@ -22,8 +22,8 @@ use Rattle.none_lost_laws.specs.Fetching.{fetches-shut, fetches-on}
 use Rattle.none_lost_laws.specs.Putting.{puts-shut, puts-on}
 use Rattle.bucket_call_spec.specs.Fetch.{Going, heldKeys, wishFor, total, tooMany, Round, on, shut, atClose, idleRound, tookRound, wantRound, fetchRound, fetchRounds}
 use Rattle.bucket_call_spec.specs.Call.{putRounds}
-use Rattle.bucket_call_spec.specs.Peak.{roundsFrom, peakOf}
-use Rattle.peak_laws.specs.PeakLaws.{peakAt, peak-append, peak-none, peak-damage, peak-close, done-round, rounds-none, rounds-goes, rounds-shuts}
+use Rattle.bucket_call_spec.specs.Peak.{roundsFrom, peakOf, peakAt}
+use Rattle.peak_laws.specs.PeakLaws.{peak-append, peak-none, peak-damage, peak-close, done-round, rounds-none, rounds-goes, rounds-shuts}
 
 -- ---- definitions
 -- Above the limit exactly with the mark 9, and then the number that is left waiting and held.

@@ -18,6 +18,7 @@ use Rattle.bucket_call_spec.specs.Peak.{callPeak}
 use Rattle.operation_spec.specs.declared.Answer.the-variants.{Found, Absent, Replaced, New, Removed, Pushed, Popped, Added, Taken, Queued, Dequeued, Empty}
 use Rattle.state_spec.specs.declared.Place.{Place}
 use Rattle.state_spec.specs.declared.State.{State}
+use Rattle.call_spec.specs.declared.Called.{Called}
 use Rattle.call_spec.specs.declared.Reply.{Reply}
 use Rattle.call_spec.specs.declared.Reply.the-variants.{Answered, Refused}
 use Rattle.state_spec.specs.Fit.{fits, used, places, noPlace}
@@ -35,6 +36,10 @@ pub record Ended : Type 0 where
   pub peak : ℕ
   pub tree : List ℕ
   pub trace : List ℕ
+
+-- What the code of a call returns, with the tree and the trace buffer as it leaves them.
+abbrev pub callEndedAs : Called → (tree trace : List ℕ) → Ended
+callEndedAs r tree trace = record { state = r .state; reply = r .reply; leaves = r .leaves; peak = r .peak; tree = tree; trace = trace }
 
 -- The paper's answers and, for a full store, its number.
 unfoldable pub replyOf : Answer → Reply

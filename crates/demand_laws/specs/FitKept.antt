@@ -27,7 +27,7 @@ use Rattle.bucket_call_spec.specs.Simulates.{AheadFits, Simulates}
 use Rattle.simulation_laws.specs.CallSim.{simulates-fits}
 use Rattle.simulation_laws.specs.Root.{root-empty, root-top, root-oldest}
 use Rattle.state_spec.specs.declared.Place.{Place}
-use Rattle.state_spec.specs.Fit.{inRange, largestStructure, largestSize, allOf, placeGood, zeroPlace, noPlace, rootGood, aheadGood, places, placesFit, fits}
+use Rattle.state_spec.specs.Fit.{inRange, largestStructure, largestSize, allOf, placeGood, zeroPlace, noPlace, rootGood, aheadGood, places, placesFit, headFits, fits}
 use Rattle.demand_spec.specs.History.{numberOf}
 use Rattle.demand_laws.specs.OpenStates.{stateOf, holding, used-places, unused-places}
 
@@ -129,6 +129,6 @@ module _ (st : Structure) (k : ℕ) (positive : 1 ≤ k) (small : k ≤ 8) (s : 
   ahead-fits = rw (sim .entries, sim .ahead) (ahead-good st k (capacity k) t m held (rw (← sim .ahead) (sim .known)))
 
   pub state-fits : fits (stateOf st k s) ≡ true
-  unfolding fits
+  unfolding fits headFits
   state-fits =
-      rw (structure-fits st, in-range k largestSize positive small, entries-fit, le-leb (length (s .waiting)) limit (sim .few), places-fit, root-tag, root-fits) ahead-fits
+      rw (structure-fits st, in-range k largestSize positive small, entries-fit, le-leb (length (s .waiting)) limit (sim .few), root-tag, root-fits, ahead-fits) places-fit

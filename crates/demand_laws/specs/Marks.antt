@@ -10,7 +10,7 @@ use Rattle.method_spec.specs.Node.{Node, Ahead}
 use Rattle.method_spec.specs.Prog.{Prog, done, want, Want}
 use Rattle.method_spec.specs.Answer.{Structure, Op, Answer}
 use Rattle.method_spec.specs.Rounds.{putDraw}
-use Rattle.method_spec.specs.Map.{Outcome}
+use Rattle.method_spec.specs.Outcome.{Outcome}
 use Rattle.method_spec.specs.Call.{capacity, program, spareTags, test}
 use Rattle.round_spec.specs.Round.{Hand, readHalf}
 use Rattle.leaf_spec.specs.Leaf.{leafFormat}

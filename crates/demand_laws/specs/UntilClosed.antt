@@ -18,7 +18,7 @@ use Rattle.slot_spec.specs.LittleEndian.{Bytes}
 use Rattle.slot_spec.specs.Tree.{treeLength}
 use Rattle.method_spec.specs.Answer.{Structure, Op}
 use Rattle.method_spec.specs.Plain.{Pair, Contents, nothing, plain, plainContents, Entries}
-use Rattle.method_spec.specs.Map.{Outcome}
+use Rattle.method_spec.specs.Outcome.{Outcome}
 use Rattle.method_spec.specs.Rounds.{rounds}
 use Rattle.method_spec.specs.Call.{capacity, Memory, Called, call}
 use Rattle.method_laws.specs.Represented.{Held}

@@ -24,7 +24,7 @@ use Rattle.state_spec.specs.Fit.{fits}
 use Rattle.method_spec.specs.Rounds.{rounds, draws}
 use Rattle.method_spec.specs.Origin.{Origin, noDraw, DrawOnTape, names, leafOf, leafRun}
 use Rattle.method_spec.specs.Prog.{Prog, Want, done, want}
-use Rattle.method_spec.specs.Map.{Outcome}
+use Rattle.method_spec.specs.Outcome.{Outcome}
 use Rattle.round_spec.specs.Round.{join}
 use Rattle.round_spec.specs.Whole.{contents}
 use Rattle.leaf_spec.specs.Convert.{toLink}

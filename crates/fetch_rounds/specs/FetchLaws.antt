@@ -8,7 +8,7 @@ use native.Mathlib.Omega.{arith}
 use lib.ListN.{length, take, drop, length-take, length-append}
 use lib.Seq.{sets, sets-eq, length-sets, drop-drop, take-append-seam, drop-append-seam}
 use Rattle.method_spec.specs.Prog.{Prog, done, want, after}
-use Rattle.method_spec.specs.Map.{Outcome}
+use Rattle.method_spec.specs.Outcome.{Outcome}
 use Rattle.method_spec.specs.Call.{drawsFrom}
 use Rattle.run_laws.specs.Calls.{draws-length}
 use Rattle.bucket_call_spec.specs.Fetch.{Going}

@@ -5,7 +5,7 @@ use lib.Dec.{eqb}
 use Rattle.list_spec.specs.Choice.{pick}
 use Rattle.slot_spec.specs.declared.Link.{Link}
 use Rattle.slot_spec.specs.declared.Ahead.{Ahead}
-use Rattle.state_spec.specs.Head.{headFits}
+use Rattle.state_spec.specs.Fit.{headFits}
 
 -- The number with which the head of a state is refused: 1 closed, 2 unfit, 0 neither.
 unfoldable pub headRefusal : (mark structure size entries count : ℕ) → Link → Ahead → ℕ

@@ -7,7 +7,7 @@ use lib.Dec.{eqb}
 use borrow.Author.Tests.{eqb-true, eqb-false, eq-eqb, ne-eqb}
 use Rattle.slot_spec.specs.declared.Link.{Link}
 use Rattle.slot_spec.specs.declared.Ahead.{Ahead}
-use Rattle.state_spec.specs.Head.{headFits}
+use Rattle.state_spec.specs.Fit.{headFits}
 use Rattle.fitness.specs.Refusal.{headRefusal}
 
 module _ (mark structure size entries count : ℕ) (root : Link) (ahead : Ahead) where

@@ -7,8 +7,7 @@ ghost use mathlib.Core.Path.{_≡_};
 ghost use mathlib.Core.Bool.{_&&_};
 ghost use Prim.Native.Nat.{_≤_, _^_};
 ghost use lib.Dec.{ltb};
-ghost use Rattle.state_spec.specs.Fit.{zeroLink, rootGood, aheadGood, inRange};
-ghost use Rattle.state_spec.specs.Head.{headFits};
+ghost use Rattle.state_spec.specs.Fit.{zeroLink, rootGood, aheadGood, inRange, headFits};
 ghost use Rattle.fitness.specs.Refusal.{headRefusal};
 
 // Structures are numbered from 1: map, stack, heap, queue. Sizes are 1 to 8.

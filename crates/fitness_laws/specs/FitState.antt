@@ -2,12 +2,12 @@
 use mathlib.Core.Path.{_≡_, refl}
 use mathlib.Core.Bool.{Bool, true, false, _&&_, and-eq-true-iff}
 use mathlib.Core.List.{List, [], _∷_}
-use Prim.Native.Nat.{ℕ, zero, suc, _+_, _-_, _^_, _≤_, _<_}
+use Prim.Native.Nat.{ℕ, zero, suc, _+_, _^_, _≤_, _<_}
 use native.Mathlib.Omega.{arith}
-use lib.Dec.{eqb, leb, ltb}
+use lib.Dec.{eqb, ltb}
 use lib.ListN.{length}
 use lib.Pow.{pow-pos}
-use borrow.Author.Tests.{eqb-true, eqb-false, leb-true, ltb-true}
+use borrow.Author.Tests.{eqb-true, eqb-false, ltb-true}
 use Rattle.list_spec.specs.Choice.{pick}
 use Rattle.list_spec.specs.Distinct.{All}
 use Rattle.list_laws.specs.DistinctLaws.{all-nil, all-cons}
@@ -22,8 +22,8 @@ use Rattle.leaf_spec.specs.Convert.{toLink}
 use Rattle.round_spec.specs.Round.{limit}
 use Rattle.state_spec.specs.declared.Place.{Place}
 use Rattle.state_spec.specs.declared.State.{State}
-use Rattle.state_spec.specs.Fit.{largestStructure, largestSize, inRange, zeroLink, allOf, placeGood, keysIn, rootGood, aheadGood, placesFrom, used, placesFit, fits}
-use Rattle.state_laws.specs.FitLaws.{in-range-true}
+use Rattle.state_spec.specs.Fit.{largestStructure, largestSize, zeroLink, allOf, placeGood, keysIn, rootGood, aheadGood, placesFrom, used, fits}
+use Rattle.state_laws.specs.FitLaws.{fit-parts}
 use Rattle.state_spec.specs.Ticket.{structureOf}
 use Rattle.list_spec.specs.Ascending.{ascending}
 use Rattle.none_lost_laws.specs.Given.{RootFor}
@@ -136,30 +136,23 @@ pub record FitState (s : State) : Type 0 where
   pub ahead-tag : s .ahead .tag < 2 ^ s .size
 
 pub fit-state : (s : State) → fits s ≡ true → FitState s
-unfolding fits
 fit-state s e =
-    let a = and-eq-true-iff (inRange (s .structure) largestStructure) _ .0 e in
-    let b = and-eq-true-iff (inRange (s .size) largestSize) _ .0 (a .1) in
-    let c = and-eq-true-iff (leb (s .entries) (2 ^ s .size - 1)) _ .0 (b .1) in
-    let d = and-eq-true-iff (leb (s .count) limit) _ .0 (c .1) in
-    let f = and-eq-true-iff (placesFit s) _ .0 (d .1) in
-    let g = and-eq-true-iff (ltb (s .root .tag) (2 ^ s .size)) _ .0 (f .1) in
-    let r = and-eq-true-iff (rootGood (s .structure) (s .entries) (s .ahead .key) (s .root)) _ .0 (g .1) in
-    let h = and-eq-true-iff (allOf (placeGood (s .size)) (used s)) _ .0 (f .0) in
+    let f = fit-parts s e in
+    let head = f .0 in
+    let h = and-eq-true-iff (allOf (placeGood (s .size)) (used s)) _ .0 (f .1) in
     let good = all-of (placeGood (s .size)) (used s) (h .0) in
-    let most = leb-true (s .entries) (2 ^ s .size - 1) (c .0) in
-    let few : s .entries < 2 ^ s .size = omega (arith, pow-pos (s .size)) in
-    let root = root-fits (s .size) (s .structure) (s .entries) (s .ahead .key) (s .root) few (r .0) in
+    let few : s .entries < 2 ^ s .size = omega (arith, head .few, pow-pos (s .size)) in
+    let root = root-fits (s .size) (s .structure) (s .entries) (s .ahead .key) (s .root) few (head .rooted) in
     record {
-      structure = in-range-true (s .structure) largestStructure (a .0);
-      size = in-range-true (s .size) largestSize (b .0);
+      structure = head .structures;
+      size = head .sizes;
       entries = few;
-      few = leb-true (s .count) limit (d .0);
+      few = head .waiting;
       well-formed = λ p m. and-eq-true-iff (p .full) (wellFormed (s .size) (p .node)) .0 (good p m) .1;
       order = and-eq-true-iff (ascending (keysIn (used s))) _ .0 (h .1) .0;
-      root-tag = ltb-true (s .root .tag) (2 ^ s .size) (g .0);
+      root-tag = head .root-tag;
       low = root .low;
       absent-zero = root .absent-zero;
       rooted = root .rooted;
-      ahead-tag = ahead-fits (s .structure) (s .size) (s .entries) (s .ahead) (r .1);
+      ahead-tag = ahead-fits (s .structure) (s .size) (s .entries) (s .ahead) (head .known);
     }

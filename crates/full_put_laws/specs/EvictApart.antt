@@ -11,7 +11,8 @@ use Rattle.list_spec.specs.Distinct.{Distinct, All}
 use Rattle.slot_spec.specs.Slot.{bucketBytes}
 use Rattle.round_spec.specs.Format.{Format}
 use Rattle.round_spec.specs.Round.{Written, slotAt, choose, evict}
-use Rattle.round_spec.specs.Whole.{IsTree, Lawful, InTree}
+use Rattle.round_spec.specs.Whole.{IsTree, InTree}
+use Rattle.round_laws.specs.Lawful.{Lawful}
 use Rattle.round_laws.specs.Places.{zeroSlot, slot-at-same, filled-length, filled-slot}
 use Rattle.round_laws.specs.Lists.{choose-few, choose-passes}
 use Rattle.round_laws.specs.Evict.{slots-sized, afterBucket, evict-none, evict-step, after-is-tree, after-other}

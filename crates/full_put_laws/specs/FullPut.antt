@@ -12,7 +12,7 @@ use Rattle.list_spec.specs.Largest.{largest}
 use Rattle.method_spec.specs.Node.{Link, Ahead, Node, withValue}
 use Rattle.method_spec.specs.Prog.{Prog, done}
 use Rattle.method_spec.specs.Answer.{Structure, map, Op, get, put, remove, push, pop, add, take, enqueue, dequeue, replaced, full}
-use Rattle.method_spec.specs.Map.{Outcome}
+use Rattle.method_spec.specs.Outcome.{Outcome}
 use Rattle.method_spec.specs.Rounds.{rounds, spareDraw, putDraw}
 use Rattle.method_spec.specs.Call.{capacity, program}
 use Rattle.list_spec.specs.Distinct.{All}

@@ -11,7 +11,7 @@ use Rattle.list_spec.specs.Choice.{pick}
 use Rattle.method_spec.specs.Node.{Node}
 use Rattle.method_spec.specs.Prog.{Prog, done}
 use Rattle.method_spec.specs.Answer.{Structure}
-use Rattle.method_spec.specs.Map.{Outcome}
+use Rattle.method_spec.specs.Outcome.{Outcome}
 use Rattle.round_spec.specs.Whole.{listed}
 use Rattle.leaf_spec.specs.Leaf.{ProperLeaf}
 use Rattle.bucket_call_spec.specs.Fetch.{Held, Going, total, Round, on, shut, countAtClose, idleRound, fetchRound}

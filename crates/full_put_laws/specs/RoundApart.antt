@@ -14,7 +14,8 @@ use Rattle.slot_spec.specs.Tree.{path, among}
 use Rattle.slot_laws.specs.TreeLaws.{among-member, member-among}
 use Rattle.round_spec.specs.Format.{Format, full}
 use Rattle.round_spec.specs.Round.{Hand, slotAt, noneTwice, allGood, keysOf, readBucket, readBuckets, join, granted, joined, grantedFrom, readHalf, writeHalf}
-use Rattle.round_spec.specs.Whole.{IsTree, Lawful, InTree}
+use Rattle.round_spec.specs.Whole.{IsTree, InTree}
+use Rattle.round_laws.specs.Lawful.{Lawful}
 use Rattle.round_laws.specs.Paths.{path-in-tree, path-distinct}
 use Rattle.round_laws.specs.Readings.{bucket-same, readings-same}
 use Rattle.promise_spec.specs.FullPut.{Differ, Apart, waits, stands}

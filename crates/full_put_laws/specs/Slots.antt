@@ -11,7 +11,8 @@ use lib.Seq.{drop-at, drop-drop, take-at, length-take-le}
 use Rattle.slot_spec.specs.Tree.{slotLength, bucketStart, treeLength, passes}
 use Rattle.round_spec.specs.Format.{Format}
 use Rattle.round_spec.specs.Round.{slotAt}
-use Rattle.round_spec.specs.Whole.{IsTree, Lawful, InTree}
+use Rattle.round_spec.specs.Whole.{IsTree, InTree}
+use Rattle.round_laws.specs.Lawful.{Lawful}
 use Rattle.round_laws.specs.Places.{part-before, part-after, slot-fits}
 use Rattle.promise_spec.specs.FullPut.{OneSlot}
 

@@ -8,7 +8,7 @@ use Rattle.list_spec.specs.Choice.{pick}
 use Rattle.method_spec.specs.Node.{Node, retag}
 use Rattle.method_spec.specs.Prog.{Want, Prog, done, want}
 use Rattle.method_spec.specs.Answer.{Structure}
-use Rattle.method_spec.specs.Map.{Outcome}
+use Rattle.method_spec.specs.Outcome.{Outcome}
 use Rattle.method_spec.specs.Call.{test}
 use Rattle.round_spec.specs.Round.{Hand, readHalf}
 use Rattle.leaf_spec.specs.Leaf.{leafFormat}

@@ -10,9 +10,10 @@ use borrow.Author.Tests.{eqb-true}
 use Rattle.list_spec.specs.Choice.{pick}
 use Rattle.slot_spec.specs.Tree.{among}
 use Rattle.method_spec.specs.Node.{Link, Node, withChild, withValue, linkTo}
-use Rattle.method_spec.specs.Prog.{From, Want, Prog, done, want, bind}
+use Rattle.method_spec.specs.Prog.{From, Want, Prog, done, want, bind, start}
 use Rattle.method_spec.specs.Answer.{Answer, replaced, full}
-use Rattle.method_spec.specs.Map.{Outcome, Step, Sub, top, Spot, gap, hit, linkOf, listed, topOf, kids, nodesAt, seat, stepAt, below, placed, rest, start, walk, unwind, unwound, finish, putStep, putProg}
+use Rattle.method_spec.specs.Outcome.{Outcome}
+use Rattle.method_spec.specs.Map.{Step, Sub, top, Spot, gap, hit, linkOf, listed, topOf, kids, nodesAt, seat, stepAt, below, placed, rest, walk, unwind, unwound, finish, putStep, putProg}
 use Rattle.bucket_call_spec.specs.Fetch.{Held}
 use Rattle.word_round_laws.specs.JoinLaws.{among-append}
 use Rattle.none_lost_laws.specs.Sound.{nodesIn}

@@ -18,7 +18,7 @@ use Rattle.operation_spec.specs.declared.Want as want
 use Rattle.operation_spec.specs.declared.Wanted.{Wanted}
 use Rattle.operation_spec.specs.declared.Wanted.the-variants.{Done, Fetch}
 use Rattle.operation_spec.specs.Method.{toWant}
-use Rattle.operation_spec.specs.Resume.{Resumed, missing, finished, resume, resumedAs, unlessMissing, follow}
+use Rattle.operations.specs.Resume.{Resumed, missing, finished, resume, resumedAs, unlessMissing, follow}
 use Rattle.operations.specs.ResumeLaws.{resume-done, resume-want, resume-missing, resume-bind}
 use Rattle.node_rows.specs.Held.{Held, nodesOf, heldAt}
 use Rattle.node_rows.specs.HeldLaws.{held-next, held-none}

@@ -10,7 +10,7 @@ use Rattle.method_spec.specs.Prog.{Prog, bind}
 use Rattle.method_spec.specs.Heap.{Pass, Lower, childless, lower, beneath, childOf, smaller}
 use Rattle.slot_spec.specs.declared.Node as node
 use Rattle.operation_spec.specs.declared.Wanted.the-variants.{Done}
-use Rattle.operation_spec.specs.Resume.{resume, resumedAs, unlessMissing}
+use Rattle.operations.specs.Resume.{resume, resumedAs, unlessMissing}
 use Rattle.node_rows.specs.Held.{Held, nodesOf}
 use Rattle.heap_spans.specs.declared.Span.{Span}
 use Rattle.heap_children.specs.declared.Child.{Child}

@@ -16,7 +16,7 @@ use Rattle.method_spec.specs.Node.{Node}
 use Rattle.method_spec.specs.Prog.{Want}
 use Rattle.method_spec.specs.Heap.{Pass, wayTo, beneath, descend}
 use Rattle.run_laws.specs.HeapWays.{way-none, way-last}
-use Rattle.operation_spec.specs.Resume.{missing, finished, resume}
+use Rattle.operations.specs.Resume.{missing, finished, resume}
 use Rattle.operations.specs.ResumeLaws.{resume-done, resume-want, resume-missing}
 use Rattle.node_rows.specs.Held.{Held, nodesOf, heldAt}
 use Rattle.node_rows.specs.HeldLaws.{held-next, held-none}

@@ -9,7 +9,7 @@ ghost use mathlib.Core.Path.{_≡_};
 ghost use Prim.Native.Nat.{_≤_};
 ghost use lib.ListN.{length};
 ghost use Rattle.method_spec.specs.Heap as heap;
-ghost use Rattle.method_spec.specs.Map as map;
+ghost use Rattle.method_spec.specs.Prog as prog;
 ghost use Rattle.leaf_spec.specs.Convert.{toLink};
 ghost use Rattle.operation_spec.specs.Method.{toWant};
 ghost use Rattle.node_rows.specs.Row.{words};
@@ -48,7 +48,7 @@ pub fn goes_left(way: Way, level: usize) -> bool
 // The node that is wanted next on the way, whose first nodes are held.
 pub fn next_on(way: Way, root: Link, held: &[u64; ROW], count: usize) -> Want
     requires { ⌜ (length (now held) ≡ words) × Leads way × (count ≤ way .depth) ⌝ }
-    ensures { λ r. ⌜ toWant r ≡ wantAt (heldIn (now (held .entry)) count) (map.start (toLink root)) (heap.wayTo (way .position)) count ⌝ }
+    ensures { λ r. ⌜ toWant r ≡ wantAt (heldIn (now (held .entry)) count) (prog.start (toLink root)) (heap.wayTo (way .position)) count ⌝ }
 {
     if count == 0 {
         return start(root);

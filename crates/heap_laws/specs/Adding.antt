@@ -10,20 +10,20 @@ use borrow.Author.Tests.{ltb-true}
 use Rattle.list_spec.specs.Perm.{Perm, cons, trans}
 use Rattle.list_laws.specs.PermLaws.{perm-refl, perm-sym, perm-append-left}
 use Rattle.balance_spec.specs.Tree.{Tree, leaf, node}
-use Rattle.method_spec.specs.Node.{Node, linkOne}
+use Rattle.method_spec.specs.Node.{Node, linkOne, Cell}
 use Rattle.method_spec.specs.Answer.{add, added, full}
 use Rattle.method_spec.specs.Plain.{enter, plain}
 use Rattle.method_spec.specs.Prog.{done}
-use Rattle.method_spec.specs.Map.{Outcome}
+use Rattle.method_spec.specs.Outcome.{Outcome}
 use Rattle.method_spec.specs.Heap.{Pass, Reached, rise, topmost, newNode, addProg, heapTest}
 use Rattle.method_spec.specs.Call.{Memory}
-use Rattle.method_spec.specs.Safe.{Safe, ends}
+use Rattle.run_laws.specs.Safe.{Safe, ends}
 use Rattle.run_laws.specs.Fetches.{tags}
 use Rattle.run_laws.specs.SafeLaws.{safe-pick, safe-then}
 use Rattle.run_laws.specs.Calls.{memoryOf}
 use Rattle.run_laws.specs.Answers.{StepsTo}
-use Rattle.run_laws.specs.StackRepresents.{countdown, Cell}
-use Rattle.heap_laws.specs.HeapTree.{Complete, numbersIn, positionsIn, Frame, bare, plug, position, heapLink, heapNodes, HoldsHeap, aside, Passes, Came}
+use Rattle.method_spec.specs.HeapShape.{CompleteTree, heapNumbers, heapPositions, bare, heapLink, heapNodes, HoldsHeap, countdown}
+use Rattle.heap_laws.specs.HeapTree.{Frame, plug, position, aside, Passes, Came}
 use Rattle.heap_laws.specs.Collections.{enter-perm, enter-length, enter-sorted}
 use Rattle.heap_laws.specs.Plugs.{complete-same, positions-same, complete-part, complete-one, numbers-one, positions-one}
 use Rattle.heap_laws.specs.Order.{Fits, Spread, ordered-split}
@@ -52,7 +52,7 @@ module _ {T : Type 0} (nil : T) (limit : ℕ) (vs : List ℕ) (m : Memory T) (h 
       go (came .focus)
       (rw (came .at) at (complete-part (m .entries) (came .frames) (came .focus) (rw (came .same) (h .complete))))
     where
-      go : (u : Tree (Cell T)) → Complete (m .entries) (suc (m .entries)) (bare u) → u ≡ leaf
+      go : (u : Tree (Cell T)) → CompleteTree (m .entries) (suc (m .entries)) (bare u) → u ≡ leaf
       go leaf beyond = refl
       go (node l c r) inside = let z : ⊥ = omega (arith, inside .0) in absurd z
 
@@ -61,15 +61,15 @@ module _ {T : Type 0} (nil : T) (limit : ℕ) (vs : List ℕ) (m : Memory T) (h 
     abbrev with-cell : Tree (Cell T)
     with-cell = plug (node leaf c leaf) fs
 
-    cell-complete : Complete (suc (m .entries)) 1 (bare with-cell)
+    cell-complete : CompleteTree (suc (m .entries)) 1 (bare with-cell)
     cell-complete = complete-one (m .entries) fs c last .more (rw same (h .complete))
 
-    cell-numbers : Perm (numbersIn (bare with-cell)) (enter (c .value) vs)
+    cell-numbers : Perm (heapNumbers (bare with-cell)) (enter (c .value) vs)
     cell-numbers =
         trans (numbers-one fs c)
         (trans (cons (c .value) (rw (← same) at (h .numbers))) (perm-sym (enter-perm (c .value) vs)))
 
-    cell-positions : Perm (positionsIn 1 (bare with-cell)) (countdown (suc (m .entries)))
+    cell-positions : Perm (heapPositions 1 (bare with-cell)) (countdown (suc (m .entries)))
     unfolding countdown
     cell-positions =
         trans (rw (last, same) at (positions-one fs c)) (cons (suc (m .entries)) (h .positions))

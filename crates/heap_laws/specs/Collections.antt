@@ -15,7 +15,7 @@ use Rattle.list_laws.specs.PermLaws.{perm-refl, perm-sym, perm-of-eq, perm-leng
 use Rattle.list_laws.specs.DistinctLaws.{all-nil, all-cons, all-perm}
 use Rattle.method_spec.specs.Answer.{heap, Op, add, take}
 use Rattle.method_spec.specs.Plain.{enter, taken-from, plain}
-use Rattle.heap_laws.specs.HeapTree.{Sorted}
+use Rattle.method_spec.specs.HeapShape.{Sorted}
 
 -- ---- one more number
 

@@ -8,14 +8,13 @@ use Rattle.list_spec.specs.Choice.{pick}
 use Rattle.list_spec.specs.Perm.{Perm, cons, trans}
 use Rattle.list_laws.specs.PermLaws.{perm-refl, perm-of-eq}
 use Rattle.balance_spec.specs.Tree.{Tree, leaf, node}
-use Rattle.method_spec.specs.Node.{Node, Link, child, retag}
-use Rattle.method_spec.specs.Prog.{Want}
-use Rattle.method_spec.specs.Map.{start}
+use Rattle.method_spec.specs.Node.{Node, Link, child, retag, Cell}
+use Rattle.method_spec.specs.Prog.{Want, start}
 use Rattle.method_spec.specs.Heap.{childPosition, wayTo, Pass, beneath, descend, heapTest}
-use Rattle.method_spec.specs.Safe.{Safe, ends, meets}
+use Rattle.run_laws.specs.Safe.{Safe, ends, meets}
 use Rattle.run_laws.specs.Fetches.{tags}
-use Rattle.run_laws.specs.StackRepresents.{Cell}
-use Rattle.heap_laws.specs.HeapTree.{Complete, Frame, bare, joined, plug, position, frameTags, heapLink, heapNode, heapNodes, aside, PassOf, Passes, none-passed, one-passed, Came, node-passes}
+use Rattle.method_spec.specs.HeapShape.{CompleteTree, bare, heapLink, heapNode, heapNodes}
+use Rattle.heap_laws.specs.HeapTree.{Frame, joined, plug, position, frameTags, aside, PassOf, Passes, none-passed, one-passed, Came, node-passes}
 use Rattle.run_laws.specs.HeapWays.{along, along-way, along-turn}
 use Rattle.heap_laws.specs.Plugs.{sideNodes, sides-below, position-some, bare-plug, complete-part}
 
@@ -45,7 +44,7 @@ module _ {T : Type 0} (nil : T) where
   bare-frame true l c r d = refl
   bare-frame false l c r d = refl
 
-  module _ (n q : ℕ) (t : Tree (Cell T)) (complete : Complete n 1 (bare t)) (few : q ≤ suc n) where
+  module _ (n q : ℕ) (t : Tree (Cell T)) (complete : CompleteTree n 1 (bare t)) (few : q ≤ suc n) where
     -- The rest of a way, from a place on it.
     descend-rest : (ss : List Bool) (fs : List (Frame T)) (u : Tree (Cell T)) (w : Want T) (path : List (Pass T)) {held ns : List (Node T)}
         → along (position fs) ss ≡ q → bare (plug u fs) ≡ bare t → Passes nil fs path → w .link ≡ heapLink nil (position fs) u
@@ -87,7 +86,7 @@ module _ {T : Type 0} (nil : T) where
         (links s i l (f .cell) r .0) (sides-there s i l r (aside nil fs)) (cons d retagged))
 
   -- The way from the root to a position of the tree, or to the next one.
-  pub descend-safe : (n q : ℕ) (t : Tree (Cell T)) (ns : List (Node T)) → Complete n 1 (bare t) → 1 ≤ q → q ≤ suc n
+  pub descend-safe : (n q : ℕ) (t : Tree (Cell T)) (ns : List (Node T)) → CompleteTree n 1 (bare t) → 1 ≤ q → q ≤ suc n
       → Perm ns (heapNodes nil 1 t)
       → Safe (heapTest n) (Came nil q t) (descend (wayTo q) (start (heapLink nil 1 t)) []) [] ns
   unfolding position plug aside

@@ -11,14 +11,13 @@ use Rattle.list_spec.specs.Distinct.{Distinct, All}
 use Rattle.list_laws.specs.PermLaws.{perm-sym, perm-of-eq, perm-map, perm-of-map}
 use Rattle.list_laws.specs.DistinctLaws.{all-nil, all-cons, distinct-perm}
 use Rattle.balance_spec.specs.Tree.{Tree, leaf, node}
-use Rattle.method_spec.specs.Node.{Node, absent}
+use Rattle.method_spec.specs.Node.{Node, absent, Cell}
 use Rattle.method_spec.specs.Answer.{heap}
 use Rattle.method_spec.specs.Plain.{Pair, numbered, Entries}
 use Rattle.method_spec.specs.Heap.{childPosition}
 use Rattle.method_spec.specs.Call.{Memory}
 use Rattle.run_laws.specs.Fetches.{keys}
-use Rattle.run_laws.specs.StackRepresents.{countdown, Cell}
-use Rattle.heap_laws.specs.HeapTree.{Complete, numbersIn, positionsIn, bare, heapLink, heapNodes, HoldsHeap}
+use Rattle.method_spec.specs.HeapShape.{CompleteTree, heapNumbers, heapPositions, bare, heapLink, heapNodes, HoldsHeap, countdown}
 
 -- ---- 1 to n
 countdown-most : (n : ℕ) → All (λ k. k ≤ n) (countdown n)
@@ -51,13 +50,13 @@ numbered-back (p ∷ ps) (suc n) e =
 
 module _ {T : Type 0} (nil : T) where
   -- ---- keys and numbers of the nodes
-  node-keys : (i : ℕ) (t : Tree (Cell T)) → keys (heapNodes nil i t) ≡ positionsIn i (bare t)
-  unfolding heapNodes positionsIn bare
+  node-keys : (i : ℕ) (t : Tree (Cell T)) → keys (heapNodes nil i t) ≡ heapPositions i (bare t)
+  unfolding heapNodes heapPositions bare
   node-keys i leaf = refl
   node-keys i (node l c r) = rw (map-append, node-keys (childPosition true i) l, node-keys (childPosition false i) r)
 
-  node-numbers : (i : ℕ) (t : Tree (Cell T)) → map (λ (n : Node T). n .value) (heapNodes nil i t) ≡ numbersIn (bare t)
-  unfolding heapNodes numbersIn bare
+  node-numbers : (i : ℕ) (t : Tree (Cell T)) → map (λ (n : Node T). n .value) (heapNodes nil i t) ≡ heapNumbers (bare t)
+  unfolding heapNodes heapNumbers bare
   node-numbers i leaf = refl
   node-numbers i (node l c r) = rw (map-append, node-numbers (childPosition true i) l, node-numbers (childPosition false i) r)
 
@@ -92,7 +91,7 @@ module _ {T : Type 0} (nil : T) where
     unfolding heapLink bare
     heap-no-root none = h .linked ∙ go (h .tree) (h .complete)
       where
-        go : (t : Tree (Cell T)) → Complete (m .entries) 1 (bare t) → heapLink nil 1 t ≡ absent nil
+        go : (t : Tree (Cell T)) → CompleteTree (m .entries) 1 (bare t) → heapLink nil 1 t ≡ absent nil
         go leaf c = refl
         go (node l c r) d = let z : ⊥ = omega (arith, d .0) in absurd z
 
@@ -100,6 +99,6 @@ module _ {T : Type 0} (nil : T) where
     unfolding heapLink bare
     heap-root some = rw (h .linked) (go (h .tree) (h .complete))
       where
-        go : (t : Tree (Cell T)) → Complete (m .entries) 1 (bare t) → (heapLink nil 1 t .height ≡ 1) × (heapLink nil 1 t .key ≡ 1)
+        go : (t : Tree (Cell T)) → CompleteTree (m .entries) 1 (bare t) → (heapLink nil 1 t .height ≡ 1) × (heapLink nil 1 t .key ≡ 1)
         go leaf c = absurd (some (omega arith))
         go (node l c r) d = (refl, refl)

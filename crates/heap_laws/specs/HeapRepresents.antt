@@ -11,13 +11,12 @@ use Rattle.method_spec.specs.Answer.{heap, Op, add, take}
 use Rattle.method_spec.specs.Plain.{plain}
 use Rattle.method_spec.specs.Rounds.{rounds, spare}
 use Rattle.method_spec.specs.Call.{capacity, program, aheadAfter, test, Memory, emptyMemory, drawsFrom}
-use Rattle.method_spec.specs.Safe.{Safe}
+use Rattle.run_laws.specs.Safe.{Safe}
 use Rattle.run_laws.specs.SafeLaws.{within-more}
 use Rattle.run_laws.specs.Calls.{givenTags}
 use Rattle.run_laws.specs.HeapWithin.{heap-rounds, heap-within}
 use Rattle.run_laws.specs.Answers.{StepsTo, Represents}
-use Rattle.run_laws.specs.StackRepresents.{countdown}
-use Rattle.heap_laws.specs.HeapTree.{numbersIn, positionsIn, bare, heapLink, heapNodes, HoldsHeap}
+use Rattle.method_spec.specs.HeapShape.{heapNumbers, heapPositions, bare, heapLink, heapNodes, HoldsHeap, countdown}
 use Rattle.heap_laws.specs.HeapFacts.{heap-distinct}
 use Rattle.heap_laws.specs.Adding.{add-safe}
 use Rattle.heap_laws.specs.Taking.{take-safe}
@@ -53,7 +52,7 @@ module _ {T : Type 0} (nil : T) where
       safe-step vs m h take spares = take-safe nil (capacity k) vs m h (spares 0)
 
   pub empty-heap : (limit : ℕ) → HoldsHeap nil limit [] (emptyMemory nil)
-  unfolding emptyMemory heapLink heapNodes bare numbersIn positionsIn countdown
+  unfolding emptyMemory heapLink heapNodes bare heapNumbers heapPositions countdown
   empty-heap limit =
       record {
         tree = leaf;

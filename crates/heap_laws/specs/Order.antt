@@ -10,8 +10,9 @@ use Rattle.list_spec.specs.Distinct.{All}
 use Rattle.list_laws.specs.PermLaws.{perm-sym, perm-member}
 use Rattle.list_laws.specs.DistinctLaws.{all-nil, all-cons, all-append}
 use Rattle.balance_spec.specs.Tree.{Tree, leaf, node}
-use Rattle.run_laws.specs.StackRepresents.{Cell}
-use Rattle.heap_laws.specs.HeapTree.{AtLeast, Ordered, numbersIn, Sorted, Frame, bare, joined, plug}
+use Rattle.method_spec.specs.Node.{Cell}
+use Rattle.method_spec.specs.HeapShape.{AtLeast, Ordered, heapNumbers, Sorted, bare}
+use Rattle.heap_laws.specs.HeapTree.{Frame, joined, plug}
 use Rattle.heap_laws.specs.Plugs.{joinedOn, lift}
 
 -- ---- the least number
@@ -25,12 +26,12 @@ least-less leaf le h = tt
 least-less (node l u r) le h = omega arith
 
 -- What may stand over a tree in order is at most every number in it.
-least-all : (b : ℕ) (t : Tree ℕ) → Ordered t → AtLeast b t → All (λ v. b ≤ v) (numbersIn t)
-unfolding numbersIn
+least-all : (b : ℕ) (t : Tree ℕ) → Ordered t → AtLeast b t → All (λ v. b ≤ v) (heapNumbers t)
+unfolding heapNumbers
 least-all b leaf h low = all-nil (λ v. b ≤ v)
 least-all b (node l v r) h low =
     all-cons {P = λ v. b ≤ v} low
-    (all-append (numbersIn l) (least-all b l (h .1 .1 .0) (least-less l low (h .0))) (least-all b r (h .1 .1 .1) (least-less r low (h .1 .0))))
+    (all-append (heapNumbers l) (least-all b l (h .1 .1 .0) (least-less l low (h .0))) (least-all b r (h .1 .1 .1) (least-less r low (h .1 .0))))
 
 -- Its top number, if there is one, is w.
 abbrev pub TopIs : ℕ → Tree ℕ → Type 0
@@ -38,8 +39,8 @@ TopIs w leaf = Unit {0}
 TopIs w (node l v r) = v ≡ w
 
 -- It is the first of the numbers in ascending order.
-pub top-first : (w : ℕ) (ws : List ℕ) (t : Tree ℕ) → Ordered t → Perm (numbersIn t) (w ∷ ws) → Sorted (w ∷ ws) → TopIs w t
-unfolding numbersIn
+pub top-first : (w : ℕ) (ws : List ℕ) (t : Tree ℕ) → Ordered t → Perm (heapNumbers t) (w ∷ ws) → Sorted (w ∷ ws) → TopIs w t
+unfolding heapNumbers
 top-first w ws leaf ordered numbers sorted = tt
 top-first w ws (node l v r) ordered numbers sorted =
     let most : v ≤ w = least-all v (node l v r) ordered (le-refl v) w (perm-member (perm-sym numbers) (List·Memᴰ·head refl)) in

@@ -10,10 +10,10 @@ use Rattle.list_spec.specs.Choice.{pick}
 use Rattle.list_spec.specs.Perm.{Perm, cons, swap, trans}
 use Rattle.list_laws.specs.PermLaws.{perm-refl, perm-sym, perm-front, perm-append-left, perm-append-right, perm-append-assoc, perm-append-comm}
 use Rattle.balance_spec.specs.Tree.{Tree, leaf, node, height}
-use Rattle.method_spec.specs.Node.{Node, Link, child, withChild}
+use Rattle.method_spec.specs.Node.{Node, Link, child, withChild, Cell}
 use Rattle.method_spec.specs.Heap.{childPosition, Pass}
-use Rattle.run_laws.specs.StackRepresents.{Cell}
-use Rattle.heap_laws.specs.HeapTree.{Complete, numbersIn, positionsIn, Frame, bare, joined, plug, position, heapLink, heapNode, heapNodes, PassOf}
+use Rattle.method_spec.specs.HeapShape.{CompleteTree, heapNumbers, heapPositions, bare, heapLink, heapNode, heapNodes}
+use Rattle.heap_laws.specs.HeapTree.{Frame, joined, plug, position, PassOf}
 use Rattle.run_laws.specs.HeapWays.{along, child-up, along-turn, ways-part}
 
 -- ---- the shape of a tree
@@ -23,26 +23,26 @@ unfoldable pub shape : Tree ℕ → Tree ℕ
 shape leaf = leaf
 shape (node l v r) = node (shape l) 0 (shape r)
 
-shape-complete : (n i : ℕ) (t : Tree ℕ) → Complete n i t ≡ Complete n i (shape t)
+shape-complete : (n i : ℕ) (t : Tree ℕ) → CompleteTree n i t ≡ CompleteTree n i (shape t)
 unfolding shape
 shape-complete n i leaf = refl
 shape-complete n i (node l v r) = rw (shape-complete n (2 * i) l, shape-complete n (suc (2 * i)) r)
 
-shape-positions : (i : ℕ) (t : Tree ℕ) → positionsIn i t ≡ positionsIn i (shape t)
-unfolding shape positionsIn
+shape-positions : (i : ℕ) (t : Tree ℕ) → heapPositions i t ≡ heapPositions i (shape t)
+unfolding shape heapPositions
 shape-positions i leaf = refl
 shape-positions i (node l v r) = rw (shape-positions (2 * i) l, shape-positions (suc (2 * i)) r)
 
 -- The shape says whether a tree is complete, and what its positions are.
 module _ (i : ℕ) (t u : Tree ℕ) (same : shape t ≡ shape u) where
-  pub complete-same : (n : ℕ) → Complete n i t → Complete n i u
+  pub complete-same : (n : ℕ) → CompleteTree n i t → CompleteTree n i u
   complete-same n h = rw (shape-complete n i u, ← same, ← shape-complete n i t) h
 
-  pub positions-same : positionsIn i t ≡ positionsIn i u
+  pub positions-same : heapPositions i t ≡ heapPositions i u
   positions-same = rw (shape-positions i t, same, shape-positions i u)
 
 -- The positions d levels below i start at i * 2^d.
-pub complete-height : (n i d : ℕ) (t : Tree ℕ) → Complete n i t → n < i * 2 ^ d → height t ≤ d
+pub complete-height : (n i d : ℕ) (t : Tree ℕ) → CompleteTree n i t → n < i * 2 ^ d → height t ≤ d
 unfolding height
 complete-height n i d leaf h low = omega arith
 complete-height n i zero (node l v r) h low = let z : ⊥ = omega arith in absurd z
@@ -54,8 +54,8 @@ complete-height n i (suc d) (node l v r) h low =
 
 -- The tree t at position i is complete up to n exactly where u is up to the next position.
 pub record Grows (n i : ℕ) (t u : Tree ℕ) : Type 0 where
-  pub more : Complete n i t → Complete (suc n) i u
-  pub fewer : Complete (suc n) i u → Complete n i t
+  pub more : CompleteTree n i t → CompleteTree (suc n) i u
+  pub fewer : CompleteTree (suc n) i u → CompleteTree n i t
 
 grows-node : {n i : ℕ} {a b l r : Tree ℕ} (v : ℕ) → (i ≡ suc n → ⊥) → Grows n (2 * i) a l → Grows n (suc (2 * i)) b r
     → Grows n i (node a v b) (node l v r)
@@ -152,47 +152,47 @@ module _ {T : Type 0} where
       lift {R = λ i t u. heapLink nil 1 t ≡ heapLink nil 1 u}
       (record { left = λ i c o t u some e. refl; right = λ i c o t u some e. refl })
 
-  pub numbers-plug : (fs : List (Frame T)) (t u : Tree (Cell T)) → Perm (numbersIn (bare t)) (numbersIn (bare u))
-      → Perm (numbersIn (bare (plug t fs))) (numbersIn (bare (plug u fs)))
-  unfolding bare numbersIn
+  pub numbers-plug : (fs : List (Frame T)) (t u : Tree (Cell T)) → Perm (heapNumbers (bare t)) (heapNumbers (bare u))
+      → Perm (heapNumbers (bare (plug t fs))) (heapNumbers (bare (plug u fs)))
+  unfolding bare heapNumbers
   numbers-plug =
-      lift {R = λ i t u. Perm (numbersIn (bare t)) (numbersIn (bare u))}
+      lift {R = λ i t u. Perm (heapNumbers (bare t)) (heapNumbers (bare u))}
       (record {
-        left = λ i c o t u some p. cons (c .value) (perm-append-right (numbersIn (bare o)) p);
-        right = λ i c o t u some p. cons (c .value) (perm-append-left (numbersIn (bare o)) p);
+        left = λ i c o t u some p. cons (c .value) (perm-append-right (heapNumbers (bare o)) p);
+        right = λ i c o t u some p. cons (c .value) (perm-append-left (heapNumbers (bare o)) p);
       })
 
   -- A node in an empty place adds its number and its position to those of the whole.
   pub numbers-one : (fs : List (Frame T)) (c : Cell T)
-      → Perm (numbersIn (bare (plug (node leaf c leaf) fs))) (c .value ∷ numbersIn (bare (plug leaf fs)))
-  unfolding bare numbersIn
+      → Perm (heapNumbers (bare (plug (node leaf c leaf) fs))) (c .value ∷ heapNumbers (bare (plug leaf fs)))
+  unfolding bare heapNumbers
   numbers-one fs c =
-      lift {R = λ i t u. Perm (numbersIn (bare t)) (c .value ∷ numbersIn (bare u))}
+      lift {R = λ i t u. Perm (heapNumbers (bare t)) (c .value ∷ heapNumbers (bare u))}
       (record {
-        left = λ i d o t u some. front-left (c .value) (d .value) (numbersIn (bare o));
-        right = λ i d o t u some. front-right (c .value) (d .value) (numbersIn (bare o));
+        left = λ i d o t u some. front-left (c .value) (d .value) (heapNumbers (bare o));
+        right = λ i d o t u some. front-right (c .value) (d .value) (heapNumbers (bare o));
       }) fs (node leaf c leaf) leaf (perm-refl (c .value ∷ []))
 
   pub positions-one : (fs : List (Frame T)) (c : Cell T)
-      → Perm (positionsIn 1 (bare (plug (node leaf c leaf) fs))) (position fs ∷ positionsIn 1 (bare (plug leaf fs)))
-  unfolding bare positionsIn
+      → Perm (heapPositions 1 (bare (plug (node leaf c leaf) fs))) (position fs ∷ heapPositions 1 (bare (plug leaf fs)))
+  unfolding bare heapPositions
   positions-one fs c =
-      lift {R = λ i t u. Perm (positionsIn i (bare t)) (position fs ∷ positionsIn i (bare u))}
+      lift {R = λ i t u. Perm (heapPositions i (bare t)) (position fs ∷ heapPositions i (bare u))}
       (record {
-        left = λ i d o t u some. front-left (position fs) i (positionsIn (suc (2 * i)) (bare o));
-        right = λ i d o t u some. front-right (position fs) i (positionsIn (2 * i) (bare o));
+        left = λ i d o t u some. front-left (position fs) i (heapPositions (suc (2 * i)) (bare o));
+        right = λ i d o t u some. front-right (position fs) i (heapPositions (2 * i) (bare o));
       }) fs (node leaf c leaf) leaf (perm-refl (position fs ∷ []))
 
   -- ---- complete trees
 
   -- The parts of a complete tree beneath a node that was passed; and the part at a place.
-  pub complete-sides : (s : Bool) (n i : ℕ) (f : Frame T) (t : Tree (Cell T)) → Complete n i (bare (joinedOn s f t))
-      → Complete n (childPosition s i) (bare t) × Complete n (childPosition (not s) i) (bare (f .other))
+  pub complete-sides : (s : Bool) (n i : ℕ) (f : Frame T) (t : Tree (Cell T)) → CompleteTree n i (bare (joinedOn s f t))
+      → CompleteTree n (childPosition s i) (bare t) × CompleteTree n (childPosition (not s) i) (bare (f .other))
   unfolding bare
   complete-sides true n i f t h = h .1
   complete-sides false n i f t h = (h .1 .1, h .1 .0)
 
-  pub complete-part : (n : ℕ) (fs : List (Frame T)) (t : Tree (Cell T)) → Complete n 1 (bare (plug t fs)) → Complete n (position fs) (bare t)
+  pub complete-part : (n : ℕ) (fs : List (Frame T)) (t : Tree (Cell T)) → CompleteTree n 1 (bare (plug t fs)) → CompleteTree n (position fs) (bare t)
   unfolding plug position
   complete-part n [] t h = h
   complete-part n (f ∷ fs) t h = complete-sides (f .way) n (position fs) f t (complete-part n fs (joined f t) h) .0

@@ -12,11 +12,11 @@ use Rattle.list_laws.specs.ChoiceLaws.{either}
 use Rattle.list_laws.specs.PermLaws.{perm-refl, perm-sym, perm-of-eq, perm-append-left, perm-front}
 use Rattle.list_laws.specs.Shuffle.{part, _&_, shuffle}
 use Rattle.balance_spec.specs.Tree.{Tree, node}
-use Rattle.method_spec.specs.Node.{Node, Link, withChild, withValue, linkOne}
+use Rattle.method_spec.specs.Node.{Node, Link, withChild, withValue, linkOne, Cell}
 use Rattle.method_spec.specs.Heap.{childPosition, Pass, over, settled, rise, topmost}
 use Rattle.run_laws.specs.Fetches.{tags}
-use Rattle.run_laws.specs.StackRepresents.{Cell}
-use Rattle.heap_laws.specs.HeapTree.{AtLeast, Ordered, numbersIn, Frame, bare, joined, plug, position, frameTags, heapLink, heapNode, heapNodes, aside, PassOf, Passes, none-passed, one-passed}
+use Rattle.method_spec.specs.HeapShape.{AtLeast, Ordered, heapNumbers, bare, heapLink, heapNode, heapNodes}
+use Rattle.heap_laws.specs.HeapTree.{Frame, joined, plug, position, frameTags, aside, PassOf, Passes, none-passed, one-passed}
 use Rattle.heap_laws.specs.Plugs.{shape, joinedOn, joined-sides, shape-plug, link-plug, numbers-plug, sideNodes, sides-below, pass-node}
 use Rattle.heap_laws.specs.Order.{least-less, Above, Steady, Fits, Spread, spread-fits, ordered-join}
 
@@ -65,7 +65,7 @@ module _ {T : Type 0} (nil : T) where
     pub ordered : Ordered (bare tree)
     pub alike : shape (bare tree) ≡ shape (bare (plug u fs))
     pub linked : heapLink nil 1 tree ≡ heapLink nil 1 (plug u fs)
-    pub numbers : Perm (numbersIn (bare tree)) (numbersIn (bare (plug u fs)))
+    pub numbers : Perm (heapNumbers (bare tree)) (heapNumbers (bare (plug u fs)))
     pub stored : Perm out (heapNodes nil 1 tree)
 
   -- The number rests: all is in order as it is.
@@ -77,7 +77,7 @@ module _ {T : Type 0} (nil : T) where
         ordered = ordered-join fs u steady fits;
         alike = refl;
         linked = refl;
-        numbers = perm-refl (numbersIn (bare (plug u fs)));
+        numbers = perm-refl (heapNumbers (bare (plug u fs)));
         stored = stored;
       }
 
@@ -100,11 +100,11 @@ module _ {T : Type 0} (nil : T) where
   changed-shape false f l c r = refl
 
   changed-numbers : (s : Bool) (f : Frame T) (l : Tree (Cell T)) (c : Cell T) (r : Tree (Cell T))
-      → Perm (numbersIn (bare (changed s f l c r))) (numbersIn (bare (joinedOn s f (node l c r))))
-  unfolding numbersIn bare
+      → Perm (heapNumbers (bare (changed s f l c r))) (heapNumbers (bare (joinedOn s f (node l c r))))
+  unfolding heapNumbers bare
   changed-numbers true f l c r = swap (c .value) (f .cell .value) _
   changed-numbers false f l c r =
-      shuffle ((c .value ∷ []) ∷ (f .cell .value ∷ []) ∷ (numbersIn (bare l) ++ numbersIn (bare r)) ∷ numbersIn (bare (f .other)) ∷ [])
+      shuffle ((c .value ∷ []) ∷ (f .cell .value ∷ []) ∷ (heapNumbers (bare l) ++ heapNumbers (bare r)) ∷ heapNumbers (bare (f .other)) ∷ [])
       (part 0 & (part 3 & (part 1 & part 2))) (part 1 & (part 3 & (part 0 & part 2))) refl
 
   -- The number has changed places, and rises on from there.

@@ -11,14 +11,14 @@ use Rattle.list_spec.specs.Perm.{Perm, cons, trans}
 use Rattle.list_laws.specs.PermLaws.{perm-refl, perm-sym, perm-of-eq, perm-append, perm-append-left, perm-append-right, perm-append-swap, perm-append-assoc}
 use Rattle.list_laws.specs.Shuffle.{part, _&_, shuffle}
 use Rattle.balance_spec.specs.Tree.{Tree, leaf, node, height}
-use Rattle.method_spec.specs.Node.{Node, absent, child, withChild, withValue, linkOne}
+use Rattle.method_spec.specs.Node.{Node, absent, child, withChild, withValue, linkOne, Cell}
 use Rattle.method_spec.specs.Prog.{Want, Prog}
 use Rattle.method_spec.specs.Heap.{childPosition, Pass, lower, beneath, passed, childOf, smaller, above, sunk, sink, heapTest}
-use Rattle.method_spec.specs.Safe.{Safe, ends, meets}
+use Rattle.run_laws.specs.Safe.{Safe, ends, meets}
 use Rattle.run_laws.specs.SafeLaws.{safe-then, safe-pick}
 use Rattle.run_laws.specs.Fetches.{tags}
-use Rattle.run_laws.specs.StackRepresents.{Cell}
-use Rattle.heap_laws.specs.HeapTree.{AtLeast, Ordered, numbersIn, bare, heapLink, heapNode, heapNodes, node-passes}
+use Rattle.method_spec.specs.HeapShape.{AtLeast, Ordered, heapNumbers, bare, heapLink, heapNode, heapNodes}
+use Rattle.heap_laws.specs.HeapTree.{node-passes}
 use Rattle.heap_laws.specs.Plugs.{shape, both-sides}
 use Rattle.heap_laws.specs.Spine.{Spine, bottom, unseen, seen, Topped, no-top, with-top, topped-spine, stored-spine, hidden, hidden-all, passed-sides, spine-nodes}
 
@@ -118,7 +118,7 @@ module _ {T : Type 0} (nil : T) where
     pub alike : shape (bare tree) ≡ node (shape l) 0 (shape r)
     pub ordered : Ordered (bare tree)
     pub low : (b : ℕ) → b ≤ v → AtLeast b l → AtLeast b r → AtLeast b (bare tree)
-    pub numbers : Perm (numbersIn (bare tree)) (v ∷ (numbersIn l ++ numbersIn r))
+    pub numbers : Perm (heapNumbers (bare tree)) (v ∷ (heapNumbers l ++ heapNumbers r))
     pub stored : Perm (out ++ ns) (heapNodes nil i tree ++ rest)
     pub tagged : Perm (tags held) (tags out ++ more)
 
@@ -129,7 +129,7 @@ module _ {T : Type 0} (nil : T) where
       → Ordered (bare l) → Ordered (bare r) → AtLeast v (bare l) → AtLeast v (bare r)
       → Stock (childPosition false i) r b (hidden nil (childPosition true i) l a ++ rest) (tags (passed a) ++ (c .tag ∷ more)) held ns
       → Sank v i (bare l) (bare r) (c .tag) rest more (withValue v m ∷ (passed a ++ passed b)) held ns
-  unfolding heapLink heapNodes bare shape numbersIn
+  unfolding heapLink heapNodes bare shape heapNumbers
   rests v i l c r {a} {b} m rest more {held} {ns} e ta tb ol or ll lr s =
       let hl = hidden nil (2 * i) l a in
       let hr = hidden nil (suc (2 * i)) r b in
@@ -187,7 +187,7 @@ module _ {T : Type 0} (nil : T) where
       (tags (passed others) ++ (c .tag ∷ more)) out held ns
       → Sank v i (bare (pick s (node xl xc xr) y)) (bare (pick s y (node xl xc xr))) (c .tag) rest more
       (withValue (xc .value) m ∷ (passed others ++ out)) held ns
-  unfolding heapLink heapNodes bare shape numbersIn
+  unfolding heapLink heapNodes bare shape heapNumbers
   sinks s v i xl xc xr y c {others} m rest more {out} {held} {ns} e ty ox oy less ly h =
       let x = node xl xc xr in
       let w = xc .value in
@@ -205,12 +205,12 @@ module _ {T : Type 0} (nil : T) where
         ordered = ordered-sides s w x′ y (h .low w (omega arith) (ox .0) (ox .1 .0)) ly (h .ordered) oy;
         low = λ b _ hl hr. low-side s b x y hl hr;
         numbers =
-            trans (cons w (perm-sym (both-sides s x′ y (λ _ t. numbersIn (bare t)))))
-            (trans (cons w (perm-append-right (numbersIn (bare y)) (h .numbers)))
+            trans (cons w (perm-sym (both-sides s x′ y (λ _ t. heapNumbers (bare t)))))
+            (trans (cons w (perm-append-right (heapNumbers (bare y)) (h .numbers)))
             (trans
-            (shuffle ((w ∷ []) ∷ (v ∷ []) ∷ numbersIn (bare xl) ∷ numbersIn (bare xr) ∷ numbersIn (bare y) ∷ [])
+            (shuffle ((w ∷ []) ∷ (v ∷ []) ∷ heapNumbers (bare xl) ∷ heapNumbers (bare xr) ∷ heapNumbers (bare y) ∷ [])
             (part 0 & ((part 1 & (part 2 & part 3)) & part 4)) (part 1 & ((part 0 & (part 2 & part 3)) & part 4)) refl)
-            (cons v (both-sides s x y (λ _ t. numbersIn (bare t))))));
+            (cons v (both-sides s x y (λ _ t. heapNumbers (bare t))))));
         stored =
             trans (perm-of-eq (ap (λ (q : Node T). q ∷ ((passed others ++ out) ++ ns)) same))
             (cons top

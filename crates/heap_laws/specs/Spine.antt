@@ -8,11 +8,11 @@ use Rattle.list_spec.specs.Perm.{Perm, cons, trans}
 use Rattle.list_laws.specs.PermLaws.{perm-refl, perm-sym, perm-of-eq, perm-front, perm-append, perm-append-right, perm-append-comm, perm-append-assoc}
 use Rattle.list_laws.specs.Shuffle.{part, _&_, shuffle}
 use Rattle.balance_spec.specs.Tree.{Tree, leaf, node}
-use Rattle.method_spec.specs.Node.{Node, Link, withChild, linkOne}
+use Rattle.method_spec.specs.Node.{Node, Link, withChild, linkOne, Cell}
 use Rattle.method_spec.specs.Heap.{childPosition, Pass, downward, passed}
 use Rattle.run_laws.specs.Fetches.{tags}
-use Rattle.run_laws.specs.StackRepresents.{Cell}
-use Rattle.heap_laws.specs.HeapTree.{Complete, Frame, bare, joined, plug, position, frameTags, heapLink, heapNode, heapNodes, aside, Passes, none-passed, one-passed}
+use Rattle.method_spec.specs.HeapShape.{CompleteTree, bare, heapLink, heapNode, heapNodes}
+use Rattle.heap_laws.specs.HeapTree.{Frame, joined, plug, position, frameTags, aside, Passes, none-passed, one-passed}
 use Rattle.heap_laws.specs.Plugs.{joinedOn, joined-sides, complete-part, complete-sides, pass-node}
 
 module _ {T : Type 0} (nil : T) where
@@ -20,7 +20,7 @@ module _ {T : Type 0} (nil : T) where
   -- links of a heap of n entries.
   pub data Spine (n : ℕ) : ℕ → Tree (Cell T) → List (Pass T) → Type 0 where
     bottom : {i : ℕ} → Spine n i leaf []
-    unseen : {i : ℕ} {l : Tree (Cell T)} {c : Cell T} {r : Tree (Cell T)} → Complete n i (bare (node l c r)) → Spine n i (node l c r) []
+    unseen : {i : ℕ} {l : Tree (Cell T)} {c : Cell T} {r : Tree (Cell T)} → CompleteTree n i (bare (node l c r)) → Spine n i (node l c r) []
     seen : {i : ℕ} {l : Tree (Cell T)} {c : Cell T} {r : Tree (Cell T)} {p : Pass T} {ps : List (Pass T)}
         → p .node ≡ heapNode nil i l c r → Spine n (childPosition true i) l (pick (p .way) ps [])
         → Spine n (childPosition false i) r (pick (p .way) [] ps) → Spine n i (node l c r) (p ∷ ps)
@@ -37,7 +37,7 @@ module _ {T : Type 0} (nil : T) where
   topped-spine (with-top e a b) = seen e a b
 
   -- Nothing is at hand of a tree as it was stored.
-  pub stored-spine : {n i : ℕ} (t : Tree (Cell T)) → Complete n i (bare t) → Spine n i t []
+  pub stored-spine : {n i : ℕ} (t : Tree (Cell T)) → CompleteTree n i (bare t) → Spine n i t []
   stored-spine leaf h = bottom
   stored-spine (node l c r) h = unseen h
 
@@ -79,7 +79,7 @@ module _ {T : Type 0} (nil : T) where
   -- The node m over the tree t on the side s is at hand, and so is what was at hand of t; the other side is not.
   topped-joined : (s : Bool) {n i : ℕ} (f : Frame T) {t : Tree (Cell T)} {m : Node T} {below : List (Pass T)}
       → m ≡ heapNode nil i (pick s t (f .other)) (f .cell) (pick s (f .other) t)
-      → Spine n (childPosition s i) t below → Complete n (childPosition (not s) i) (bare (f .other))
+      → Spine n (childPosition s i) t below → CompleteTree n (childPosition (not s) i) (bare (f .other))
       → Topped n i (joinedOn s f t) (record { node = m; way = s } ∷ below)
   topped-joined true f e spine side = with-top e spine (stored-spine (f .other) side)
   topped-joined false f e spine side = with-top e (stored-spine (f .other) side) spine
@@ -100,7 +100,7 @@ module _ {T : Type 0} (nil : T) where
 
   -- So it is of the nodes of a way, each with its link to the next, where the tree o stood at the place.
   pub downward-hand : (n : ℕ) {fs : List (Frame T)} {path : List (Pass T)} → Passes nil fs path
-      → (o : Tree (Cell T)) → Complete n 1 (bare (plug o fs)) → (t : Tree (Cell T)) (below : List (Pass T)) → Topped n (position fs) t below
+      → (o : Tree (Cell T)) → CompleteTree n 1 (bare (plug o fs)) → (t : Tree (Cell T)) (below : List (Pass T)) → Topped n (position fs) t below
       → (l : Link T) → l ≡ heapLink nil (position fs) t → Downward n fs t below (downward l path below)
   unfolding plug position aside downward heapLink
   downward-hand n none-passed o complete t below topped l link =

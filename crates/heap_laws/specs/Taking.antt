@@ -9,19 +9,19 @@ use borrow.Author.Tests.{eqb-true, eqb-false}
 use Rattle.list_spec.specs.Perm.{Perm, cons, swap, trans}
 use Rattle.list_laws.specs.PermLaws.{perm-refl, perm-sym, perm-of-eq, perm-front, perm-length, perm-singleton, perm-append-comm, perm-cancel}
 use Rattle.balance_spec.specs.Tree.{Tree, leaf, node, height}
-use Rattle.method_spec.specs.Node.{Ahead, Node, Link, absent, linkOne}
+use Rattle.method_spec.specs.Node.{Ahead, Node, Link, absent, linkOne, Cell}
 use Rattle.method_spec.specs.Prog.{want}
 use Rattle.method_spec.specs.Answer.{take, taken, empty}
 use Rattle.method_spec.specs.Plain.{plain, taken-from}
-use Rattle.method_spec.specs.Map.{Outcome}
+use Rattle.method_spec.specs.Outcome.{Outcome}
 use Rattle.method_spec.specs.Heap.{Pass, Reached, downward, passed, replaceRoot, takeProg, heapTest}
 use Rattle.method_spec.specs.Call.{Memory}
-use Rattle.method_spec.specs.Safe.{Safe, ends, meets}
+use Rattle.run_laws.specs.Safe.{Safe, ends, meets}
 use Rattle.run_laws.specs.SafeLaws.{safe-then, safe-pick}
 use Rattle.run_laws.specs.Fetches.{tags}
 use Rattle.run_laws.specs.Answers.{StepsTo}
-use Rattle.run_laws.specs.StackRepresents.{countdown, Cell}
-use Rattle.heap_laws.specs.HeapTree.{Complete, Ordered, numbersIn, positionsIn, Sorted, Frame, bare, plug, position, frameTags, heapLink, heapNode, heapNodes, HoldsHeap, aside, Came, node-passes}
+use Rattle.method_spec.specs.HeapShape.{CompleteTree, Ordered, heapNumbers, heapPositions, Sorted, bare, heapLink, heapNode, heapNodes, HoldsHeap, countdown}
+use Rattle.heap_laws.specs.HeapTree.{Frame, plug, position, frameTags, aside, Came, node-passes}
 use Rattle.heap_laws.specs.Plugs.{shape, complete-same, positions-same, complete-height, position-low, numbers-one, positions-one, complete-part, complete-one}
 use Rattle.heap_laws.specs.Order.{TopIs, top-first, ordered-without, top-without}
 use Rattle.heap_laws.specs.Descend.{descend-safe}
@@ -33,11 +33,11 @@ use Rattle.heap_laws.specs.Sinking.{Stock, Sank, sink-safe}
 -- The tree u is left of a heap's where the last position, with the number v, has left: w is the least number of the whole, and ws
 -- are the others.
 record Shrunk (limit w : ℕ) (ws : List ℕ) (v : ℕ) (u : Tree ℕ) : Type 0 where
-  complete : Complete (length ws) 1 u
+  complete : CompleteTree (length ws) 1 u
   ordered : Ordered u
   top : TopIs w u
-  numbers : Perm (v ∷ numbersIn u) (w ∷ ws)
-  positions : Perm (positionsIn 1 u) (countdown (length ws))
+  numbers : Perm (v ∷ heapNumbers u) (w ∷ ws)
+  positions : Perm (heapPositions 1 u) (countdown (length ws))
   sorted : Sorted ws
   fits : length ws ≤ limit
 
@@ -47,7 +47,7 @@ module _ {T : Type 0} where
     single : (z : Cell T) → Single (node leaf z leaf)
 
   -- At the last position.
-  last-single : (n : ℕ) → 1 ≤ n → (t : Tree (Cell T)) → Complete n n (bare t) → Single t
+  last-single : (n : ℕ) → 1 ≤ n → (t : Tree (Cell T)) → CompleteTree n n (bare t) → Single t
   unfolding bare
   last-single n least leaf h = let z : ⊥ = omega arith in absurd z
   last-single n least (node leaf c leaf) h = single c
@@ -88,7 +88,7 @@ module _ {T : Type 0} (nil : T) (limit w : ℕ) (ws : List ℕ) (tag : T) (ahead
     -- It was the only one.
     taken-last : {held ns : List (Node T)} → Shrunk limit w ws (z .value) leaf → Perm ns [] → Perm (tags held) []
         → Done (record { nodes = []; root = absent nil; entries = length ws; answer = taken (z .value) }) (lastHeld ∷ held) ns
-    unfolding plain taken-from heapLink heapNodes bare numbersIn
+    unfolding plain taken-from heapLink heapNodes bare heapNumbers
     taken-last h there tagged =
         let e : w ∷ ws ≡ z .value ∷ [] = perm-singleton (perm-sym (h .numbers)) in
         record {
@@ -114,11 +114,11 @@ module _ {T : Type 0} (nil : T) (limit w : ℕ) (ws : List ℕ) (tag : T) (ahead
         → p .node ≡ heapNode nil 1 l c r → Shrunk limit w ws (z .value) (bare (node l c r))
         → Sank nil (z .value) 1 (bare l) (bare r) (c .tag) [] (d ∷ []) out held ns
         → Done (record { nodes = out; root = linkOne (p .node); entries = length ws; answer = taken (p .node .value) }) held ns
-    unfolding plain taken-from heapLink heapNodes bare numbersIn shape
+    unfolding plain taken-from heapLink heapNodes bare heapNumbers shape
     taken-top l c r p {out} e h s =
         let same : shape (bare (node l c r)) ≡ shape (bare (s .tree)) = sym (s .alike) in
         let value : p .node .value ≡ w = cc (h .top) in
-        let below = numbersIn (bare l) ++ numbersIn (bare r) in
+        let below = heapNumbers (bare l) ++ heapNumbers (bare r) in
         let numbers : Perm (w ∷ (z .value ∷ below)) (w ∷ ws) =
         trans (perm-of-eq (ap (λ (x : ℕ). x ∷ (z .value ∷ below)) (sym (h .top)))) (trans (swap (c .value) (z .value) below) (h .numbers)) in
         record {
@@ -165,7 +165,7 @@ module _ {T : Type 0} (nil : T) (limit w : ℕ) (ws : List ℕ) (tag : T) (ahead
       (want (r .end) (λ n. replaceRoot nil (suc (length ws)) n (downward (absent nil) (r .path) []))) held ns
   unfolding heapLink heapNodes hidden bare
   last-safe m h r held ns came =
-      let complete : Complete (suc k) 1 (bare (plug (came .focus) fs)) = rw (came .same) (rw counted at (h .complete)) in
+      let complete : CompleteTree (suc k) 1 (bare (plug (came .focus) fs)) = rw (came .same) (rw counted at (h .complete)) in
       go (came .focus) (last-single (suc k) (omega arith) (came .focus) (rw (came .at) at (complete-part (suc k) fs (came .focus) complete)))
       (came .same) (came .ends) (came .there) complete
     where
@@ -182,7 +182,7 @@ module _ {T : Type 0} (nil : T) (limit w : ℕ) (ws : List ℕ) (tag : T) (ahead
       ps = downward (absent nil) (r .path) []
 
       go : (focus : Tree (Cell T)) → Single focus → bare (plug focus fs) ≡ bare (h .tree) → r .end .link ≡ heapLink nil (suc k) focus
-          → Perm ns (heapNodes nil (suc k) focus ++ aside nil fs) → Complete (suc k) 1 (bare (plug focus fs))
+          → Perm ns (heapNodes nil (suc k) focus ++ aside nil fs) → CompleteTree (suc k) 1 (bare (plug focus fs))
           → Safe (heapTest (suc k)) Done (want (r .end) (λ n. replaceRoot nil (suc k) n ps)) held ns
       go focus (single z) same link there complete =
           let down = downward-hand nil (suc k) (came .passes) focus complete leaf [] no-top (absent nil) refl in

@@ -13,7 +13,7 @@ use Rattle.method_spec.specs.Heap.{Pass, passed, smaller, above, sunk, sink}
 use Rattle.slot_spec.specs.declared.Node as node
 use Rattle.operation_spec.specs.declared.Want as want
 use Rattle.operation_spec.specs.declared.Wanted.the-variants.{Done, Fetch}
-use Rattle.operation_spec.specs.Resume.{Resumed, missing, finished, resume, unlessMissing, follow}
+use Rattle.operations.specs.Resume.{Resumed, missing, finished, resume, unlessMissing, follow}
 use Rattle.operations.specs.ResumeLaws.{resume-done, resume-map}
 use Rattle.node_rows.specs.Row.{places, words}
 use Rattle.node_rows.specs.Held.{Held, heldIn, nodesOf, Lists}

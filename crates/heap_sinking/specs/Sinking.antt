@@ -9,7 +9,7 @@ use Rattle.list_spec.specs.Choice.{pick}
 use Rattle.method_spec.specs.Node.{Node}
 use Rattle.method_spec.specs.Heap.{Pass, smaller, above, sunk, sink}
 use Rattle.slot_spec.specs.declared.Node as node
-use Rattle.operation_spec.specs.Resume.{Resumed, finished, resume, resumedAs, follow}
+use Rattle.operations.specs.Resume.{Resumed, finished, resume, resumedAs, follow}
 use Rattle.node_rows.specs.Row.{places, words}
 use Rattle.node_rows.specs.Held.{Held, heldIn, nodesOf}
 use Rattle.heap_spans.specs.declared.Span.{Span}

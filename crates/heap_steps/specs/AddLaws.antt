@@ -9,14 +9,15 @@ use lib.ListN.{length, drop}
 use borrow.Author.Tests.{lt-ltb, le-ltb}
 use Rattle.method_spec.specs.Node.{Link, Node, linkOne}
 use Rattle.method_spec.specs.Answer.{added, full}
-use Rattle.method_spec.specs.Map.{Outcome, start}
+use Rattle.method_spec.specs.Outcome.{Outcome}
+use Rattle.method_spec.specs.Prog.{start}
 use Rattle.method_spec.specs.Heap.{Reached, wayTo, descend, newNode, rise, topmost, addProg}
 use Rattle.slot_spec.specs.declared.Link as link
 use Rattle.slot_spec.specs.declared.Node as node
 use Rattle.leaf_spec.specs.Convert.{toLink, toNode}
 use Rattle.operation_spec.specs.declared.Answer.the-variants.{Added}
 use Rattle.operation_spec.specs.Method.{nothing, toOutcome}
-use Rattle.operation_spec.specs.Resume.{Resumed, missing, finished, resume, follow, wantedOf, outcomeOf}
+use Rattle.operations.specs.Resume.{Resumed, missing, finished, resume, follow, wantedOf, outcomeOf}
 use Rattle.operations.specs.ResumeLaws.{resume-done, resume-map}
 use Rattle.node_rows.specs.Row.{places, words}
 use Rattle.node_rows.specs.Held.{Held, heldIn, nodesOf}

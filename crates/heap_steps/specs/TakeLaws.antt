@@ -7,9 +7,9 @@ use mathlib.Core.List.{List, []}
 use lib.ListN.{length, drop, getD}
 use borrow.Author.Tests.{eq-eqb, ne-eqb}
 use Rattle.method_spec.specs.Node.{Link, Node, absent, linkOne}
-use Rattle.method_spec.specs.Prog.{Prog, want}
+use Rattle.method_spec.specs.Prog.{Prog, want, start}
 use Rattle.method_spec.specs.Answer.{taken, empty}
-use Rattle.method_spec.specs.Map.{Outcome, start}
+use Rattle.method_spec.specs.Outcome.{Outcome}
 use Rattle.method_spec.specs.Heap.{Reached, wayTo, descend, downward, sink, replaceRoot, takeProg}
 use Rattle.slot_spec.specs.declared.Link as link
 use Rattle.slot_spec.specs.declared.Node as node
@@ -21,7 +21,7 @@ use Rattle.operation_spec.specs.declared.Answer.the-variants.{Taken}
 use Rattle.operation_spec.specs.declared.Wanted.{Wanted}
 use Rattle.operation_spec.specs.declared.Wanted.the-variants.{Done, Fetch}
 use Rattle.operation_spec.specs.Method.{nothing, toWant, toWanted, toOutcome}
-use Rattle.operation_spec.specs.Resume.{Resumed, missing, finished, resume, resumedAs, follow, wantedOf, outcomeOf}
+use Rattle.operations.specs.Resume.{Resumed, missing, finished, resume, resumedAs, follow, wantedOf, outcomeOf}
 use Rattle.operations.specs.ResumeLaws.{resume-done, resume-want, resume-missing, resume-bind, resume-map}
 use Rattle.node_rows.specs.Row.{places, words}
 use Rattle.node_rows.specs.Held.{Held, heldIn, nodesOf, heldAt}

@@ -20,7 +20,7 @@ ghost use lib.ListN.{length};
 ghost use Rattle.method_spec.specs.Heap.{addProg, takeProg};
 ghost use Rattle.leaf_spec.specs.Convert.{toLink};
 ghost use Rattle.operation_spec.specs.Method.{toOutcome, toWanted};
-ghost use Rattle.operation_spec.specs.Resume.{resume, wantedOf, outcomeOf};
+ghost use Rattle.operations.specs.Resume.{resume, wantedOf, outcomeOf};
 ghost use Rattle.node_rows.specs.Row.{places, words};
 ghost use Rattle.node_rows.specs.Held.{heldIn, nodesOf};
 

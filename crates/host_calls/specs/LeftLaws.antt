@@ -1,6 +1,6 @@
 -- The numbers of a call, cut to what it takes; and the state that is left, saved.
 use mathlib.Core.Path.{_≡_, refl, sym, _∙_, ap, ap₂}
-use mathlib.Core.Bool.{Bool, true, false, _&&_, and-eq-true-iff}
+use mathlib.Core.Bool.{Bool, true, false, _&&_}
 use mathlib.Core.List.{List, [], _∷_, _++_, append-nil}
 use Prim.Native.Nat.{ℕ, zero, suc, min, max, _+_, _-_, _*_, _/_, _≤_, _<_}
 use native.Mathlib.Decide.{decLt}
@@ -13,10 +13,9 @@ use Rattle.slot_spec.specs.Tree.{slotLength}
 use Rattle.slot_laws.specs.LittleEndianLaws.{bytes-drop}
 use Rattle.state_spec.specs.declared.Place.{Place}
 use Rattle.state_spec.specs.declared.State.{State}
-use Rattle.state_spec.specs.Fit.{places, largestSize, placesFit}
+use Rattle.state_spec.specs.Fit.{places, largestSize}
 use Rattle.state_spec.specs.Fetching.{roundsOf, drawsOf}
-use Rattle.state_spec.specs.Head.{headFits}
-use Rattle.state_laws.specs.FitLaws.{fits-parts, head-true}
+use Rattle.state_laws.specs.FitLaws.{fit-parts}
 use Rattle.method_spec.specs.Node.{Node}
 use Rattle.call_spec.specs.Store.{Ended, placed, called}
 use Rattle.tape_laws.specs.CutLaws.{onTrace, called-cut, leaves-within}
@@ -87,8 +86,7 @@ module _ {head : Head} {words tree ticket words′ tree′ own own′ : List ℕ
 pub head-size : {head : Head} {words : List ℕ} → Stands head words → (1 ≤ head .size) × (head .size ≤ largestSize)
 head-size st =
     let s = st .state in
-    let f = and-eq-true-iff (headFits (s .structure) (s .size) (s .entries) (s .count) (s .root) (s .ahead)) (placesFit s) .0 (sym (fits-parts s) ∙ st .for .fit) in
-    let k = head-true (s .structure) (s .size) (s .entries) (s .count) (s .root) (s .ahead) (f .0) .sizes in
+    let k = fit-parts s (st .for .fit) .0 .sizes in
     let e = ap (λ (h : Head). h .size) (st .for .head) in
     (omega (arith, k, e), omega (arith, k, e))
 

@@ -12,7 +12,7 @@ use borrow.Author.Tests.{ne-eqb, lt-leb}
 use Rattle.list_spec.specs.Choice.{pick}
 use Rattle.slot_spec.specs.LittleEndian.{Bytes}
 use Rattle.method_spec.specs.Answer.{Structure, Op}
-use Rattle.method_spec.specs.Map.{Outcome}
+use Rattle.method_spec.specs.Outcome.{Outcome}
 use Rattle.method_spec.specs.Prog.{Prog}
 use Rattle.method_spec.specs.Rounds.{rounds}
 use Rattle.run_laws.specs.RoundsLaws.{some-rounds}

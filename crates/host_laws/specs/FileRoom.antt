@@ -17,7 +17,8 @@ use Rattle.readout_spec.specs.ReadOut.{fileOf}
 use Rattle.survey_laws.specs.FileLaws.{file-length}
 use Rattle.readout_laws.specs.SeenLaws.{slots-length, waiting-length}
 use Rattle.readout_laws.specs.TakenLaws.{good-full}
-use Rattle.readout_laws.specs.Complete.{seen, BadAt, RepeatedAt, complete}
+use Rattle.readout_spec.specs.Complete.{seen, BadAt, RepeatedAt}
+use Rattle.readout_laws.specs.Complete.{complete}
 use Rattle.host_spec.specs.Lengths.{knownSize, fileLent}
 
 -- A list without repeats is no longer than one that has all its members.

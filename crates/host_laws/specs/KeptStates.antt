@@ -4,7 +4,7 @@ use mathlib.Core.Bool.{Bool, true, false, not, _&&_, and-eq-true-iff}
 use mathlib.Core.List.{List, [], _∷_, map, List·Memᴰ·head, List·Memᴰ·tail}
 use Prim.Native.Nat.{ℕ, _+_, _-_, _^_, _≤_, _<_}
 use native.Mathlib.Omega.{arith}
-use lib.Dec.{eqb, ltb, leb}
+use lib.Dec.{eqb}
 use lib.Pow.{pow-mono}
 use lib.ListN.{length, replicate, length-append, length-map, length-replicate}
 use borrow.Author.Tests.{eqb-true, eq-eqb, ne-eqb}
@@ -19,7 +19,6 @@ use Rattle.method_spec.specs.Answer.{Structure}
 use Rattle.method_spec.specs.Call.{capacity, Memory}
 use Rattle.method_spec.specs.Plain.{Contents}
 use Rattle.method_laws.specs.Represented.{Held}
-use Rattle.round_spec.specs.Round.{limit}
 use Rattle.leaf_spec.specs.Leaf.{ProperLeaf}
 use Rattle.leaf_spec.specs.Convert.{toLink, fromNode}
 use Rattle.leaf_laws.specs.Proper.{FitLink}
@@ -34,6 +33,7 @@ use Rattle.state_laws.specs.FitLaws.{in-range-true}
 use Rattle.call_spec.specs.Store.{placed}
 use Rattle.lent_bytes_laws.specs.PlaceLaws.{full, AllKept, kept-append, kept-none}
 use Rattle.lent_bytes_laws.specs.StateLaws.{StateKept}
+use Rattle.state_laws.specs.FitLaws.{fit-parts}
 use Rattle.fitness_laws.specs.FitState.{fit-state}
 use Rattle.demand_spec.specs.History.{Brought, Kept, finally}
 use Rattle.demand_spec.specs.Demands.{openedStore, method}
@@ -42,18 +42,6 @@ use Rattle.demand_laws.specs.FitKept.{state-fits}
 use Rattle.demand_laws.specs.OpenedRuns.{matches, left-store, method-held}
 
 -- ---- the keys of a fit state
--- Its root and what it knows ahead.
-fit-roots : (s : State) → fits s ≡ true → (rootGood (s .structure) (s .entries) (s .ahead .key) (s .root) ≡ true) × (aheadGood (s .structure) (s .size) (s .entries) (s .ahead) ≡ true)
-unfolding fits
-fit-roots s e =
-    let a = and-eq-true-iff (inRange (s .structure) largestStructure) _ .0 e in
-    let b = and-eq-true-iff (inRange (s .size) largestSize) _ .0 (a .1) in
-    let c = and-eq-true-iff (leb (s .entries) (2 ^ s .size - 1)) _ .0 (b .1) in
-    let d = and-eq-true-iff (leb (s .count) limit) _ .0 (c .1) in
-    let f = and-eq-true-iff (placesFit s) _ .0 (d .1) in
-    let g = and-eq-true-iff (ltb (s .root .tag) (2 ^ s .size)) _ .0 (f .1) in
-    and-eq-true-iff (rootGood (s .structure) (s .entries) (s .ahead .key) (s .root)) _ .0 (g .1)
-
 pub queue-key : (entries next : ℕ) (l : Link) → (entries ≡ 0 → ⊥) → rootGood 4 entries next l ≡ true → next ≡ l .key + entries
 unfolding rootGood
 queue-key entries next l n e =
@@ -81,7 +69,7 @@ either-low false x y h k = k
 pub fit-kept : (s : State) → fits s ≡ true → s .mark ≡ 0 → FitLink (s .size) (toLink (s .root)) → s .ahead .key < 2 ^ 32 → length (s .places) ≡ places → AllKept (s .places) → StateKept s
 fit-kept s fit m root low sized kept =
     let f = fit-state s fit in
-    let good = fit-roots s fit in
+    let good = fit-parts s fit .0 in
     let p : 2 ^ s .size ≤ 2 ^ 8 = pow-mono {i = s .size} {j = 8} (omega (arith, f .size)) in
     record {
       head =
@@ -98,9 +86,9 @@ fit-kept s fit m root low sized kept =
           };
       sized = sized;
       kept = kept;
-      queue = λ q n. queue-key (s .entries) (s .ahead .key) (s .root) n (subst (λ (x : ℕ). rootGood x (s .entries) (s .ahead .key) (s .root) ≡ true) q (good .0));
-      empty-queue = λ q z. empty-key (s .structure) (s .entries) (s .ahead .key) (s .root) z (good .0);
-      others = λ n. no-key (s .structure) (s .size) (s .entries) (s .ahead) n (good .1);
+      queue = λ q n. queue-key (s .entries) (s .ahead .key) (s .root) n (subst (λ (x : ℕ). rootGood x (s .entries) (s .ahead .key) (s .root) ≡ true) q (good .rooted));
+      empty-queue = λ q z. empty-key (s .structure) (s .entries) (s .ahead .key) (s .root) z (good .rooted);
+      others = λ n. no-key (s .structure) (s .size) (s .entries) (s .ahead) n (good .known);
     }
 
 -- ---- placed nodes

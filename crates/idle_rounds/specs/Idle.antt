@@ -7,7 +7,7 @@ use lib.Seq.{sets}
 use Rattle.list_spec.specs.Distinct.{All}
 use Rattle.method_spec.specs.Prog.{done}
 use Rattle.method_spec.specs.Answer.{Structure}
-use Rattle.method_spec.specs.Map.{Outcome}
+use Rattle.method_spec.specs.Outcome.{Outcome}
 use Rattle.method_spec.specs.Call.{drawsFrom}
 use Rattle.round_spec.specs.Whole.{IsTree}
 use Rattle.bucket_call_spec.specs.Fetch.{Held}

@@ -14,7 +14,7 @@ use Rattle.list_spec.specs.Choice.{pick}
 use Rattle.list_spec.specs.Distinct.{All}
 use Rattle.method_spec.specs.Node.{Node, absent}
 use Rattle.method_spec.specs.Prog.{Prog, done, root}
-use Rattle.method_spec.specs.Map.{Outcome}
+use Rattle.method_spec.specs.Outcome.{Outcome}
 use Rattle.method_spec.specs.Answer as answer
 use Rattle.method_spec.specs.Answer.{Structure}
 use Rattle.method_spec.specs.Call.{drawsFrom}
@@ -25,8 +25,8 @@ use Rattle.round_laws.specs.NothingLost.{round-is-tree, round-proper}
 use Rattle.leaf_spec.specs.Leaf.{leafFormat, ProperLeaf}
 use Rattle.bucket_call_spec.specs.Fetch.{Held, Going, heldKeys, total, tooMany, written, Round, on, shut, atClose, idleRound, fetchRound}
 use Rattle.bucket_call_spec.specs.Call.{drawOf, putRounds}
-use Rattle.bucket_call_spec.specs.Peak.{roundsFrom, peakOf}
-use Rattle.peak_laws.specs.PeakLaws.{peakAt, peak-none, rounds-none, peak-goes, peak-shuts, done-round}
+use Rattle.bucket_call_spec.specs.Peak.{roundsFrom, peakOf, peakAt}
+use Rattle.peak_laws.specs.PeakLaws.{peak-none, rounds-none, peak-goes, peak-shuts, done-round}
 use Rattle.leaf_laws.specs.Proper.{leaves-lawful}
 use Rattle.stash_laws.specs.WaitingLaws.{waiting-length}
 use Rattle.one_round.specs.declared.Rounded.{Rounded}

@@ -20,7 +20,7 @@ ghost use Rattle.state_spec.specs.Fit.{largestSize};
 ghost use Rattle.walk_spec.specs.Lines.{mostLeaves};
 ghost use Rattle.walk_spec.specs.Input.{recordLength, longestRecord};
 ghost use Rattle.walk_spec.specs.Walk.{callIn};
-ghost use Rattle.call.specs.Run.{endedAs};
+ghost use Rattle.call_spec.specs.Store.{callEndedAs};
 
 // Reads the bytes of a call, in pieces of any length, to the start of `input`; how they came.
 pub fn read_record(structure: u8, size: u8, input: &mut [u8]) -> Arrived
@@ -35,7 +35,7 @@ pub fn read_record(structure: u8, size: u8, input: &mut [u8]) -> Arrived
 // Makes the call that stands first in `input`, on a store of a size that stores have, with the first 2F numbers of a fresh trace buffer.
 pub fn call_in(state: State, tree: &mut [u8], input: &[u8], trace: &mut [u16]) -> Called
     requires { ⌜ ((1 ≤ state .size) × (state .size ≤ largestSize)) × (recordLength (state .structure) (state .size) ≤ length (now input)) × (now trace ≡ replicate mostLeaves 0) ⌝ }
-    ensures { λ r. ⌜ endedAs r (now (tree .exit)) (take (2 * roundsOf (state .structure) (state .size)) (now (trace .exit))) ≡ callIn state (now (tree .entry)) (now (input .entry)) ⌝ }
+    ensures { λ r. ⌜ callEndedAs r (now (tree .exit)) (take (2 * roundsOf (state .structure) (state .size)) (now (trace .exit))) ≡ callIn state (now (tree .entry)) (now (input .entry)) ⌝ }
 {
     let leaves = 2 * rounds_of(state.structure, state.size);
     let draws = draws_of(state.structure, state.size);

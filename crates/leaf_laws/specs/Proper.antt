@@ -17,7 +17,7 @@ use Rattle.round_spec.specs.Format.{full, empty}
 use Rattle.round_spec.specs.Nodes.{readingOf}
 use Rattle.leaf_spec.specs.Convert.{toNode, fromNode, fromLink}
 use Rattle.leaf_spec.specs.Leaf.{readLeaf, leafFormat, ProperLeaf}
-use Rattle.round_spec.specs.Whole.{Lawful}
+use Rattle.round_laws.specs.Lawful.{Lawful}
 use Rattle.round_laws.specs.NodeLaws.{nodes-lawful}
 
 -- ---- the format is lawful, as that of the store's nodes is

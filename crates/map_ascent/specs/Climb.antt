@@ -3,10 +3,11 @@ use Prim.Native.Nat.{ℕ, suc, _+_, _*_, _-_, _≤_}
 use mathlib.Core.Path.{_≡_}
 use mathlib.Core.List.{List}
 use lib.ListN.{length, drop}
-use Rattle.method_spec.specs.Map.{Step, Built, start}
+use Rattle.method_spec.specs.Prog.{start}
+use Rattle.method_spec.specs.Map.{Step, Built}
 use Rattle.slot_spec.specs.declared.Link as link
 use Rattle.leaf_spec.specs.Convert.{toLink}
-use Rattle.operation_spec.specs.Resume.{resume, resumedAs}
+use Rattle.operations.specs.Resume.{resume, resumedAs}
 use Rattle.node_rows.specs.Row.{places, words}
 use Rattle.node_rows.specs.Held.{Held, heldIn, nodesOf}
 use Rattle.map_nodes.specs.declared.Sub as sub

@@ -6,15 +6,15 @@ use mathlib.Core.Bool.{Bool, true, false}
 use mathlib.Core.List.{List, [], _∷_, _++_}
 use lib.ListN.{length, drop, set, length-drop, length-append}
 use Rattle.method_spec.specs.Node.{Node}
-use Rattle.method_spec.specs.Prog.{bind}
-use Rattle.method_spec.specs.Map.{Step, Sub, listed, start, climb, unwind, raise}
+use Rattle.method_spec.specs.Prog.{bind, start}
+use Rattle.method_spec.specs.Map.{Step, Sub, listed, climb, unwind, raise}
 use Rattle.slot_spec.specs.declared.Node as node
 use Rattle.slot_spec.specs.declared.Link as link
 use Rattle.slot_spec.specs.Row.{nodesFrom}
 use Rattle.leaf_spec.specs.Convert.{toLink, toNode}
 use Rattle.operation_spec.specs.declared.Want as want
 use Rattle.operation_spec.specs.declared.Wanted.the-variants.{Done, Fetch}
-use Rattle.operation_spec.specs.Resume.{resume, finished, follow, Ends}
+use Rattle.operations.specs.Resume.{resume, finished, follow, Ends}
 use Rattle.operations.specs.ResumeLaws.{resume-bind}
 use Rattle.node_rows.specs.Row.{places, words}
 use Rattle.node_rows.specs.Heights.{Low, Lows}

@@ -1,2 +1,1 @@
-pub mod Balance
 pub mod BalanceLaws

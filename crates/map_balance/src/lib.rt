@@ -1,9 +1,8 @@
 // A node's balance, and what it decides.
 use slot_spec::Node;
 ghost use mathlib.Core.Path.{_≡_};
-ghost use Rattle.method_spec.specs.Map.{tall};
+ghost use Rattle.method_spec.specs.Map.{balanceOf, balanceFrom, tall, leansOut};
 ghost use Rattle.leaf_spec.specs.Convert.{toNode};
-ghost use Rattle.map_balance.specs.Balance.{balanceOf, towards, leansOut};
 
 // Document 01's balance: "left height minus right height, from -2 to 2".
 fn balance(n: Node) -> i8
@@ -28,7 +27,7 @@ fn balance(n: Node) -> i8
 
 // The balance seen from a side, the left or else the right, where it is negated.
 pub fn lean(left: bool, n: Node) -> i8
-    ensures { λ r. ⌜ r ≡ towards left (balanceOf (toNode n)) ⌝ }
+    ensures { λ r. ⌜ r ≡ balanceFrom left (toNode n) ⌝ }
 {
     let b = balance(n);
     if left {

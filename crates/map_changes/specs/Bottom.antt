@@ -4,8 +4,9 @@ use mathlib.Core.Path.{_≡_}
 use mathlib.Core.List.{[]}
 use mathlib.Core.Bool.{Bool, true, false}
 use lib.ListN.{getD, drop}
-use Rattle.method_spec.specs.Prog.{Prog, done, bind}
-use Rattle.method_spec.specs.Map.{Outcome, Built, start, finish}
+use Rattle.method_spec.specs.Prog.{Prog, done, bind, start}
+use Rattle.method_spec.specs.Outcome.{Outcome}
+use Rattle.method_spec.specs.Map.{Built, finish}
 use Rattle.slot_spec.specs.declared.Link as link
 use Rattle.slot_spec.specs.declared.Node as node
 use Rattle.operation_spec.specs.declared.Want as want
@@ -18,7 +19,7 @@ use Rattle.operation_spec.specs.declared.Wanted.the-variants.{Done, Fetch}
 use Rattle.slot_spec.specs.Slot.{noLink, noNode}
 use Rattle.leaf_spec.specs.Convert.{toLink}
 use Rattle.operation_spec.specs.Method.{toAnswer}
-use Rattle.operation_spec.specs.Resume.{resume, unlessMissing}
+use Rattle.operations.specs.Resume.{resume, unlessMissing}
 use Rattle.node_rows.specs.Held.{Held, nodesOf}
 use Rattle.map_nodes.specs.Method.{toSub}
 use Rattle.map_nodes.specs.Upward.{weight, upward}

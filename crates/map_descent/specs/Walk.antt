@@ -12,7 +12,7 @@ use Rattle.method_spec.specs.Map.{Step, Spot, gap, hit, Lowest, stepAt, below, 
 use Rattle.slot_spec.specs.declared.Link as link
 use Rattle.operation_spec.specs.declared.Wanted.the-variants.{Done}
 use Rattle.operation_spec.specs.Method.{toWant}
-use Rattle.operation_spec.specs.Resume.{Resumed, missing, finished, resume, resumedAs}
+use Rattle.operations.specs.Resume.{Resumed, missing, finished, resume, resumedAs}
 use Rattle.node_rows.specs.Held.{Held, nodesOf, heldAt, HeldFrom}
 use Rattle.map_descent.specs.declared.descend.End.{End}
 use Rattle.map_descent.specs.declared.descend.End.the-variants.{Missing, Gap, Hit}

@@ -11,6 +11,7 @@ ghost use mathlib.Core.Path.{_≡_};
 ghost use Prim.Native.Nat.{_<_};
 ghost use mathlib.Core.Bool.{false};
 ghost use lib.ListN.{length};
+ghost use Rattle.method_spec.specs.Prog as prog;
 ghost use Rattle.method_spec.specs.Map as map;
 ghost use Rattle.leaf_spec.specs.Convert.{toLink};
 ghost use Rattle.operation_spec.specs.Method.{toWant};
@@ -36,7 +37,7 @@ pub struct Descent {
 // Down by key. Heights bound the walk: it passes no more nodes than the root link's height says.
 pub fn descend(key: u32, root: Link, held: &[u64; ROW], count: usize) -> Descent
     requires { ⌜ (length (now held) ≡ words) × Walks root (heldIn (now held) count) ⌝ }
-    ensures { λ r. ⌜ DescendsTo key (heldIn (now (held .entry)) count) (map.start (toLink root)) (root .height) r ⌝ }
+    ensures { λ r. ⌜ DescendsTo key (heldIn (now (held .entry)) count) (prog.start (toLink root)) (root .height) r ⌝ }
 {
     let mut want = start(root);
     let mut fuel = root.height;

@@ -12,6 +12,7 @@ ghost use Prim.Native.Nat.{_≤_, _<_};
 ghost use lib.Dec.{ltb};
 ghost use lib.ListN.{length};
 ghost use Rattle.list_spec.specs.Choice.{pick};
+ghost use Rattle.method_spec.specs.Prog as prog;
 ghost use Rattle.method_spec.specs.Map as map;
 ghost use Rattle.leaf_spec.specs.Convert.{toLink, toNode};
 ghost use Rattle.node_rows.specs.Heights.{Low};
@@ -71,7 +72,7 @@ pub fn step_to(
     i: usize,
 ) -> Step
     requires { ⌜ (length (now held) ≡ words) × Walks root (heldIn (now held) count) × (i < last) × (last ≤ count) ⌝ }
-    ensures { λ r. ⌜ (toStep r ≡ stepTo key (heldIn (now (held .entry)) count) (map.start (toLink root)) found last i) × Low 100 (toNode (r .node)) ⌝ }
+    ensures { λ r. ⌜ (toStep r ≡ stepTo key (heldIn (now (held .entry)) count) (prog.start (toLink root)) found last i) × Low 100 (toNode (r .node)) ⌝ }
 {
     let mut want = start(root);
     let mut j: usize = 0;

@@ -9,9 +9,10 @@ use mathlib.Core.Option.{none}
 use lib.ListN.{getD, drop}
 use borrow.Author.Tests.{eq-eqb, ne-eqb, lt-ltb, le-ltb}
 use Rattle.method_spec.specs.Node.{Link, Node, absent, withValue}
-use Rattle.method_spec.specs.Prog.{Want, Prog, done, want, bind}
+use Rattle.method_spec.specs.Prog.{Want, Prog, done, want, bind, start}
 use Rattle.method_spec.specs.Answer as method
-use Rattle.method_spec.specs.Map.{Outcome, Step, Sub, stub, top, Built, Spot, gap, hit, Lowest, start, stepAt, below, walk, climb, unwound, finish, getStep, getProg, putStep, putProg, swapped, takeOut, removeStep, removeProg}
+use Rattle.method_spec.specs.Outcome.{Outcome}
+use Rattle.method_spec.specs.Map.{Step, Sub, stub, top, Built, Spot, gap, hit, Lowest, stepAt, below, walk, climb, unwound, finish, getStep, getProg, putStep, putProg, swapped, takeOut, removeStep, removeProg}
 use Rattle.slot_spec.specs.declared.Link as link
 use Rattle.slot_spec.specs.declared.Node as node
 use Rattle.slot_spec.specs.Slot.{noNode}
@@ -21,7 +22,7 @@ use Rattle.operation_spec.specs.declared.Wanted.{Wanted}
 use Rattle.operation_spec.specs.declared.Wanted.the-variants.{Done, Fetch}
 use Rattle.leaf_spec.specs.Convert.{toLink, toNode}
 use Rattle.operation_spec.specs.Method.{toWant, toAnswer}
-use Rattle.operation_spec.specs.Resume.{Resumed, resume, follow, resumedAs}
+use Rattle.operations.specs.Resume.{Resumed, resume, follow, resumedAs}
 use Rattle.operations.specs.ResumeLaws.{resume-bind}
 use Rattle.node_rows.specs.Heights.{Low}
 use Rattle.node_rows.specs.Held.{Held, nodesOf, heldAt}

@@ -3,9 +3,9 @@ use Prim.Native.Nat.{ℕ, _+_, _≤_}
 use mathlib.Core.Path.{_≡_}
 use mathlib.Core.List.{List}
 use lib.ListN.{length, drop}
-use Rattle.method_spec.specs.Map.{Outcome}
+use Rattle.method_spec.specs.Outcome.{Outcome}
 use Rattle.slot_spec.specs.declared.Link as link
-use Rattle.operation_spec.specs.Resume.{Resumed, resume, unlessMissing}
+use Rattle.operations.specs.Resume.{Resumed, resume, unlessMissing}
 use Rattle.node_rows.specs.Row.{places, words}
 use Rattle.node_rows.specs.Held.{Held, nodesOf}
 use Rattle.map_nodes.specs.Method.{toSub}

@@ -7,7 +7,8 @@ use mathlib.Core.List.{List}
 use mathlib.Core.Option.{none}
 use lib.ListN.{length, drop, length-append}
 use Rattle.method_spec.specs.Prog.{Want, bind}
-use Rattle.method_spec.specs.Map.{Outcome, linkOf, listed, topOf, kid, finish}
+use Rattle.method_spec.specs.Outcome.{Outcome}
+use Rattle.method_spec.specs.Map.{linkOf, listed, topOf, kid, finish}
 use Rattle.slot_spec.specs.declared.Link as link
 use Rattle.leaf_spec.specs.Convert.{toLink}
 use Rattle.operation_spec.specs.declared.Want as want
@@ -17,7 +18,7 @@ use Rattle.operation_spec.specs.declared.Outcome as outcome
 use Rattle.operation_spec.specs.declared.Wanted.{Wanted}
 use Rattle.operation_spec.specs.declared.Wanted.the-variants.{Done, Fetch}
 use Rattle.operation_spec.specs.Method.{toWant, toWanted, toAnswer, toOutcome}
-use Rattle.operation_spec.specs.Resume.{Resumed, missing, finished, resume, resumedAs, follow, wantedOf, outcomeOf}
+use Rattle.operations.specs.Resume.{Resumed, missing, finished, resume, resumedAs, follow, wantedOf, outcomeOf}
 use Rattle.operations.specs.ResumeLaws.{resume-map}
 use Rattle.node_rows.specs.Row.{places, words}
 use Rattle.node_rows.specs.Held.{Held, heldIn, nodesOf, Lists}

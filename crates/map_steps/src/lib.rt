@@ -18,7 +18,7 @@ ghost use lib.ListN.{length};
 ghost use Rattle.method_spec.specs.Map as map;
 ghost use Rattle.leaf_spec.specs.Convert.{toLink};
 ghost use Rattle.operation_spec.specs.Method.{toAnswer, toOutcome, toWanted};
-ghost use Rattle.operation_spec.specs.Resume.{wantedOf, outcomeOf};
+ghost use Rattle.operations.specs.Resume.{wantedOf, outcomeOf};
 ghost use Rattle.node_rows.specs.Row.{places, words};
 ghost use Rattle.node_rows.specs.Held.{heldIn, nodesOf};
 ghost use Rattle.map_descent.specs.Walk.{Walks};

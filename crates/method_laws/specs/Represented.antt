@@ -12,9 +12,9 @@ use Rattle.run_laws.specs.Answers.{Represents, represents-unqueued}
 use Rattle.run_laws.specs.StackRepresents.{HoldsStack, stack-represents, empty-stack}
 use Rattle.avl_laws.specs.Search.{Holds}
 use Rattle.avl_laws.specs.Holds.{holds-empty}
-use Rattle.heap_laws.specs.HeapTree.{HoldsHeap}
+use Rattle.method_spec.specs.HeapShape.{HoldsHeap}
 use Rattle.heap_laws.specs.HeapRepresents.{heap-represents, empty-heap}
-use Rattle.queue_laws.specs.QueueRow.{HoldsQueue}
+use Rattle.method_spec.specs.QueueShape.{HoldsQueue}
 use Rattle.queue_laws.specs.QueueRepresents.{queue-represents, empty-queue}
 use Rattle.method_laws.specs.MapRepresents.{map-represents}
 

@@ -15,14 +15,14 @@ use Rattle.balance_spec.specs.Shape.{shaped}
 use Rattle.balance_spec.specs.Greatest.{greatest}
 use Rattle.method_spec.specs.Node.{Node, noneAhead}
 use Rattle.method_spec.specs.Prog.{Want, Prog}
-use Rattle.method_spec.specs.Map.{Outcome}
+use Rattle.method_spec.specs.Outcome.{Outcome}
 use Rattle.method_spec.specs.Answer as answer
 use Rattle.method_spec.specs.Answer.{Structure, stack, heap, queue, Op}
 use Rattle.method_spec.specs.Plain.{Pair, Contents, nothing, plainContents, plainAnswers}
 use Rattle.method_spec.specs.Rounds.{rounds, draws}
 use Rattle.method_spec.specs.Call.{capacity, program, test, Memory, emptyMemory, run, Ran}
 use Rattle.method_spec.specs.Origin.{Origin, noDraw, drawn, origins, names, leafOf, leafRun}
-use Rattle.method_spec.specs.Safe.{Safe, Within}
+use Rattle.run_laws.specs.Safe.{Safe, Within}
 use Rattle.run_laws.specs.SafeLaws.{safe-map}
 use Rattle.run_laws.specs.Fetches.{keys, safe-distinct}
 use Rattle.run_laws.specs.Natural.{mapRan}
@@ -30,10 +30,10 @@ use Rattle.run_laws.specs.Leaves.{run-mapped, leaves, leaves-revealed, leaf-get
 use Rattle.run_laws.specs.Answers.{run-answers, represents-keeps}
 use Rattle.run_laws.specs.Calls.{Keeps}
 use Rattle.run_laws.specs.Origins.{OnTape, names-count, names-prefix, names-once, names-on-tapes, name-at}
-use Rattle.run_laws.specs.StackRepresents.{HoldsStack, chain-countdown, cells-counted, countdown}
-use Rattle.heap_laws.specs.HeapTree.{HoldsHeap}
+use Rattle.run_laws.specs.StackRepresents.{HoldsStack, chain-countdown, cells-counted}
+use Rattle.method_spec.specs.HeapShape.{HeapShape, countdown}
 use Rattle.heap_laws.specs.HeapFacts.{heap-keys}
-use Rattle.queue_laws.specs.QueueRow.{HoldsQueue}
+use Rattle.method_spec.specs.QueueShape.{QueueShape}
 use Rattle.queue_laws.specs.QueueRepresents as queue
 use Rattle.avl_laws.specs.Search.{Holds}
 use Rattle.avl_laws.specs.Holds.{holds-height, holds-entries}
@@ -53,16 +53,6 @@ pub record MapShape {T : Type 0} (nil : T) (k : ℕ) (table : List Pair) (m : Me
 -- The stack's memory: a chain of nodes with the keys entries, entries - 1, .., 1.
 pub record StackShape {T : Type 0} (nil : T) (k : ℕ) (values : List ℕ) (m : Memory T) : Type 0 where
   pub holds : HoldsStack nil (capacity k) values m
-  pub numbered : Perm (keys (m .nodes)) (countdown (m .entries))
-
--- The queue's memory: a row of nodes from the oldest, with keys up to the next unused one; see HoldsQueue.
-pub record QueueShape {T : Type 0} (nil : T) (k : ℕ) (values : List ℕ) (m : Memory T) : Type 0 where
-  pub holds : HoldsQueue nil (capacity k) values m
-  pub numbered : m .ahead .key ≡ holds .first + m .entries
-
--- The heap's memory: the complete tree of positions 1 to entries, every number at least its parent's; see HoldsHeap.
-pub record HeapShape {T : Type 0} (nil : T) (k : ℕ) (numbers : List ℕ) (m : Memory T) : Type 0 where
-  pub holds : HoldsHeap nil (capacity k) numbers m
   pub numbered : Perm (keys (m .nodes)) (countdown (m .entries))
 
 module _ {T : Type 0} (nil : T) (k : ℕ) (draw : ℕ → ℕ → T) where

@@ -10,7 +10,8 @@ use Rattle.method_spec.specs.Node.{Link, Node, Ahead, absent, noneAhead,
 use Rattle.method_spec.specs.Prog.{Want, Prog, done, want}
 use Rattle.method_spec.specs.Answer.{Structure, map, stack, heap, queue, Op, get, put, remove, push, pop, add, take, enqueue, dequeue, Answer}
 use Rattle.method_spec.specs.Rounds.{spareDraw, putDraw}
-use Rattle.method_spec.specs.Map.{Outcome, getProg, putProg, removeProg, mapTest}
+use Rattle.method_spec.specs.Outcome.{Outcome}
+use Rattle.method_spec.specs.Map.{getProg, putProg, removeProg, mapTest}
 use Rattle.method_spec.specs.Stack.{pushProg, popProg, stackTest}
 use Rattle.method_spec.specs.Heap.{addProg, takeProg, heapTest}
 use Rattle.method_spec.specs.Queue.{enqueueProg, enqueueAhead, dequeueProg, dequeueAhead, queueTest}

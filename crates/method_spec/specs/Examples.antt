@@ -11,10 +11,10 @@ use Rattle.balance_spec.specs.Shape.{shaped}
 use Rattle.balance_spec.specs.Greatest.{tallest, greatest}
 use Rattle.method_spec.specs.Node.{Link, Node}
 use Rattle.method_spec.specs.Node as node-spec
-use Rattle.method_spec.specs.Prog.{bind}
+use Rattle.method_spec.specs.Prog.{bind, start}
 use Rattle.method_spec.specs.Answer.{Structure, map, stack, heap, queue, Op, get, put, remove, push, pop, add, take, enqueue, dequeue, found, absent, new, removed, full, pushed, popped, added, taken, queued, dequeued, empty}
 use Rattle.method_spec.specs.Answer as answers
-use Rattle.method_spec.specs.Map.{start, walk, single, double, turn, raise, climb, unwind, unwound, getStep, getProg, putStep, putProg, lowest, takeOut, removeStep, removeProg}
+use Rattle.method_spec.specs.Map.{walk, balanceOf, single, double, turn, raise, climb, unwind, unwound, getStep, getProg, putStep, putProg, lowest, takeOut, removeStep, removeProg}
 use Rattle.method_spec.specs.Stack.{pushProg, popProg}
 use Rattle.method_spec.specs.Heap.{turnsTo, wayTo, descend, settled, rise, topmost, addProg, downward, childOf, sink, replaceRoot, takeProg, heapTest}
 use Rattle.method_spec.specs.Queue.{enqueueProg, enqueueAhead, dequeueProg, dequeueAhead, queueTest}
@@ -26,7 +26,7 @@ use Rattle.method_spec.specs.Origin.{drawn, origins, names, leafOf, leaf
 
 -- A store of a size after some calls that each bring that tape. Where this unfolds, so does all that a call computes with.
 unfoldable pub after : {s : Structure} → (size : ℕ) → (tape : ℕ → ℕ) → List (Op s) → Ran ℕ
-unfolding walk single double turn raise climb unwind unwound getStep getProg putStep putProg lowest takeOut removeStep removeProg pushProg popProg turnsTo descend settled rise topmost addProg downward childOf sink replaceRoot takeProg enqueueProg enqueueAhead dequeueProg dequeueAhead program aheadAfter emptyMemory takeKey fetches drawsFrom stepped answered call run bind least shaped tallest greatest rounds spare origins leafOf leafRun
+unfolding walk balanceOf single double turn raise climb unwind unwound getStep getProg putStep putProg lowest takeOut removeStep removeProg pushProg popProg turnsTo descend settled rise topmost addProg downward childOf sink replaceRoot takeProg enqueueProg enqueueAhead dequeueProg dequeueAhead program aheadAfter emptyMemory takeKey fetches drawsFrom stepped answered call run bind least shaped tallest greatest rounds spare origins leafOf leafRun
 after {s} size tape ops = run 0 (rounds s size) (capacity size) (λ c. tape) 1 ops (emptyMemory 0)
 
 abbrev zeros : ℕ → ℕ

@@ -8,9 +8,9 @@ use lib.Dec.{eqb, ltb, leb}
 use lib.ListN.{length}
 use Rattle.list_spec.specs.Choice.{pick}
 use Rattle.method_spec.specs.Node.{Link, Node, absent, child, withChild, withValue, linkOne}
-use Rattle.method_spec.specs.Prog.{side, Want, Prog, done, want, bind}
+use Rattle.method_spec.specs.Prog.{side, Want, Prog, done, want, bind, start}
 use Rattle.method_spec.specs.Answer.{added, taken, empty, full}
-use Rattle.method_spec.specs.Map.{Outcome, start}
+use Rattle.method_spec.specs.Outcome.{Outcome}
 
 -- ---- positions
 -- The position of a child.

@@ -1,6 +1,7 @@
 pub mod Node
 pub mod Prog
 pub mod Answer
+pub mod Outcome
 pub mod Plain
 pub mod Changes
 pub mod Map
@@ -9,7 +10,8 @@ pub mod Heap
 pub mod Queue
 pub mod Rounds
 pub mod Call
+pub mod HeapShape
+pub mod QueueShape
 pub mod Origin
 pub mod Examples
 pub mod ChangeExamples
-pub mod Safe

@@ -1,22 +1,18 @@
 -- The map's walk and step: an AVL tree whose nodes are fetched as the walk needs them. Down by key, then upward from
 -- the change, with single and double rotations.
-use Prim.Native.Nat.{ℕ, zero, suc, pred}
+use Prim.Native.Nat.{ℕ, zero, suc, pred, min}
 use mathlib.Core.Bool.{Bool, true, false, not, Bool·beq}
 use mathlib.Core.List.{List, [], _∷_, _++_}
 use mathlib.Core.Option.{Option, none, some}
-use lib.Dec.{eqb, ltb, leb}
+use lib.Dec.{eqb, ltb}
+use lib.IntN.{ℤ, pos, negsuc, subℕ, negℤ}
+use lib.Signed.{leZ}
 use Rattle.list_spec.specs.Choice.{pick}
 use Rattle.method_spec.specs.Node.{Link, Node, absent, child, withChild, withValue, linkTo}
-use Rattle.method_spec.specs.Prog.{root, side, Want, Prog, done, want, bind}
+use Rattle.method_spec.specs.Prog.{side, Want, start, Prog, done, want, bind}
+use Rattle.method_spec.specs.Outcome.{Outcome}
 use Rattle.method_spec.specs.Answer.{Answer, found, replaced, new, removed, full}
 use Rattle.method_spec.specs.Answer as answer
-
--- What a step makes of the fetched nodes: the nodes that wait again, the root link, the entries and the answer.
-pub record Outcome (T : Type 0) : Type 0 where
-  pub nodes : List (Node T)
-  pub root : Link T
-  pub entries : ℕ
-  pub answer : Answer
 
 -- A node that the walk passed: the key that it had when it was passed, the side on which the walk went on, and the
 -- nearest keys below and above that it had passed before.
@@ -58,6 +54,11 @@ between (some a) none k = ltb a k
 between none (some b) k = ltb k b
 between (some a) (some b) k = pick (ltb a k) (ltb k b) false
 
+-- A number brought into the range from -2 to 2.
+abbrev pub clamp : ℤ → ℤ
+clamp (pos n) = pos (min n 2)
+clamp (negsuc n) = negsuc (min n 1)
+
 module _ {T : Type 0} where
   -- ---- subtrees at hand
   abbrev pub linkOf : Sub T → Link T
@@ -90,9 +91,6 @@ module _ {T : Type 0} where
   seat false n a b = top n b a
 
   -- ---- the walk down
-  abbrev pub start : Link T → Want T
-  start l = record { link = l; from = root; low = none; high = none }
-
   abbrev pub stepAt : Want T → Node T → Bool → Step T
   stepAt w n s = record { node = n; was = n .key; way = s; low = w .low; high = w .high }
 
@@ -118,10 +116,28 @@ module _ {T : Type 0} where
       (λ n. pick (eqb key (n .key)) (done (hit w n path))
       (walk key fuel (below (stepAt w n (ltb key (n .key)))) (stepAt w n (ltb key (n .key)) ∷ path))))
 
-  -- ---- rotations
-  -- Side s is taller than the other by two or more: document 01's balance 2 (left) and -2 (right).
+  -- ---- the balance
+  -- Document 01's balance: left height minus right height, from -2 to 2. In the map's trees two sides differ by at most one
+  -- before a step and by at most two within it, so that the range cuts nothing off. It says what the balance is where they
+  -- differ by more, as another hand can write them: 2 or -2, which the fetch test calls damage.
+  unfoldable pub balanceOf : Node T → ℤ
+  balanceOf n = clamp (subℕ (n .left .height) (n .right .height))
+
+  -- The balance seen from side s, the left or else the right, where it is negated: what is said of 2 and the left holds of
+  -- -2 and the right, the mirror.
+  abbrev pub balanceFrom : Bool → Node T → ℤ
+  balanceFrom true n = balanceOf n
+  balanceFrom false n = negℤ (balanceOf n)
+
+  -- Side s is too tall: the balance seen from there is 2.
   abbrev pub tall : Bool → Node T → Bool
-  tall s n = ltb (suc (child (not s) n .height)) (child s n .height)
+  tall s n = leZ (pos 2) (balanceFrom s n)
+
+  -- The child c on a tall side s gives a single rotation: its balance seen from there is 0 or more. Else a double one.
+  abbrev pub leansOut : Bool → Node T → Bool
+  leansOut s c = leZ (pos 0) (balanceFrom s c)
+
+  -- ---- rotations
 
   -- c, the child of n on side s, comes up and n goes down on the other side.
   abbrev pub rotate : Bool → Node T → Node T → Rotated T
@@ -131,7 +147,7 @@ module _ {T : Type 0} where
         down = withChild s n (child (not s) c);
       }
 
-  -- A single rotation where the tall side's child c does not lean inward. What is emitted: the kid that n takes over, and
+  -- A single rotation, where the tall side's child c does not lean inward. What is emitted: the kid that n takes over, and
   -- what was at hand on the other side of n.
   unfoldable pub single : Bool → Node T → Node T → Option (Node T) → Option (Node T) → List (Node T) → Built T
   single s n c outer inner others =
@@ -156,7 +172,7 @@ module _ {T : Type 0} where
   unfoldable pub turn : Step T → Bool → Node T → Sub T → List (Node T) → Prog T (Built T)
   turn p s n near others =
       bind (opened (beside p s (child s n)) (topOf near))
-      (λ c. pick (leb (child (not s) c .height) (child s c .height))
+      (λ c. pick (leansOut s c)
       (done (single s n c (kid s near) (kid (not s) near) others))
       (bind (opened (below (stepAt (beside p s (child s n)) c (not s))) (kid (not s) near))
       (λ g. done (double s n c g (kid s near) others))))

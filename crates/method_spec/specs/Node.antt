@@ -14,6 +14,11 @@ pub record Node (T : Type 0) : Type 0 where
   pub left : Link T
   pub right : Link T
 
+-- A node's value and tag, where a list or a tree of them says its key and links.
+pub record Cell (T : Type 0) : Type 0 where
+  pub value : ℕ
+  pub tag : T
+
 -- What a queue knows of the node that comes next: its key, the next unused one, and its tag, drawn ahead. The other structures keep
 -- key 0 and no tag.
 pub record Ahead (T : Type 0) : Type 0 where

@@ -2,7 +2,7 @@
 use Prim.Native.Nat.{ℕ}
 use mathlib.Core.Bool.{Bool}
 use mathlib.Core.List.{List, [], _∷_}
-use mathlib.Core.Option.{Option}
+use mathlib.Core.Option.{Option, none}
 use Rattle.method_spec.specs.Node.{Link, Node}
 
 -- Where a link stands: it is the root link, or a side of the node with that key.
@@ -17,6 +17,10 @@ pub record Want (T : Type 0) : Type 0 where
   pub from : From
   pub low : Option ℕ
   pub high : Option ℕ
+
+-- The root link, as a wanted one.
+abbrev pub start : {T : Type 0} → Link T → Want T
+start l = record { link = l; from = root; low = none; high = none }
 
 pub data Prog (T A : Type 0) : Type 0 where
   done : A → Prog T A

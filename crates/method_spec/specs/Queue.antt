@@ -6,9 +6,9 @@ use mathlib.Core.List.{[], _∷_}
 use lib.Dec.{eqb, ltb}
 use Rattle.list_spec.specs.Choice.{pick}
 use Rattle.method_spec.specs.Node.{Link, Node, Ahead, absent, linkOne, linkAhead}
-use Rattle.method_spec.specs.Prog.{Want, Prog, done, want}
+use Rattle.method_spec.specs.Prog.{Want, Prog, done, want, start}
 use Rattle.method_spec.specs.Answer.{queued, dequeued, empty, full}
-use Rattle.method_spec.specs.Map.{Outcome, start}
+use Rattle.method_spec.specs.Outcome.{Outcome}
 
 module _ {T : Type 0} where
   -- ---- in

@@ -5,9 +5,9 @@ use mathlib.Core.List.{[], _∷_}
 use lib.Dec.{eqb, ltb}
 use Rattle.list_spec.specs.Choice.{pick}
 use Rattle.method_spec.specs.Node.{Link, Node, absent}
-use Rattle.method_spec.specs.Prog.{Want, Prog, done, want}
+use Rattle.method_spec.specs.Prog.{Want, Prog, done, want, start}
 use Rattle.method_spec.specs.Answer.{pushed, popped, empty, full}
-use Rattle.method_spec.specs.Map.{Outcome, start}
+use Rattle.method_spec.specs.Outcome.{Outcome}
 
 module _ {T : Type 0} where
   -- A push fetches none: a node with key entries + 1 whose left link is the old top.

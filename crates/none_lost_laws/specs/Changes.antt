@@ -4,7 +4,7 @@ use Prim.Native.Nat.{ℕ, suc, _+_, _*_}
 use Rattle.method_spec.specs.Node.{Node}
 use Rattle.method_spec.specs.Answer.{Structure, Answer}
 use Rattle.method_spec.specs.Changes.{takenOut, broughtIn, tracked, trackedIn}
-use Rattle.method_spec.specs.Map.{Outcome}
+use Rattle.method_spec.specs.Outcome.{Outcome}
 use Rattle.list_spec.specs.Perm.{Perm}
 use Rattle.list_laws.specs.PermLaws.{perm-map}
 use Rattle.list_spec.specs.Distinct.{All}

@@ -17,13 +17,13 @@ use Rattle.method_spec.specs.Node.{Link, Node, retag}
 use Rattle.method_spec.specs.Prog.{Want, Prog, done, want}
 use Rattle.method_spec.specs.Answer as answer
 use Rattle.method_spec.specs.Answer.{Structure}
-use Rattle.method_spec.specs.Map.{mapTest}
+use Rattle.method_spec.specs.Map.{balanceOf, mapTest}
 use Rattle.method_spec.specs.Stack.{stackTest}
 use Rattle.method_spec.specs.Heap.{heapTest}
 use Rattle.method_spec.specs.Queue.{queueTest}
 use Rattle.method_spec.specs.Call.{test}
 use Rattle.method_spec.specs.Plain.{Pair}
-use Rattle.method_spec.specs.Safe.{Within, stops, asks as asks-within}
+use Rattle.run_laws.specs.Safe.{Within, stops, asks as asks-within}
 use Rattle.round_spec.specs.Round.{Hand, keysOf, readHalf, limit}
 use Rattle.leaf_spec.specs.Leaf.{leafFormat, ProperLeaf}
 use Rattle.bucket_call_spec.specs.Fetch.{Held, Going, heldKeys, wishFor, revealing, written, Round, on, shut, atClose, tookRound, wantRound, fetchRound, fetchRounds, total}
@@ -40,7 +40,7 @@ use Rattle.none_lost_laws.specs.Sound.{nodesIn, Sound, After, goes, clos
 
 -- The fetch tests ask nothing of a node's own tag.
 test-retag : (s : Structure) (entries : ℕ) (w : Want ℕ) (n : Node ℕ) (t : ℕ) → test s entries w (retag t n) ≡ test s entries w n
-unfolding test mapTest stackTest heapTest queueTest
+unfolding test mapTest balanceOf stackTest heapTest queueTest
 test-retag answer.map entries w n t = refl
 test-retag answer.stack entries w n t = refl
 test-retag answer.heap entries w n t = refl

@@ -1,16 +1,16 @@
 -- Upward from a new node, on any content: each link that is followed is present where it stands, in a node that was given.
-use mathlib.Core.Path.{_≡_, refl}
+use mathlib.Core.Path.{_≡_, refl, sym, _∙_}
 use mathlib.Core.Bool.{Bool, true, false, not}
 use mathlib.Core.List.{List, [], _∷_, _++_, List·Memᴰ, List·Memᴰ·head, List·Memᴰ·tail}
 use mathlib.Core.Option.{Option, none, some}
 use Prim.Native.Nat.{ℕ, suc, _<_}
 use native.Mathlib.Omega.{arith}
-use lib.Dec.{leb}
 use borrow.Author.Tests.{leb-false, ltb-true}
 use Rattle.list_spec.specs.Distinct.{All}
 use Rattle.method_spec.specs.Node.{Link, Node, child, withChild}
 use Rattle.method_spec.specs.Prog.{side, Want, Prog, done, bind}
-use Rattle.method_spec.specs.Map.{Step, Sub, stub, top, Built, linkOf, kid, nodesAt, seat, stepAt, beside, below, tall, single, double, opened, turn, placed, rest, nearOn, othersOf, raise, climb, mapTest}
+use Rattle.method_spec.specs.Map.{Step, Sub, stub, top, Built, linkOf, kid, nodesAt, seat, stepAt, beside, below, tall, leansOut, single, double, opened, turn, placed, rest, nearOn, othersOf, raise, climb, mapTest}
+use Rattle.run_laws.specs.BalanceLaws.{tall-heights, leans-heights}
 use Rattle.none_lost_laws.specs.Yields.{Yields, ends, asks, yields-when, yields-then, yields-keep}
 use Rattle.none_lost_laws.specs.Given.{Given, Leads, at-side}
 
@@ -67,6 +67,9 @@ tallChild p s n = beside p s (child s n)
 abbrev pub innerChild : Step ℕ → Bool → Node ℕ → Node ℕ → Want ℕ
 innerChild p s n c = below (stepAt (tallChild p s n) c (not s))
 
+inward : (s : Bool) (c : Node ℕ) → leansOut s c ≡ false → child s c .height < child (not s) c .height
+inward s c e = leb-false (child (not s) c .height) (child s c .height) (sym (leans-heights s c) ∙ e)
+
 module _ {k : ℕ} {l : Link ℕ} {held : List (Node ℕ)} (p : Step ℕ) (s : Bool) (n : Node ℕ) (others : List (Node ℕ)) where
   -- Nothing is at hand on the tall side: its child is wanted, and where that leans inward, its inner child too.
   pub turn-wanted : {Post : Built ℕ → List (Node ℕ) → Type 0} (m : Link ℕ) → Leads l held (side (p .was) s)
@@ -77,8 +80,8 @@ module _ {k : ℕ} {l : Link ℕ} {held : List (Node ℕ)} (p : Step ℕ) (s : B
   unfolding turn bind
   turn-wanted m leads one two =
       asks leads
-      (λ c got. yields-when (leb (child (not s) c .height) (child s c .height)) (λ e. ends (one c got))
-      (λ e. let lean = leb-false (child (not s) c .height) (child s c .height) e in
+      (λ c got. yields-when (leansOut s c) (λ e. ends (one c got))
+      (λ e. let lean = inward s c e in
       asks (at-side c (List·Memᴰ·head refl) refl (λ z. omega arith)) (λ g more. ends (two c g got lean more))))
 
   -- The tall side's child c is at hand.
@@ -86,9 +89,9 @@ module _ {k : ℕ} {l : Link ℕ} {held : List (Node ℕ)} (p : Step ℕ) (s : B
       → Seeks k l (λ r given. Grown l given (r .sub)) (turn p s n (top c x y) others) held
   unfolding turn bind single double
   turn-at-hand c x y b =
-      yields-when (leb (child (not s) c .height) (child s c .height))
+      yields-when (leansOut s c)
       (λ e. ends (grown-seat s (open-other s _ (grown-kid s b)) open-some))
-      (λ e. inner (kid (not s) (top c x y)) (grown-kid (not s) b) (leb-false (child (not s) c .height) (child s c .height) e))
+      (λ e. inner (kid (not s) (top c x y)) (grown-kid (not s) b) (inward s c e))
     where
       inner : (o : Option (Node ℕ)) → Open l held c (not s) o → child s c .height < child (not s) c .height
           → Seeks k l (λ r given. Grown l given (r .sub)) (bind (opened (innerChild p s n c) o) (λ g. done (double s n c g (kid s (top c x y)) others))) held
@@ -100,8 +103,11 @@ module _ {k : ℕ} {l : Link ℕ} {held : List (Node ℕ)} (p : Step ℕ) (s : B
 abbrev pub Fresh : List (Node ℕ) → Step ℕ → Type 0
 Fresh held p = List·Memᴰ (p .node) held × (p .node .key ≡ p .was)
 
+pub tall-higher : (s : Bool) (n : Node ℕ) → tall s n ≡ true → suc (child (not s) n .height) < child s n .height
+tall-higher s n e = ltb-true (suc (child (not s) n .height)) (child s n .height) (sym (tall-heights s n) ∙ e)
+
 pub tall-present : (s : Bool) (n : Node ℕ) → tall s n ≡ true → child s n .height ≡ 0 → ⊥
-tall-present s n e z = let less = ltb-true (suc (child (not s) n .height)) (child s n .height) e in omega arith
+tall-present s n e z = let less = tall-higher s n e in omega arith
 
 grown-rest : {l : Link ℕ} {held : List (Node ℕ)} (p : Step ℕ) (b : Sub ℕ) → List·Memᴰ (p .node) held → Grown l held b → Grown l held (rest p b .sub)
 grown-rest p b m (grown f g) = grown-seat (p .way) open-some (open-beside (p .way) _ (open-given (not (p .way)) m))

@@ -12,10 +12,9 @@ use Rattle.list_spec.specs.Choice.{pick}
 use Rattle.list_spec.specs.Distinct.{All}
 use Rattle.list_laws.specs.DistinctLaws.{all-nil, all-cons}
 use Rattle.method_spec.specs.Node.{Link, Ahead, Node, absent, child, withChild, linkOne}
-use Rattle.method_spec.specs.Prog.{Want, Prog}
+use Rattle.method_spec.specs.Prog.{Want, Prog, start}
 use Rattle.method_spec.specs.Answer as answer
 use Rattle.method_spec.specs.Answer.{Op}
-use Rattle.method_spec.specs.Map.{start}
 use Rattle.method_spec.specs.Heap.{childPosition, Pass, lower, wayTo, beneath, descend, addProg, downward, childOf, smaller, above, sunk, sink, replaceRoot, takeProg, heapTest}
 use Rattle.method_spec.specs.Call.{program}
 use Rattle.run_laws.specs.HeapWithin.{heap-tested}

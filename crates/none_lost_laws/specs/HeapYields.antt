@@ -14,11 +14,11 @@ use Rattle.list_laws.specs.PermLaws.{perm-refl, perm-sym, perm-of-eq, perm-appe
 use Rattle.list_laws.specs.DistinctLaws.{all-nil, all-cons, all-append}
 use Rattle.list_laws.specs.Shuffle.{part, _&_, shuffle}
 use Rattle.method_spec.specs.Node.{Link, Ahead, Node, absent, withChild, withValue, linkOne}
-use Rattle.method_spec.specs.Prog.{Want, Prog}
+use Rattle.method_spec.specs.Prog.{Want, Prog, start}
 use Rattle.method_spec.specs.Answer as answer
 use Rattle.method_spec.specs.Answer.{Op}
 use Rattle.method_spec.specs.Plain.{Pair}
-use Rattle.method_spec.specs.Map.{Outcome, start}
+use Rattle.method_spec.specs.Outcome.{Outcome}
 use Rattle.method_spec.specs.Heap.{Pass, Lower, childless, lower, wayTo, beneath, descend, over, settled, rise, topmost, newNode, addProg, downward, passed, childOf, smaller, above, sunk, sink, replaceRoot, takeProg, heapTest}
 use Rattle.method_spec.specs.Call.{program}
 use Rattle.run_laws.specs.HeapWithin.{heap-tested}

@@ -10,7 +10,7 @@ use Rattle.list_laws.specs.PermLaws.{perm-sym, perm-of-eq, perm-append-comm, pe
 use Rattle.list_laws.specs.DistinctLaws.{all-append, all-perm}
 use Rattle.method_spec.specs.Node.{Link, Ahead}
 use Rattle.method_spec.specs.Prog.{Prog}
-use Rattle.method_spec.specs.Map.{Outcome}
+use Rattle.method_spec.specs.Outcome.{Outcome}
 use Rattle.method_spec.specs.Plain.{Pair}
 use Rattle.round_spec.specs.Round.{join, limit}
 use Rattle.leaf_spec.specs.Leaf.{leafFormat, ProperLeaf}

@@ -18,10 +18,10 @@ use Rattle.method_spec.specs.Node.{Node}
 use Rattle.method_spec.specs.Prog.{Want, Prog, done, want}
 use Rattle.method_spec.specs.Answer as answer
 use Rattle.method_spec.specs.Answer.{Structure, Op}
-use Rattle.method_spec.specs.Map.{Outcome}
+use Rattle.method_spec.specs.Outcome.{Outcome}
 use Rattle.method_spec.specs.Plain.{Pair}
 use Rattle.method_spec.specs.Rounds.{rounds, spareDraw, putDraw}
-use Rattle.method_spec.specs.Safe.{Within, stops, asks}
+use Rattle.run_laws.specs.Safe.{Within, stops, asks}
 use Rattle.method_spec.specs.Call.{capacity, program, spareTags}
 use Rattle.run_laws.specs.SafeLaws.{within-more}
 use Rattle.run_laws.specs.RoundsLaws.{some-rounds}

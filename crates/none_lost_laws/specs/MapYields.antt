@@ -14,10 +14,10 @@ use Rattle.list_laws.specs.PermLaws.{perm-refl, perm-of-eq, perm-append-comm}
 use Rattle.list_laws.specs.DistinctLaws.{all-nil, all-cons}
 use Rattle.list_laws.specs.Shuffle.{part, _&_, shuffle}
 use Rattle.method_spec.specs.Node.{Link, Ahead, Node, absent, withValue}
-use Rattle.method_spec.specs.Prog.{Want, Prog, done}
+use Rattle.method_spec.specs.Prog.{Want, Prog, done, start}
 use Rattle.method_spec.specs.Answer as answer
 use Rattle.method_spec.specs.Answer.{Op, Answer}
-use Rattle.method_spec.specs.Map.{Step, stub, top, Built, Spot, gap, hit, Lowest, start, stepAt, below, walk, unwound, unwind, finish, climb, getStep, getProg, putStep, putProg, lowest, swapped, takeOut, removeStep, removeProg, mapTest}
+use Rattle.method_spec.specs.Map.{Step, stub, top, Built, Spot, gap, hit, Lowest, stepAt, below, walk, unwound, unwind, finish, climb, getStep, getProg, putStep, putProg, lowest, swapped, takeOut, removeStep, removeProg, mapTest}
 use Rattle.method_spec.specs.Plain.{Pair}
 use Rattle.method_spec.specs.Call.{program}
 use Rattle.none_lost_laws.specs.Fitting.{LinkFits, NodeFits, link-more, absent-fits, child-fits, link-to-fits, with-value-fits}

@@ -11,10 +11,10 @@ use borrow.Author.Tests.{eqb-false}
 use Rattle.list_spec.specs.Distinct.{All}
 use Rattle.list_laws.specs.DistinctLaws.{all-nil, all-cons}
 use Rattle.method_spec.specs.Node.{Link, Ahead, Node, child, heightOf}
-use Rattle.method_spec.specs.Prog.{Want}
+use Rattle.method_spec.specs.Prog.{Want, start}
 use Rattle.method_spec.specs.Answer as answer
 use Rattle.method_spec.specs.Answer.{Structure, Op}
-use Rattle.method_spec.specs.Map.{Step, stub, top, Spot, gap, hit, start, stepAt, below, walk, getProg, putStep, putProg, lowest, swapped, takeOut, removeStep, removeProg}
+use Rattle.method_spec.specs.Map.{Step, stub, top, Spot, gap, hit, stepAt, below, walk, getProg, putStep, putProg, lowest, swapped, takeOut, removeStep, removeProg}
 use Rattle.method_spec.specs.Stack.{pushProg, popProg, stackTest}
 use Rattle.method_spec.specs.Queue.{enqueueProg, dequeueProg, queueTest}
 use Rattle.method_spec.specs.Call.{program, test}

@@ -12,7 +12,7 @@ use Rattle.list_laws.specs.Shuffle.{part, _&_, shuffle}
 use Rattle.method_spec.specs.Node.{Link, Node}
 use Rattle.method_spec.specs.Prog.{Prog, done}
 use Rattle.method_spec.specs.Answer.{Structure, Answer, found, absent, replaced, new, removed, pushed, popped, added, taken, queued, dequeued, empty, full}
-use Rattle.method_spec.specs.Map.{Outcome}
+use Rattle.method_spec.specs.Outcome.{Outcome}
 use Rattle.method_spec.specs.Plain.{Pair}
 use Rattle.round_spec.specs.Round.{join, limit}
 use Rattle.leaf_spec.specs.Leaf.{leafFormat, ProperLeaf}

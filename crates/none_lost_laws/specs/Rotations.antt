@@ -5,7 +5,6 @@ use mathlib.Core.List.{List, [], _∷_, _++_, map, append-nil, List·Memᴰ·hea
 use mathlib.Core.Option.{Option, none, some}
 use Prim.Native.Nat.{ℕ, suc, _+_, _*_, _≤_}
 use native.Mathlib.Omega.{arith}
-use lib.Dec.{leb}
 use lib.ListN.{length}
 use Rattle.list_spec.specs.Choice.{pick}
 use Rattle.list_spec.specs.Perm.{Perm, trans}
@@ -15,7 +14,7 @@ use Rattle.list_laws.specs.DistinctLaws.{all-nil, all-cons, all-left}
 use Rattle.list_laws.specs.Shuffle.{part, _&_, shuffle}
 use Rattle.method_spec.specs.Node.{Link, Node, child, withChild, linkTo}
 use Rattle.method_spec.specs.Prog.{Want, done, want}
-use Rattle.method_spec.specs.Map.{Step, Sub, stub, top, Built, linkOf, listed, topOf, kid, kids, nodesAt, seat, stepAt, beside, below, tall, rotate, single, double, opened, turn, placed, rest, nearOn, othersOf, raise, climb, unwind, mapTest}
+use Rattle.method_spec.specs.Map.{Step, Sub, stub, top, Built, linkOf, listed, topOf, kid, kids, nodesAt, seat, stepAt, beside, below, tall, leansOut, rotate, single, double, opened, turn, placed, rest, nearOn, othersOf, raise, climb, unwind, mapTest}
 use Rattle.method_spec.specs.Plain.{Pair}
 use Rattle.none_lost_laws.specs.Fitting.{LinkFits, NodeFits, link-more, node-more, child-fits, with-child-fits, link-to-fits, down-fits, up-fits}
 use Rattle.none_lost_laws.specs.Yields.{ends, asks, yields-pick, yields-then}
@@ -154,7 +153,7 @@ module _ {k : ℕ} {less more : List Pair} where
       yields-then _
       (opened-near at s near (n ∷ others) (child-fits (a .fit n (List·Memᴰ·head refl)) s)
       (at-hand-perm (shuffle ((n ∷ []) ∷ nodesAt near ∷ others ∷ []) (part 0 & (part 1 & part 2)) (part 1 & (part 0 & part 2)) refl) a))
-      (λ c given b. yields-pick (leb (child (not s) c .height) (child s c .height))
+      (λ c given b. yields-pick (leansOut s c)
       (ends
       (raised-more (omega arith)
       (single-raised s n c outer others inner

@@ -7,14 +7,15 @@ use mathlib.Core.Option.{Option, none}
 use Prim.Native.Nat.{ℕ, suc, _<_, _≤_}
 use native.Mathlib.Nat.{le-trans}
 use native.Mathlib.Omega.{arith}
-use borrow.Author.Tests.{ltb-true, ltb-false}
+use borrow.Author.Tests.{ltb-false}
 use Rattle.list_laws.specs.ChoiceLaws.{pick-neither}
 use Rattle.method_spec.specs.Node.{Link, Node, child, withChild, heightOf}
 use Rattle.method_spec.specs.Prog.{side, Want}
 use Rattle.method_spec.specs.Map.{Step, Sub, stub, linkOf, nodesAt, tall, single, double, turn, placed, rest, nearOn, othersOf, raise, climb, mapTest}
+use Rattle.run_laws.specs.BalanceLaws.{tall-heights}
 use Rattle.run_laws.specs.EnoughRounds.{tested-height}
 use Rattle.none_lost_laws.specs.Yields.{ends, yields-map, yields-when, yields-then, yields-keep}
-use Rattle.none_lost_laws.specs.Growing.{Seeks, turn-wanted, tall-present}
+use Rattle.none_lost_laws.specs.Growing.{Seeks, turn-wanted, tall-higher, tall-present}
 use Rattle.none_lost_laws.specs.Given.{Leads, at-side}
 
 -- A node whose side heights differ by at most one.
@@ -23,9 +24,9 @@ Even n = (s : Bool) → child s n .height ≤ suc (child (not s) n .height)
 
 pub tested-even : (w : Want ℕ) (n : Node ℕ) → mapTest w n ≡ true → Even n
 unfolding mapTest
-tested-even w n e true = ltb-false (suc (n .right .height)) (n .left .height) (pick-neither (tall true n) _ e .0)
+tested-even w n e true = ltb-false (suc (n .right .height)) (n .left .height) (sym (tall-heights true n) ∙ pick-neither (tall true n) _ e .0)
 tested-even w n e false =
-    ltb-false (suc (n .left .height)) (n .right .height) (pick-neither (tall false n) _ (pick-neither (tall true n) _ e .1) .0)
+    ltb-false (suc (n .left .height)) (n .right .height) (sym (tall-heights false n) ∙ pick-neither (tall false n) _ (pick-neither (tall true n) _ e .1) .0)
 
 -- ---- heights after a rotation
 module _ (n c : Node ℕ) (others : List (Node ℕ)) where
@@ -63,7 +64,7 @@ module _ {k : ℕ} {l : Link ℕ} {held : List (Node ℕ)} where
   other-low : (p : Step ℕ) (s : Bool) (n : Node ℕ) (m : Link ℕ) (others : List (Node ℕ)) → tall s n ≡ true → Leads l held (side (p .was) s)
       → Seeks k l (λ r given. linkOf (r .sub) .height ≤ heightOf n) (turn p s n (stub m) others) held
   other-low p s n m others e leads =
-      let less = ltb-true (suc (child (not s) n .height)) (child s n .height) e in
+      let less = tall-higher s n e in
       turn-wanted p s n others m leads
       (λ c got. single-low n c others s (tested-height _ c (got .passed)) less)
       (λ c g got lean more. double-low n c others s g (tested-height _ c (got .passed)) less lean (tested-height _ g (more .passed)))
@@ -74,11 +75,11 @@ module _ {k : ℕ} {l : Link ℕ} {held : List (Node ℕ)} where
       Passed held p → tall s (placed p b) ≡ true
       → Seeks k l (λ r given. linkOf (r .sub) .height ≤ heightOf node) (turn p s (placed p b) (nearOn p b s) (othersOf p b s)) held)
   shrink-turn node was true low high b even lower true f e =
-      let less = ltb-true (suc (node .right .height)) (linkOf b .height) e in
+      let less = tall-higher true (withChild true node (linkOf b)) e in
       let z : ⊥ = omega (arith, even true) in
       absurd z
   shrink-turn node was false low high b even lower false f e =
-      let less = ltb-true (suc (node .left .height)) (linkOf b .height) e in
+      let less = tall-higher false (withChild false node (linkOf b)) e in
       let z : ⊥ = omega (arith, even false) in
       absurd z
   shrink-turn node was true low high b even lower false f e =

@@ -13,7 +13,7 @@ use Rattle.list_laws.specs.PermLaws.{perm-append-left, perm-append-comm}
 use Rattle.slot_spec.specs.declared.Slot.{Slot}
 use Rattle.method_spec.specs.Node.{Node}
 use Rattle.method_spec.specs.Prog.{Prog}
-use Rattle.method_spec.specs.Map.{Outcome}
+use Rattle.method_spec.specs.Outcome.{Outcome}
 use Rattle.round_spec.specs.Round as round
 use Rattle.round_spec.specs.Round.{Written, keysOf, noneTwice, writeHalf, overflows}
 use Rattle.round_spec.specs.Nodes.{wordsFormat}
@@ -33,7 +33,8 @@ use Rattle.round_close.specs.declared.Close.{Close}
 use Rattle.stash_laws.specs.Waiting.{wordsFor, InWidths, waitingIn}
 use Rattle.stash_laws.specs.WaitingLaws.{write-words, waiting-are, holds-them}
 use Rattle.bucket_call_spec.specs.Fetch.{Held, Going, total, on, shut, atClose, written, tooMany}
-use Rattle.peak_laws.specs.PeakLaws.{peakAt, peak-close}
+use Rattle.bucket_call_spec.specs.Peak.{peakAt}
+use Rattle.peak_laws.specs.PeakLaws.{peak-close}
 use Rattle.one_round.specs.OneRound.{going, endedWith, Ready, Rests}
 use Rattle.one_round.specs.ReadyLaws.{ready-leaves}
 use Rattle.one_round.specs.HandLaws.{InHand}

@@ -8,7 +8,7 @@ use native.Mathlib.Omega.{arith}
 use lib.ListN.{length, length-map}
 use Rattle.method_spec.specs.Node.{Node}
 use Rattle.method_spec.specs.Prog.{Prog}
-use Rattle.method_spec.specs.Map.{Outcome}
+use Rattle.method_spec.specs.Outcome.{Outcome}
 use Rattle.round_spec.specs.Round.{Hand, readHalf}
 use Rattle.round_laws.specs.ReadHalf.{read-grants}
 use Rattle.leaf_spec.specs.Leaf.{leafFormat}
@@ -19,7 +19,8 @@ use Rattle.word_round_laws.specs.KeepLaws.{takenKeys}
 use Rattle.path_reader.specs.declared.Looked.{Looked}
 use Rattle.path_reader.specs.declared.Wish.the-variants.{Nothing}
 use Rattle.stash_laws.specs.Waiting.{waitingIn}
-use Rattle.peak_laws.specs.PeakLaws.{peakAt, peak-damage}
+use Rattle.bucket_call_spec.specs.Peak.{peakAt}
+use Rattle.peak_laws.specs.PeakLaws.{peak-damage}
 use Rattle.round_close.specs.declared.Close.{Close}
 use Rattle.bucket_call_spec.specs.Fetch.{Held, Going, shut, atClose, written, revealing, heldKeys, idleRound}
 use Rattle.one_round.specs.OneRound.{going, Ready, Rests, Idled}

@@ -9,7 +9,7 @@ use Rattle.list_spec.specs.Choice.{pick}
 use Rattle.list_spec.specs.Distinct.{All}
 use Rattle.method_spec.specs.Node.{Node, retag}
 use Rattle.method_spec.specs.Prog.{Prog}
-use Rattle.method_spec.specs.Map.{Outcome}
+use Rattle.method_spec.specs.Outcome.{Outcome}
 use Rattle.method_spec.specs.Call.{test}
 use Rattle.round_spec.specs.Round.{keysOf, noneTwice}
 use Rattle.round_spec.specs.Whole.{IsTree, Ascending}
@@ -18,7 +18,7 @@ use Rattle.leaf_spec.specs.Convert.{toNode}
 use Rattle.word_round_laws.specs.Words.{wordCount}
 use Rattle.stash_laws.specs.Waiting.{waitingIn, Holds}
 use Rattle.bucket_call_spec.specs.Fetch.{Held, Going, Round, on, shut, idleRound, wantRound}
-use Rattle.peak_laws.specs.PeakLaws.{peakAt}
+use Rattle.bucket_call_spec.specs.Peak.{peakAt}
 use Rattle.state_spec.specs.Ticket.{structureOf}
 use Rattle.operation_spec.specs.declared.Want.{Want}
 use Rattle.operation_spec.specs.Method.{toFrom, toWant}

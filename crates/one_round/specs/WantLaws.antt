@@ -10,7 +10,7 @@ use Rattle.slot_spec.specs.declared.Node as node
 use Rattle.slot_spec.specs.declared.Slot.{Slot}
 use Rattle.method_spec.specs.Node.{Node, retag}
 use Rattle.method_spec.specs.Prog.{Want, Prog}
-use Rattle.method_spec.specs.Map.{Outcome}
+use Rattle.method_spec.specs.Outcome.{Outcome}
 use Rattle.method_spec.specs.Answer.{Structure}
 use Rattle.method_spec.specs.Call.{test}
 use Rattle.round_spec.specs.Round.{Hand, readHalf}
@@ -25,7 +25,8 @@ use Rattle.path_reader.specs.declared.Looked.{Looked}
 use Rattle.path_reader.specs.declared.Wish as wish
 use Rattle.path_reader.specs.declared.Wish.the-variants as wished
 use Rattle.stash_laws.specs.Waiting.{waitingIn}
-use Rattle.peak_laws.specs.PeakLaws.{peakAt, peak-damage}
+use Rattle.bucket_call_spec.specs.Peak.{peakAt}
+use Rattle.peak_laws.specs.PeakLaws.{peak-damage}
 use Rattle.round_close.specs.declared.Close.{Close}
 use Rattle.bucket_call_spec.specs.Fetch.{Held, Going, shut, atClose, written, revealing, heldKeys, wishFor, tookRound, wantRound}
 use Rattle.state_spec.specs.Ticket.{structureOf}

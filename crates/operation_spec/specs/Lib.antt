@@ -1,2 +1,1 @@
 pub mod Method
-pub mod Resume

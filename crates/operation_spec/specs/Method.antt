@@ -22,7 +22,7 @@ use Rattle.method_spec.specs.Node.{Link, Ahead, Node}
 use Rattle.method_spec.specs.Prog.{From, root, side, Want, Prog, done, want}
 use Rattle.method_spec.specs.Answer.{Structure, Op, Answer}
 use Rattle.method_spec.specs.Answer as method
-use Rattle.method_spec.specs.Map.{Outcome}
+use Rattle.method_spec.specs.Outcome.{Outcome}
 use Rattle.method_spec.specs.Call.{program, aheadAfter}
 
 abbrev pub toFrom : from.From → From

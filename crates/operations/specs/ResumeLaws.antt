@@ -6,9 +6,9 @@ use Rattle.list_spec.specs.Choice.{pick}
 use Prim.Native.Nat.{ℕ}
 use Rattle.method_spec.specs.Node.{Link, Node}
 use Rattle.method_spec.specs.Prog.{Want, Prog, done, want, bind, after}
-use Rattle.method_spec.specs.Map.{Outcome}
+use Rattle.method_spec.specs.Outcome.{Outcome}
 use Rattle.operation_spec.specs.Method.{wantedIn, outcomeIn}
-use Rattle.operation_spec.specs.Resume.{Resumed, missing, finished, resume, Ends, follow, wantedOf, outcomeOf}
+use Rattle.operations.specs.Resume.{Resumed, missing, finished, resume, Ends, follow, wantedOf, outcomeOf}
 
 module _ {T A : Type 0} where
   pub resume-done : (a : A) (ns : List (Node T)) → resume (done a) ns ≡ finished a ns

@@ -7,13 +7,13 @@ use operation_spec::Want;
 use slot_spec::Link;
 ghost use mathlib.Core.Path.{_≡_};
 ghost use Prim.Native.Nat.{pred};
-ghost use Rattle.method_spec.specs.Map as map;
+ghost use Rattle.method_spec.specs.Prog as prog;
 ghost use Rattle.leaf_spec.specs.Convert.{toLink};
 ghost use Rattle.operation_spec.specs.Method.{toWant};
 
 // The root link's node, as a wanted one.
 pub fn start(root: Link) -> Want
-    ensures { λ r. ⌜ toWant r ≡ map.start (toLink root) ⌝ }
+    ensures { λ r. ⌜ toWant r ≡ prog.start (toLink root) ⌝ }
 {
     Want {
         link: root,

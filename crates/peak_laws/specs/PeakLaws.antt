@@ -12,14 +12,10 @@ use Rattle.method_spec.specs.Prog.{Want, Prog, done, want}
 use Rattle.method_spec.specs.Answer.{Structure}
 use Rattle.round_spec.specs.Whole.{listed}
 use Rattle.bucket_call_spec.specs.Fetch.{Going, total, tooMany, Round, on, shut, countAtClose, atClose, idleRound, wantRound, fetchRound}
-use Rattle.bucket_call_spec.specs.Peak.{thenRounds, roundsFrom, countsOf, peakOf}
+use Rattle.bucket_call_spec.specs.Peak.{thenRounds, roundsFrom, countsOf, peakOf, peakAt}
 
 -- ---- peaks of lists
 module _ {A : Type 0} where
-  -- The peak of one round.
-  abbrev pub peakAt : Round A → ℕ
-  peakAt r = peakOf (r ∷ [])
-
   counts-append : (rs ts : List (Round A)) → countsOf (rs ++ ts) ≡ countsOf rs ++ countsOf ts
   unfolding countsOf
   counts-append [] ts = refl

@@ -9,7 +9,9 @@ use Rattle.list_spec.specs.Choice.{pick}
 use Rattle.method_spec.specs.Node.{Link, Ahead, absent, withValue}
 use Rattle.method_spec.specs.Prog.{Prog, done, bind}
 use Rattle.method_spec.specs.Answer.{Structure, Op, get, put, remove, push, pop, add, take, enqueue, dequeue, replaced, new, full}
-use Rattle.method_spec.specs.Map.{Outcome, top, Spot, gap, hit, start, walk, climb, unwind, unwound, finish}
+use Rattle.method_spec.specs.Map.{top, Spot, gap, hit, walk, climb, unwind, unwound, finish}
+use Rattle.method_spec.specs.Outcome.{Outcome}
+use Rattle.method_spec.specs.Prog.{start}
 use Rattle.method_spec.specs.Rounds.{rounds}
 use Rattle.method_spec.specs.Call.{capacity, program, spareTags}
 use Rattle.bucket_call_spec.specs.Fetch.{Left, Round, fetchRounds}

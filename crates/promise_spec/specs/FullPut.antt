@@ -14,7 +14,7 @@ use Rattle.round_spec.specs.Format.{Format}
 use Rattle.round_spec.specs.Whole.{InTree}
 use Rattle.method_spec.specs.Node.{Node, withValue}
 use Rattle.method_spec.specs.Answer.{Structure, map, Op, get, put, remove, push, pop, add, take, enqueue, dequeue, Answer, replaced, full}
-use Rattle.method_spec.specs.Map.{Outcome}
+use Rattle.method_spec.specs.Outcome.{Outcome}
 use Rattle.method_spec.specs.Rounds.{rounds}
 use Rattle.method_spec.specs.Call.{capacity}
 use Rattle.leaf_spec.specs.Leaf.{leafFormat}

@@ -14,7 +14,7 @@ use Rattle.round_spec.specs.Round.{withBucket, noneTwice, allGood, readBucket, 
 use Rattle.method_spec.specs.Node.{Node, linkTo}
 use Rattle.method_spec.specs.Prog.{bind}
 use Rattle.method_spec.specs.Answer.{map, Op, get, put, replaced, full}
-use Rattle.method_spec.specs.Map.{walk, single, double, turn, raise, climb, unwind, unwound, getStep, getProg, putStep, putProg, between, mapTest}
+use Rattle.method_spec.specs.Map.{walk, balanceOf, single, double, turn, raise, climb, unwind, unwound, getStep, getProg, putStep, putProg, between, mapTest}
 use Rattle.method_spec.specs.Rounds.{rounds, spare}
 use Rattle.method_spec.specs.Call.{program, aheadAfter, test}
 use Rattle.leaf_spec.specs.Leaf.{leafFormat, readLeaf}
@@ -24,7 +24,7 @@ use Rattle.balance_spec.specs.Least.{least}
 use Rattle.balance_spec.specs.Shape.{shaped}
 use Rattle.balance_spec.specs.Greatest.{tallest, greatest}
 use Rattle.list_spec.specs.Ascending.{ascendingFrom, ascending}
-use Rattle.state_spec.specs.Fit.{allOf, rootGood, aheadGood, fits, placesFrom}
+use Rattle.state_spec.specs.Fit.{allOf, rootGood, aheadGood, fits, headFits, placesFrom}
 use Rattle.state_spec.specs.Ticket.{opIn, uses, strayFields}
 use Rattle.state_spec.specs.Opening.{opened}
 use Rattle.operation_spec.specs.declared.Answer.the-variants.{Replaced}
@@ -55,7 +55,7 @@ leftBy l = record { entries = l .entries; root = l .root; ahead = l .ahead; wait
 
 -- Where this unfolds, so does all that a call computes with.
 unfoldable holdsNine : Store
-unfolding bucketCall afterFetches afterPuts putRounds fetchRounds fetchRound wantRound tookRound idleRound atClose closing movedLink movedNode withBucket noneTwice allGood readBucket readBuckets insert join takeFirst tagged granted joined grantedFrom readHalf choose evict halvings among filled encode fieldsOf pack bytes readSlot bad fieldsIn nodeOf fields value allZero wellFormed readLeaf spare program aheadAfter test walk single double turn raise climb unwind unwound getStep getProg putStep putProg between mapTest bind earlierPutStep earlierPutProg earlierPrograms fullPut
+unfolding bucketCall afterFetches afterPuts putRounds fetchRounds fetchRound wantRound tookRound idleRound atClose closing movedLink movedNode withBucket noneTwice allGood readBucket readBuckets insert join takeFirst tagged granted joined grantedFrom readHalf choose evict halvings among filled encode fieldsOf pack bytes readSlot bad fieldsIn nodeOf fields value allZero wellFormed readLeaf spare program aheadAfter test walk balanceOf single double turn raise climb unwind unwound getStep getProg putStep putProg between mapTest bind earlierPutStep earlierPutProg earlierPrograms fullPut
 holdsNine = leftBy (bucketCall 1 3 (put 9 1) zeros empty)
 
 -- Which calls on it are puts of a present key on a full map; on the empty map none is.
@@ -148,7 +148,7 @@ abbrev putTicket : (key number : ℕ) → List ℕ
 putTicket key number = bytes 1 2 ++ (bytes 4 key ++ bytes 8 number)
 
 unfoldable filled-by-nine : Ended
-unfolding holdsNine opened called checks firstMet decided calledWith presentOnFull replied replyOf fits allOf ascendingFrom ascending rootGood aheadGood placesFrom opIn uses strayFields rounds greatest tallest shaped least
+unfolding holdsNine opened called checks firstMet decided calledWith presentOnFull replied replyOf fits headFits allOf ascendingFrom ascending rootGood aheadGood placesFrom opIn uses strayFields rounds greatest tallest shaped least
 filled-by-nine =
     called (opened 1 1 (replicate 384 7) .state) (opened 1 1 (replicate 384 7) .tree) (putTicket 9 1) (replicate 7 0) (replicate 6 5)
 

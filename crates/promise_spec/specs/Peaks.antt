@@ -9,7 +9,7 @@ use lib.ListN.{length}
 use Rattle.list_spec.specs.Distinct.{All}
 use Rattle.method_spec.specs.Answer.{Structure, Op}
 use Rattle.method_spec.specs.Rounds.{rounds}
-use Rattle.method_spec.specs.Map.{Outcome}
+use Rattle.method_spec.specs.Outcome.{Outcome}
 use Rattle.bucket_call_spec.specs.Fetch.{Round}
 use Rattle.bucket_call_spec.specs.Call.{drawOf}
 use Rattle.bucket_call_spec.specs.Peak.{countsOf, callRounds}

@@ -8,7 +8,7 @@ use lib.Seq.{sets}
 use Rattle.list_spec.specs.Distinct.{All}
 use Rattle.method_spec.specs.Prog.{done}
 use Rattle.method_spec.specs.Answer.{Structure}
-use Rattle.method_spec.specs.Map.{Outcome}
+use Rattle.method_spec.specs.Outcome.{Outcome}
 use Rattle.method_spec.specs.Call.{drawsFrom}
 use Rattle.round_spec.specs.Round.{noneTwice}
 use Rattle.round_spec.specs.Whole.{IsTree}

@@ -6,7 +6,7 @@ use Prim.Native.Nat.{ℕ, suc, _+_, _-_, _≤_}
 use native.Mathlib.Omega.{arith}
 use lib.ListN.{set}
 use Rattle.method_spec.specs.Prog.{done}
-use Rattle.method_spec.specs.Map.{Outcome}
+use Rattle.method_spec.specs.Outcome.{Outcome}
 use Rattle.method_spec.specs.Call.{drawsFrom}
 use Rattle.round_laws.specs.ReadHalf.{distinct-none-twice}
 use Rattle.list_spec.specs.Ascending.{ascending}
@@ -14,8 +14,8 @@ use Rattle.round_laws.specs.Sorted.{ascending-distinct}
 use Rattle.leaf_spec.specs.Leaf.{leafFormat}
 use Rattle.bucket_call_spec.specs.Fetch.{Going, shut, idleRound, fetchRound}
 use Rattle.bucket_call_spec.specs.Call.{putRounds}
-use Rattle.bucket_call_spec.specs.Peak.{roundsFrom, peakOf}
-use Rattle.peak_laws.specs.PeakLaws.{peakAt, peak-damage, done-round, rounds-shuts}
+use Rattle.bucket_call_spec.specs.Peak.{roundsFrom, peakOf, peakAt}
+use Rattle.peak_laws.specs.PeakLaws.{peak-damage, done-round, rounds-shuts}
 use Rattle.one_round.specs.OneRound.{going, keysWaiting}
 use Rattle.one_round.specs.TwiceLaws.{twice-shuts}
 use Rattle.stash_laws.specs.Waiting.{waitingIn}

@@ -10,8 +10,7 @@ use borrow.Author.Tests.{eq-eqb, ne-eqb}
 use Rattle.list_spec.specs.Choice.{pick}
 use Rattle.slot_spec.specs.LittleEndian.{Bytes}
 use Rattle.state_spec.specs.declared.State.{State}
-use Rattle.state_spec.specs.Fit.{places, fits, placesFit}
-use Rattle.state_spec.specs.Head.{headFits}
+use Rattle.state_spec.specs.Fit.{places, fits, placesFit, headFits}
 use Rattle.state_laws.specs.FitLaws.{fits-parts}
 use Rattle.call_spec.specs.Store.{called}
 use Rattle.stash_laws.specs.Waiting.{waitingIn}

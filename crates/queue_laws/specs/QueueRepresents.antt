@@ -11,20 +11,21 @@ use Rattle.list_spec.specs.Choice.{pick}
 use Rattle.list_spec.specs.Perm.{Perm, cons, swap, trans}
 use Rattle.list_laws.specs.PermLaws.{perm-refl, perm-sym, perm-map, perm-of-eq, perm-append-comm}
 use Rattle.list_laws.specs.DistinctLaws.{distinct-perm}
-use Rattle.method_spec.specs.Node.{Node, Link, Ahead, absent, linkOne, retag}
+use Rattle.method_spec.specs.Node.{Node, Link, Ahead, absent, linkOne, retag, Cell}
 use Rattle.method_spec.specs.Answer.{queue, Op, enqueue, dequeue, queued, dequeued, empty, full}
 use Rattle.method_spec.specs.Plain.{plain, dequeued-from}
-use Rattle.method_spec.specs.Map.{Outcome, start}
+use Rattle.method_spec.specs.Outcome.{Outcome}
+use Rattle.method_spec.specs.Prog.{start}
 use Rattle.method_spec.specs.Queue.{nextAhead, newest, enqueueProg, enqueueAhead, dequeueProg, dequeueAhead, queueTest}
 use Rattle.method_spec.specs.Rounds.{spare}
 use Rattle.method_spec.specs.Call.{program, aheadAfter, test, Memory, emptyMemory, drawsFrom}
-use Rattle.method_spec.specs.Safe.{Safe, ends, meets}
+use Rattle.run_laws.specs.Safe.{Safe, ends, meets}
 use Rattle.run_laws.specs.SafeLaws.{safe-pick, within-more}
 use Rattle.run_laws.specs.EnoughRounds.{program-within}
-use Rattle.run_laws.specs.StackRepresents.{Cell}
 use Rattle.run_laws.specs.Calls.{memoryOf, aheadTags, givenTags}
 use Rattle.run_laws.specs.Answers.{StepsTo, Represents}
-use Rattle.queue_laws.specs.QueueRow.{rowLink, rowNode, row, HoldsQueue, row-more, row-distinct, row-passes}
+use Rattle.method_spec.specs.QueueShape.{rowLink, rowNode, row, HoldsQueue}
+use Rattle.queue_laws.specs.QueueRow.{row-more, row-distinct, row-passes}
 
 module _ {T : Type 0} (nil : T) (limit : ℕ) where
   abbrev Holds : List ℕ → Memory T → Type 0

@@ -9,13 +9,13 @@ use borrow.Author.Tests.{eq-eqb, ne-eqb, lt-ltb, le-ltb}
 use Rattle.list_spec.specs.Choice.{pick}
 use Rattle.method_spec.specs.Node.{Link, Node, Ahead, absent, linkOne, linkAhead}
 use Rattle.method_spec.specs.Answer.{queued, dequeued, empty, full}
-use Rattle.method_spec.specs.Map.{start}
+use Rattle.method_spec.specs.Prog.{start}
 use Rattle.method_spec.specs.Queue.{nextAhead, newest, enqueueProg, enqueueAhead, dequeueProg, dequeueAhead}
 use Rattle.slot_spec.specs.Slot.{noLink}
 use Rattle.slot_spec.specs.declared.Link as slot
 use Rattle.leaf_spec.specs.Convert.{toLink}
 use Rattle.operation_spec.specs.Method.{nothing}
-use Rattle.operation_spec.specs.Resume.{missing, finished, resume}
+use Rattle.operations.specs.Resume.{missing, finished, resume}
 use Rattle.node_rows.specs.Held.{Held, nodesOf, heldAt}
 use Rattle.node_rows.specs.HeldLaws.{held-next, held-none}
 

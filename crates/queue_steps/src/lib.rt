@@ -26,7 +26,7 @@ ghost use Rattle.method_spec.specs.Queue as queue;
 ghost use Rattle.method_spec.specs.Queue.{enqueueProg, enqueueAhead, dequeueProg, dequeueAhead, queueTest};
 ghost use Rattle.leaf_spec.specs.Convert.{toLink, toAhead, toNode};
 ghost use Rattle.operation_spec.specs.Method.{toOutcome, toWant, toWanted};
-ghost use Rattle.operation_spec.specs.Resume.{resume, wantedOf, outcomeOf};
+ghost use Rattle.operations.specs.Resume.{resume, wantedOf, outcomeOf};
 ghost use Rattle.node_rows.specs.Row.{places, words};
 ghost use Rattle.node_rows.specs.Held.{heldIn, nodesOf};
 

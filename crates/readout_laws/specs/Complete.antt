@@ -1,14 +1,12 @@
--- Reading out is complete: every good node is an entry or reported as repeated, every bad slot and waiting place is reported,
--- and nothing else is in either.
+-- Reading out is complete.
 use mathlib.Core.Path.{_≡_, refl, sym, _∙_, ap}
 use mathlib.Core.Logic.{_⊎_, inl, inr}
 use mathlib.Core.Bool.{Bool, true, false}
-use mathlib.Core.List.{List, _∷_, _++_, map, List·Memᴰ, Memᴰ·cast, Memᴰ·map, Memᴰ·of-map}
+use mathlib.Core.List.{List, _++_, map, List·Memᴰ, Memᴰ·cast, Memᴰ·map, Memᴰ·of-map}
 use Prim.Native.Nat.{ℕ}
 use native.Mathlib.Omega.{arith}
 use Rattle.list_spec.specs.Perm.{Perm}
-use Rattle.list_spec.specs.Distinct.{Distinct, All}
-use Rattle.list_spec.specs.Ascending.{ascending}
+use Rattle.list_spec.specs.Distinct.{Distinct}
 use Rattle.list_laws.specs.PermLaws.{perm-sym, perm-map, perm-member, perm-append-comm}
 use Rattle.list_laws.specs.DistinctLaws.{distinct-perm, distinct-append, distinct-injective}
 use Rattle.list_laws.specs.AscendingLaws.{Rising, rising-ascending, rising-distinct}
@@ -19,48 +17,12 @@ use Rattle.slot_spec.specs.declared.Reading.{Reading}
 use Rattle.slot_spec.specs.declared.Reading.the-variants.{Full, Bad}
 use Rattle.state_spec.specs.declared.State.{State}
 use Rattle.readout_spec.specs.Seen.{Seen, slotsSeen, waitingSeen}
-use Rattle.readout_spec.specs.Taken.{Entry, good, firsts, entries, Omitted, isBad, isRepeated, report}
+use Rattle.readout_spec.specs.Taken.{Entry, good, firsts, entries, Omitted, isRepeated, report}
+use Rattle.readout_spec.specs.Complete.{seen, BadAt, RepeatedAt, ReadOutComplete}
 use Rattle.readout_laws.specs.SeenLaws.{placesSeen, seen-rising}
 use Rattle.readout_laws.specs.TakenLaws.{placesOf, placesOut, FullAt, good-full, full-good, good-distinct, firsts-member, firsts-keys, firsts-places, key-taken, first-of-key, OutBad, OutRepeated, omitted-bad, omitted-repeated, omitted-only, omitted-rising}
 
 module _ (s : State) (tree : List ℕ) where
-  -- All slots and waiting places, by place.
-  abbrev pub seen : List Seen
-  seen = slotsSeen s tree ++ waitingSeen s
-
-  -- Reported as bad: a slot or a waiting place that is bad.
-  pub record BadAt (o : Omitted) : Type 0 where
-    pub reason : o .reason ≡ isBad
-    pub there : List·Memᴰ (record { place = o .place; reading = Bad }) seen
-
-  -- Reported as repeated: a good node, and an entry at another place has its key.
-  pub record RepeatedAt (o : Omitted) : Type 0 where
-    pub reason : o .reason ≡ isRepeated
-    pub node : Entry
-    pub is-good : List·Memᴰ node (good s tree)
-    pub there : node .place ≡ o .place
-    pub entry : Entry
-    pub is-entry : List·Memᴰ entry (entries s tree)
-    pub same-key : entry .key ≡ node .key
-    pub elsewhere : ¬ (entry .place ≡ o .place)
-
-  pub record Complete : Type 0 where
-    -- Ascending by key, no key twice; the report ascending by place.
-    pub by-key : ascending (map (λ (e : Entry). e .key) (entries s tree)) ≡ true
-    pub by-place : ascending (map (λ (o : Omitted). o .place) (report s tree)) ≡ true
-    -- Every good node is an entry or reported as repeated; every bad slot or waiting place is reported as bad.
-    pub good-told : (e : Entry) → List·Memᴰ e (good s tree) → List·Memᴰ e (entries s tree) ⊎ List·Memᴰ (record { place = e .place; reason = isRepeated }) (report s tree)
-    pub bad-told : (p : ℕ) → List·Memᴰ (record { place = p; reading = Bad }) seen → List·Memᴰ (record { place = p; reason = isBad }) (report s tree)
-    -- Nothing else is: entries are good nodes, and what is reported is bad or repeated.
-    pub entries-good : (e : Entry) → List·Memᴰ e (entries s tree) → List·Memᴰ e (good s tree)
-    pub only-these : (o : Omitted) → List·Memᴰ o (report s tree) → BadAt o ⊎ RepeatedAt o
-    -- No place stands twice, in the entries and the report together.
-    pub places-once : Distinct (map (λ (e : Entry). e .place) (entries s tree) ++ map (λ (o : Omitted). o .place) (report s tree))
-    -- Of a repeated key the first waiting one is taken, else the lowest place: before an entry no good node has its key.
-    pub first-taken : (e : Entry) → List·Memᴰ e (entries s tree)
-        → (xs : List Entry) × ((ys : List Entry) × ((good s tree ≡ xs ++ (e ∷ ys)) × All (λ (x : Entry). ¬ (x .key ≡ e .key)) xs))
-
-  -- ---- the proofs
   -- The places of the nodes that are taken.
   abbrev taken : List ℕ
   taken = placesOf (entries s tree)
@@ -79,15 +41,15 @@ module _ (s : State) (tree : List ℕ) where
   turned : Perm (slotsSeen s tree ++ waitingSeen s) (waitingSeen s ++ slotsSeen s tree)
   turned = perm-append-comm (slotsSeen s tree) (waitingSeen s)
 
-  seen-distinct : Distinct (placesSeen seen)
-  seen-distinct = rising-distinct (placesSeen seen) (seen-rising s tree)
+  seen-distinct : Distinct (placesSeen (seen s tree))
+  seen-distinct = rising-distinct (placesSeen (seen s tree)) (seen-rising s tree)
 
   good-places : Distinct (placesOf (good s tree))
   good-places =
       good-distinct (waitingSeen s ++ slotsSeen s tree) (distinct-perm (perm-map (λ (x : Seen). x .place) turned) seen-distinct)
 
   -- A good node is a full reading at its place.
-  pub full-seen : (e : Entry) → List·Memᴰ e (good s tree) → FullAt e seen
+  pub full-seen : (e : Entry) → List·Memᴰ e (good s tree) → FullAt e (seen s tree)
   full-seen e m =
       let f = good-full e (waitingSeen s ++ slotsSeen s tree) m in
       record { node = f .node; there = perm-member (perm-sym turned) (f .there); same = f .same }
@@ -102,7 +64,7 @@ module _ (s : State) (tree : List ℕ) where
           inl (Memᴰ·cast (distinct-injective (λ (x : Entry). x .place) (good s tree) good-places m (entry-good (r .0) (r .1)) (sym (r .2))) (r .1))
       go false q =
           let f = full-seen e m in
-          inr (omitted-repeated taken (e .place) (f .node) seen (f .there) q)
+          inr (omitted-repeated taken (e .place) (f .node) (seen s tree) (f .there) q)
 
   -- An entry's place is not one that is not taken.
   is-taken : (e : Entry) → List·Memᴰ e (entries s tree) → (p : ℕ) → e .place ≡ p → ¬ (among p taken ≡ false)
@@ -110,10 +72,10 @@ module _ (s : State) (tree : List ℕ) where
       let t = member-among p taken (Memᴰ·cast (sym q) (Memᴰ·map (λ (x : Entry). x .place) m)) in
       let z : _≡_ {A = ℕ} 0 1 = cc in omega arith
 
-  reported : (o : Omitted) → List·Memᴰ o (report s tree) → BadAt o ⊎ RepeatedAt o
-  reported o m = go (omitted-only taken o seen m)
+  reported : (o : Omitted) → List·Memᴰ o (report s tree) → BadAt s tree o ⊎ RepeatedAt s tree o
+  reported o m = go (omitted-only taken o (seen s tree) m)
     where
-      go : OutBad taken o seen ⊎ OutRepeated taken o seen → BadAt o ⊎ RepeatedAt o
+      go : OutBad taken o (seen s tree) ⊎ OutRepeated taken o (seen s tree) → BadAt s tree o ⊎ RepeatedAt s tree o
       go (inl b) = inl (record { reason = b .0; there = b .1 })
       go (inr r) =
           let e : Entry = record { place = o .place; key = r .node .key; value = r .node .value } in
@@ -133,17 +95,17 @@ module _ (s : State) (tree : List ℕ) where
           })
 
   report-rising : Rising (placesOut (report s tree))
-  report-rising = omitted-rising taken seen (seen-rising s tree)
+  report-rising = omitted-rising taken (seen s tree) (seen-rising s tree)
 
   -- What is reported is not at an entry's place: a bad one is not good, and a repeated one is not taken.
   apart : (e : Entry) → List·Memᴰ e (entries s tree) → (o : Omitted) → List·Memᴰ o (report s tree) → ¬ (e .place ≡ o .place)
-  apart e m o n q = go (omitted-only taken o seen n)
+  apart e m o n q = go (omitted-only taken o (seen s tree) n)
     where
-      go : OutBad taken o seen ⊎ OutRepeated taken o seen → ⊥
+      go : OutBad taken o (seen s tree) ⊎ OutRepeated taken o (seen s tree) → ⊥
       go (inl b) =
           let f = full-seen e (entry-good e m) in
           let same : _≡_ {A = Seen} (record { place = e .place; reading = Full (f .node) }) (record { place = o .place; reading = Bad }) =
-          distinct-injective (λ (x : Seen). x .place) seen seen-distinct (f .there) (b .1) q in
+          distinct-injective (λ (x : Seen). x .place) (seen s tree) seen-distinct (f .there) (b .1) q in
           let read : _≡_ {A = Reading} (Full (f .node)) Bad = ap (λ (x : Seen). x .reading) same in
           let z : _≡_ {A = ℕ} 0 1 = cc in omega arith
       go (inr r) = is-taken e m (o .place) q (r .not-taken)
@@ -159,13 +121,13 @@ module _ (s : State) (tree : List ℕ) where
       let o = Memᴰ·of-map (λ (o : Omitted). o .place) (report s tree) n in
       apart (e .0) (e .1) (o .0) (o .1) (e .2 ∙ sym (o .2)))
 
-  pub complete : Complete
+  pub complete : ReadOutComplete s tree
   complete =
       record {
         by-key = sort-ascending (λ (e : Entry). e .key) (firsts (good s tree)) (firsts-keys (good s tree));
         by-place = rising-ascending (placesOut (report s tree)) report-rising;
         good-told = told;
-        bad-told = λ p m. omitted-bad taken p seen m;
+        bad-told = λ p m. omitted-bad taken p (seen s tree) m;
         entries-good = entry-good;
         only-these = reported;
         places-once = once;

@@ -18,7 +18,7 @@ use Rattle.slot_spec.specs.Slot.{Ranged}
 use Rattle.method_spec.specs.Node.{Node}
 use Rattle.method_spec.specs.Answer.{Structure}
 use Rattle.method_spec.specs.Plain.{Pair, Contents, plain}
-use Rattle.method_spec.specs.Map.{Outcome}
+use Rattle.method_spec.specs.Outcome.{Outcome}
 use Rattle.method_spec.specs.Rounds.{rounds}
 use Rattle.method_spec.specs.Call.{capacity, Memory, call}
 use Rattle.method_laws.specs.Represented.{Held, represents}

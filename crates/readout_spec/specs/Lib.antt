@@ -3,4 +3,5 @@ pub mod Taken
 pub mod File
 pub mod ReadOut
 pub mod ReadBack
+pub mod Complete
 pub mod Examples

@@ -6,18 +6,17 @@ use mathlib.Core.Path.{_≡_}
 use mathlib.Core.Bool.{Bool, true, false, not, Bool·beq}
 use mathlib.Core.List.{List, [], _∷_}
 use mathlib.Core.Option.{Option, none, some}
-use lib.Dec.{leb}
 use lib.ListN.{length, length-append}
 use Rattle.list_spec.specs.Choice.{pick}
 use Rattle.method_spec.specs.Node.{Node, child}
 use Rattle.method_spec.specs.Prog.{Want, done}
-use Rattle.method_spec.specs.Map.{Step, Sub, stub, Built, listed, topOf, kid, kids, nodesAt, seat, beside, below, stepAt, tall, rotate, opened, single, double, turn, placed, rest, nearOn, othersOf, raise}
+use Rattle.method_spec.specs.Map.{Step, Sub, stub, Built, listed, topOf, kid, kids, nodesAt, seat, beside, below, stepAt, tall, leansOut, rotate, opened, single, double, turn, placed, rest, nearOn, othersOf, raise}
 use Rattle.node_rows.specs.Heights.{Low, Lows}
 use Rattle.map_nodes.specs.Heights.{LowKid, LowSub}
 use Rattle.map_nodes.specs.Upward.{weight}
 use Rattle.map_nodes.specs.HeightLaws.{low-more, low-kid, low-top, low-down, low-up, low-placed, low-near, low-kid-more}
 use Rattle.rotations.specs.RotationLaws.{double-as}
-use Rattle.operation_spec.specs.Resume.{resume, Ends}
+use Rattle.operations.specs.Resume.{resume, Ends}
 use Rattle.operations.specs.ResumeLaws.{ends-bind, ends-done, ends-pick, ends-more}
 
 module _ {T : Type 0} where
@@ -121,7 +120,7 @@ module _ {T : Type 0} where
         ends-bind K (opened (beside p s (child s n)) (topOf near)) _ ns
         (ends-opened most _ (beside p s (child s n)) (topOf near) ns (low-top most near low-near) lows
         (λ c mid h l e.
-        ends-pick K (leb (child (not s) c .height) (child s c .height))
+        ends-pick K (leansOut s c)
         (done (single s n c (kid s near) (kid (not s) near) others)) _ mid
         (ends-done K (single s n c (kid s near) (kid (not s) near) others) mid (single-kept c ns mid h e))
         (ends-bind K (opened (inward c) (kid (not s) near)) _ mid

@@ -4,14 +4,13 @@ use mathlib.Core.Path.{_≡_}
 use mathlib.Core.Bool.{Bool, true, false, not}
 use mathlib.Core.List.{List, _++_}
 use mathlib.Core.Option.{Option, none, some}
-use lib.Dec.{leb}
 use lib.ListN.{drop}
 use Rattle.list_spec.specs.Choice.{pick}
 use Rattle.method_spec.specs.Node.{Node, child}
 use Rattle.method_spec.specs.Prog.{Want, Prog, done, bind}
-use Rattle.method_spec.specs.Map.{Step, Sub, Built, Rotated, kid, beside, below, stepAt, listed, opened, single, double, raise, rest}
+use Rattle.method_spec.specs.Map.{Step, Sub, Built, Rotated, kid, beside, below, stepAt, listed, leansOut, opened, single, double, raise, rest}
 use Rattle.leaf_spec.specs.Convert.{toNode}
-use Rattle.operation_spec.specs.Resume.{Resumed, missing, finished, resume, resumedAs}
+use Rattle.operations.specs.Resume.{Resumed, missing, finished, resume, resumedAs}
 use Rattle.node_rows.specs.Held.{Held, nodesOf}
 use Rattle.map_nodes.specs.Method.{toKid, toSub}
 use Rattle.map_nodes.specs.Heights.{LowKid}
@@ -48,7 +47,7 @@ pub record Raises (p : Prog ℕ (Built ℕ)) (h : Held) (next : ℕ) (r : Raised
 -- A rotation where the child c on the tall side s is at hand.
 unfoldable pub turnOver : Step ℕ → Bool → Node ℕ → Node ℕ → Sub ℕ → List (Node ℕ) → Prog ℕ (Built ℕ)
 turnOver p s n c near others =
-    pick (leb (child (not s) c .height) (child s c .height))
+    pick (leansOut s c)
     (done (single s n c (kid s near) (kid (not s) near) others))
     (bind (opened (below (stepAt (beside p s (child s n)) c (not s))) (kid (not s) near))
     (λ g. done (double s n c g (kid s near) others)))

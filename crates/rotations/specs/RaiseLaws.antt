@@ -9,7 +9,7 @@ use mathlib.Core.Option.{Option, none, some}
 use lib.ListN.{length, getD, drop}
 use Rattle.method_spec.specs.Node.{Node, child}
 use Rattle.method_spec.specs.Prog.{Want, Prog, done, want}
-use Rattle.method_spec.specs.Map.{Step, Sub, Built, listed, kid, topOf, beside, below, stepAt, tall, opened, single, double, turn, placed, rest, nearOn, othersOf, seat, raise}
+use Rattle.method_spec.specs.Map.{Step, Sub, Built, listed, kid, topOf, beside, below, stepAt, tall, leansOut, opened, single, double, turn, placed, rest, nearOn, othersOf, seat, raise}
 use Rattle.slot_spec.specs.declared.Node as node
 use Rattle.map_nodes.specs.declared.Sub as sub
 use Rattle.operation_spec.specs.declared.Want as want
@@ -28,8 +28,7 @@ use Rattle.node_rows.specs.Heights.{Low}
 use Rattle.node_rows.specs.HeldLaws.{held-next, held-none, held-low}
 use Rattle.map_nodes.specs.Heights.{LowSub}
 use Rattle.map_nodes.specs.HeightLaws.{low-more, low-placed, low-near}
-use Rattle.map_balance.specs.Balance.{leansOut}
-use Rattle.operation_spec.specs.Resume.{resume, finished, follow}
+use Rattle.operations.specs.Resume.{resume, finished, follow}
 use Rattle.operations.specs.ResumeLaws.{resume-done, resume-want, resume-missing, resume-bind, resume-map}
 use Rattle.rotations.specs.Raise.{Opens, openedAs, listOf, builtOf, Raises, turnOver}
 

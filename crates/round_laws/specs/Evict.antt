@@ -14,7 +14,8 @@ use Rattle.slot_spec.specs.Tree.{slotLength, bucketLength}
 use Rattle.slot_spec.specs.Slot.{bucketBytes}
 use Rattle.round_spec.specs.Format.{Format, Read, full, empty}
 use Rattle.round_spec.specs.Round.{slotAt, withBucket, readBucket, readBuckets, choose, evict}
-use Rattle.round_spec.specs.Whole.{goodOnes, IsTree, Lawful, InTree}
+use Rattle.round_spec.specs.Whole.{goodOnes, IsTree, InTree}
+use Rattle.round_laws.specs.Lawful.{Lawful}
 use Rattle.round_laws.specs.Places.{zeroSlot, with-bucket-is-tree, slot-at-same, slot-at-other, filled-length, filled-slot, filled-bytes}
 use Rattle.round_laws.specs.Readings.{NotBad, good-append, readings-step, bucket-same}
 use Rattle.round_laws.specs.Lists.{Passing, choose-perm, choose-few, choose-passes}

@@ -14,7 +14,8 @@ use lib.ListN.{take, drop, replicate, length-replicate}
 use Rattle.slot_spec.specs.Tree.{path, slotLength, bucketStart, treeLength}
 use Rattle.round_spec.specs.Format.{Format, Read, full, empty, bad}
 use Rattle.round_spec.specs.Round.{Wish, Hand, Written, slotAt, keysOf, readBuckets, join, readHalf, writeHalf}
-use Rattle.round_spec.specs.Whole.{allBuckets, goodOnes, listed, IsTree, contents, Lawful, Kept, InTree}
+use Rattle.round_spec.specs.Whole.{allBuckets, goodOnes, listed, IsTree, contents, Kept, InTree}
+use Rattle.round_laws.specs.Lawful.{Lawful}
 use Rattle.round_laws.specs.Paths.{all-in-tree, path-in-tree, path-distinct, path-and-others, others-off, others-in-tree}
 use Rattle.round_laws.specs.Places.{zeroSlot, zero-bytes, slot-fits}
 use Rattle.round_laws.specs.Readings.{NotBad, all-good-known, all-good-says, readings-append, readings-perm, bucket-readings, reading-of}

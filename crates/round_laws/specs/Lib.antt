@@ -1,3 +1,4 @@
+pub mod Lawful
 pub mod Paths
 pub mod Places
 pub mod NodeLaws

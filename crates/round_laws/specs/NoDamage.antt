@@ -14,7 +14,8 @@ use Rattle.slot_spec.specs.Tree.{path}
 use Rattle.slot_laws.specs.TreeLaws.{among-member}
 use Rattle.round_spec.specs.Format.{Format, full}
 use Rattle.round_spec.specs.Round.{Wish, Hand, keysOf, readBuckets, join, takeFirst, granted, readHalf}
-use Rattle.round_spec.specs.Whole.{allBuckets, goodOnes, IsTree, contents, Lawful, Kept}
+use Rattle.round_laws.specs.Lawful.{Lawful}
+use Rattle.round_spec.specs.Whole.{allBuckets, goodOnes, IsTree, contents, Kept}
 use Rattle.round_laws.specs.Paths.{all-in-tree, path-and-others}
 use Rattle.round_laws.specs.Readings.{NotBad, member-good, all-good-says, readings-append, readings-perm, reading-there, buckets-hold}
 use Rattle.round_laws.specs.Lists.{join-perm, take-finds}

@@ -20,7 +20,7 @@ use Rattle.slot_spec.specs.declared.Reading.{Reading}
 use Rattle.slot_spec.specs.declared.Reading.the-variants.{Full, Empty, Bad}
 use Rattle.round_spec.specs.Format.{full}
 use Rattle.round_spec.specs.Nodes.{nodeFormat, readingOf}
-use Rattle.round_spec.specs.Whole.{Lawful}
+use Rattle.round_laws.specs.Lawful.{Lawful}
 
 -- A node that may wait or stand in a slot of a tree of size k.
 abbrev pub ProperNode : ℕ → Node → Type 0

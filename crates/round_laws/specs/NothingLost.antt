@@ -12,7 +12,8 @@ use Rattle.list_laws.specs.Shuffle.{part, _&_, shuffle}
 use Rattle.slot_spec.specs.Tree.{path}
 use Rattle.round_spec.specs.Format.{Format, Read}
 use Rattle.round_spec.specs.Round.{Wish, Hand, Written, readBuckets, readHalf, writeHalf}
-use Rattle.round_spec.specs.Whole.{allBuckets, goodOnes, listed, IsTree, contents, Lawful, InTree}
+use Rattle.round_spec.specs.Whole.{allBuckets, goodOnes, listed, IsTree, contents, InTree}
+use Rattle.round_laws.specs.Lawful.{Lawful}
 use Rattle.round_laws.specs.Paths.{path-in-tree, path-distinct, path-and-others, others-off, others-in-tree}
 use Rattle.round_laws.specs.Readings.{good-append, good-perm, readings-append, readings-perm, readings-same, buckets-hold}
 use Rattle.round_laws.specs.Evict.{evict-is-tree, evict-other, evict-perm, evict-proper}

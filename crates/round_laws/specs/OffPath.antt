@@ -12,7 +12,8 @@ use Rattle.slot_spec.specs.Tree.{path, passes, among}
 use Rattle.slot_spec.specs.Slot.{bucketBytes}
 use Rattle.round_spec.specs.Format.{Format}
 use Rattle.round_spec.specs.Round.{Chosen, slotAt, withBucket, noneTwice, allGood, keysOf, readBucket, readBuckets, insert, join, granted, joined, grantedFrom, readHalf, taking, leaving, choose, evict, writeHalf}
-use Rattle.round_spec.specs.Whole.{allBuckets, IsTree, Lawful}
+use Rattle.round_laws.specs.Lawful.{Lawful}
+use Rattle.round_spec.specs.Whole.{allBuckets, IsTree}
 use Rattle.round_laws.specs.Paths.{all-in-tree, path-in-tree}
 use Rattle.round_laws.specs.Lists.{choose-takes, choose-leaves, choose-perm}
 use Rattle.round_laws.specs.Evict.{afterBucket, evict-step, evict-other}

@@ -15,7 +15,8 @@ use Rattle.list_laws.specs.DistinctLaws.{all-nil, all-cons}
 use Rattle.slot_spec.specs.Tree.{passes}
 use Rattle.round_spec.specs.Format.{Format, Read, full, empty, bad}
 use Rattle.round_spec.specs.Round.{slotAt, allGood, readBucket, readBuckets}
-use Rattle.round_spec.specs.Whole.{goodOnes, IsTree, Lawful, InTree}
+use Rattle.round_spec.specs.Whole.{goodOnes, IsTree, InTree}
+use Rattle.round_laws.specs.Lawful.{Lawful}
 use Rattle.round_laws.specs.Places.{slot-length, slot-bytes}
 
 -- ---- the elements of some readings

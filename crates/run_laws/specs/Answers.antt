@@ -9,9 +9,9 @@ use Rattle.list_spec.specs.Distinct.{Distinct}
 use Rattle.method_spec.specs.Node.{Node, Link, Ahead}
 use Rattle.method_spec.specs.Answer.{Structure, Op, Answer}
 use Rattle.method_spec.specs.Plain.{Contents, Said, plain, plainContents, plainAnswers}
-use Rattle.method_spec.specs.Map.{Outcome}
+use Rattle.method_spec.specs.Outcome.{Outcome}
 use Rattle.method_spec.specs.Call.{program, aheadAfter, spareTags, test, Memory, call, run}
-use Rattle.method_spec.specs.Safe.{Safe, Within}
+use Rattle.run_laws.specs.Safe.{Safe, Within}
 use Rattle.run_laws.specs.SafeLaws.{safe-map}
 use Rattle.run_laws.specs.Fetches.{keys, Unordered}
 use Rattle.run_laws.specs.Calls.{memoryOf, aheadTags, givenTags, Retagged, Keeps, Stepped, Unqueued, safe-call}

@@ -14,9 +14,9 @@ use Rattle.method_spec.specs.Node.{Node, Link, Ahead}
 use Rattle.method_spec.specs.Answer as answer
 use Rattle.method_spec.specs.Answer.{Structure, Op}
 use Rattle.method_spec.specs.Rounds.{spare, putDraw}
-use Rattle.method_spec.specs.Map.{Outcome}
+use Rattle.method_spec.specs.Outcome.{Outcome}
 use Rattle.method_spec.specs.Call.{program, aheadAfter, spareTags, test, Memory, emptyMemory, fetches, drawsFrom, stepped, answered, Called, call, Ran, run}
-use Rattle.method_spec.specs.Safe.{Safe, Within}
+use Rattle.run_laws.specs.Safe.{Safe, Within}
 use Rattle.run_laws.specs.Fetches.{keys, tags, Unordered, test-untagged, fetches-length, safe-fetches}
 
 -- A structure whose steps keep what is known ahead: any but the queue.

@@ -6,20 +6,20 @@ use mathlib.Core.Bool.{Bool, true, false, not}
 use mathlib.Core.List.{List, [], _∷_, _++_}
 use mathlib.Core.Option.{Option, none, some}
 use native.Mathlib.Omega.{arith}
-use lib.Dec.{eqb, ltb, leb}
+use lib.Dec.{eqb, ltb}
 use lib.ListN.{length, length-append}
 use borrow.Author.Tests.{eqb-true, eqb-false}
 use Rattle.list_spec.specs.Choice.{pick}
 use Rattle.list_laws.specs.ChoiceLaws.{pick-both, pick-neither}
 use Rattle.method_spec.specs.Node.{Node, Link, Ahead, child, heightOf}
-use Rattle.method_spec.specs.Prog.{Want, Prog, done, want, bind}
+use Rattle.method_spec.specs.Prog.{Want, Prog, done, want, bind, start}
 use Rattle.method_spec.specs.Answer as answer
 use Rattle.method_spec.specs.Answer.{Structure, Op}
-use Rattle.method_spec.specs.Map.{Step, Sub, stub, Spot, gap, hit, start, stepAt, below, walk, tall, topOf, kid, beside, double, opened, turn, placed, nearOn, othersOf, raise, climb, putStep, getProg, putProg, lowest, swapped, takeOut, removeStep, removeProg, mapTest}
+use Rattle.method_spec.specs.Map.{Step, Sub, stub, Spot, gap, hit, stepAt, below, walk, tall, leansOut, topOf, kid, beside, double, opened, turn, placed, nearOn, othersOf, raise, climb, putStep, getProg, putProg, lowest, swapped, takeOut, removeStep, removeProg, mapTest}
 use Rattle.method_spec.specs.Stack.{pushProg, popProg, stackTest}
 use Rattle.method_spec.specs.Queue.{enqueueProg, dequeueProg, queueTest}
 use Rattle.method_spec.specs.Call.{program, test}
-use Rattle.method_spec.specs.Safe.{Within, stops, asks}
+use Rattle.run_laws.specs.Safe.{Within, stops, asks}
 use Rattle.run_laws.specs.HeapWithin.{mostInHeap, heap-within}
 use Rattle.run_laws.specs.SafeLaws.{within-more, within-pick, within-bind, WithinTo, stops-with, asks-with, withinTo-then, within-map}
 
@@ -56,7 +56,7 @@ module _ {T : Type 0} where
     turn-within p s n near others =
         let at = beside p s (child s n) in
         within-bind _ (opened-within at (topOf near))
-        (λ c. within-pick (leb (child (not s) c .height) (child s c .height)) stops
+        (λ c. within-pick (leansOut s c) stops
         (within-bind {m = 0}
         (λ g. done (double s n c g (kid s near) others))
         (opened-within (below (stepAt at c (not s))) (kid (not s) near)) (λ g. stops)))

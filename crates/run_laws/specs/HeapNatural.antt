@@ -7,9 +7,8 @@ use lib.Dec.{eqb, ltb, leb}
 use lib.ListN.{length, length-map}
 use Rattle.list_spec.specs.Choice.{pick}
 use Rattle.method_spec.specs.Node.{Node, Link, absent, withChild, withValue, linkOne}
-use Rattle.method_spec.specs.Prog.{Want, Prog}
+use Rattle.method_spec.specs.Prog.{Want, Prog, start}
 use Rattle.method_spec.specs.Answer.{heap, add, take}
-use Rattle.method_spec.specs.Map.{start}
 use Rattle.method_spec.specs.Heap.{Pass, Reached, Lower, childless, lower, wayTo, beneath, descend, over, settled, rise, topmost, newNode, addProg, downward, passed, childOf, smaller, above, sunk, sink, replaceRoot, takeProg}
 use Rattle.method_spec.specs.Call.{program}
 use Rattle.run_laws.specs.Natural.{mapLink, mapNode, mapNodes, mapWant, Same, both-done, both-want, same-bind, same-pick, SameOutcome, Natural}

@@ -10,12 +10,11 @@ use lib.ListN.{length, length-append}
 use borrow.Author.Tests.{eqb-true, leb-false}
 use Rattle.list_spec.specs.Choice.{pick}
 use Rattle.method_spec.specs.Node.{Node, Link, Ahead, absent, child, withChild, linkOne}
-use Rattle.method_spec.specs.Prog.{Want, Prog, bind}
+use Rattle.method_spec.specs.Prog.{Want, Prog, bind, start}
 use Rattle.method_spec.specs.Answer.{heap, Op, add, take}
-use Rattle.method_spec.specs.Map.{start}
 use Rattle.method_spec.specs.Heap.{childPosition, linkGood, heapTest, Pass, Lower, childless, lower, turnsTo, wayTo, beneath, descend, addProg, downward, childOf, smaller, above, sunk, sink, replaceRoot, takeProg}
 use Rattle.method_spec.specs.Call.{program}
-use Rattle.method_spec.specs.Safe.{Within, stops, asks}
+use Rattle.run_laws.specs.Safe.{Within, stops, asks}
 use Rattle.run_laws.specs.SafeLaws.{within-more, within-pick, within-bind, WithinTo, stops-with, asks-with, withinTo-then, within-map}
 
 -- ---- what the heap's fetch test says of links

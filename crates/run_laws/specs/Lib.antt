@@ -1,3 +1,5 @@
+pub mod BalanceLaws
+pub mod Safe
 pub mod SafeLaws
 pub mod Fetches
 pub mod Natural

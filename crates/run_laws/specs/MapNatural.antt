@@ -4,13 +4,13 @@ use mathlib.Core.Bool.{Bool, true, false, not, Bool·beq}
 use mathlib.Core.List.{List, [], _∷_, _++_, map, map-append}
 use mathlib.Core.Option.{Option, none, some, Option·map}
 use Prim.Native.Nat.{ℕ, zero, suc, pred}
-use lib.Dec.{eqb, ltb, leb}
+use lib.Dec.{eqb, ltb}
 use Rattle.list_spec.specs.Choice.{pick}
 use Rattle.method_spec.specs.Node.{Node, Link, absent, child, withChild, withValue}
-use Rattle.method_spec.specs.Prog.{Want}
+use Rattle.method_spec.specs.Prog.{Want, start}
 use Rattle.method_spec.specs.Answer as answer
 use Rattle.method_spec.specs.Answer.{Answer, found, replaced, new, removed, full}
-use Rattle.method_spec.specs.Map.{Step, Sub, stub, top, Built, Spot, gap, hit, Lowest, linkOf, listed, topOf, kid, kids, nodesAt, seat, start, stepAt, beside, below, walk, tall, single, double, opened, turn, placed, rest, nearOn, othersOf, raise, climb, unwind, unwound, finish, getStep, getProg, putStep, putProg, lowest, swapped, takeOut, removeStep, removeProg}
+use Rattle.method_spec.specs.Map.{Step, Sub, stub, top, Built, Spot, gap, hit, Lowest, linkOf, listed, topOf, kid, kids, nodesAt, seat, stepAt, beside, below, walk, balanceOf, tall, leansOut, single, double, opened, turn, placed, rest, nearOn, othersOf, raise, climb, unwind, unwound, finish, getStep, getProg, putStep, putProg, lowest, swapped, takeOut, removeStep, removeProg}
 use Rattle.method_spec.specs.Call.{program}
 use Rattle.run_laws.specs.Natural.{mapLink, mapNode, mapNodes, mapWant, mapOutcome, Same, both-done, both-want, same-bind, same-pick, SameOutcome, Natural}
 
@@ -75,9 +75,13 @@ module _ {T S : Type 0} (f : T → S) where
   withChild-natural true n l = refl
   withChild-natural false n l = refl
 
-  tall-natural : (s : Bool) (n : Node T) → tall s (mapNode f n) ≡ tall s n
-  tall-natural true n = refl
-  tall-natural false n = refl
+  balance-natural : (n : Node T) → balanceOf (mapNode f n) ≡ balanceOf n
+  unfolding balanceOf
+  balance-natural n = refl
+
+  leans-natural : (s : Bool) (n : Node T) → leansOut s (mapNode f n) ≡ leansOut s n
+  leans-natural true n = rw (balance-natural n)
+  leans-natural false n = rw (balance-natural n)
 
   linkOf-natural : (b : Sub T) → linkOf (mapSub b) ≡ mapLink f (linkOf b)
   linkOf-natural (stub l) = refl
@@ -145,8 +149,8 @@ module _ {T S : Type 0} (f : T → S) where
   turn-natural p s n near others =
       rw (child-natural s n, topOf-natural near, kid-natural s near, kid-natural (not s) near)
       (same-bind f (opened-natural (beside p s (child s n)) (topOf near))
-      (λ c d e. rw (e, child-natural s c, child-natural (not s) c)
-      (same-pick f (leb (child (not s) c .height) (child s c .height))
+      (λ c d e. rw (e, leans-natural s c, child-natural (not s) c)
+      (same-pick f (leansOut s c)
       (both-done (single-natural s n c (kid s near) (kid (not s) near) others))
       (same-bind f
       (opened-natural (below (stepAt (beside p s (child s n)) c (not s))) (kid (not s) near))
@@ -179,7 +183,7 @@ module _ {T S : Type 0} (f : T → S) where
   pub raise-natural : (p : Step T) (b : Sub T) → Same f SameBuilt (raise p b) (raise (mapStep p) (mapSub b))
   unfolding raise
   raise-natural p b =
-      rw (placed-natural p b, nearOn-natural p b true, nearOn-natural p b false, othersOf-natural p b true, othersOf-natural p b false)
+      rw (placed-natural p b, balance-natural (placed p b), nearOn-natural p b true, nearOn-natural p b false, othersOf-natural p b true, othersOf-natural p b false)
       (same-pick f (tall true (placed p b))
       (turn-natural p true (placed p b) (nearOn p b true) (othersOf p b true))
       (same-pick f (tall false (placed p b))

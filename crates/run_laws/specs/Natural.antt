@@ -11,7 +11,7 @@ use Rattle.method_spec.specs.Prog.{Want, Prog, done, want, bind}
 use Rattle.method_spec.specs.Answer as answer
 use Rattle.method_spec.specs.Answer.{Structure, Op}
 use Rattle.method_spec.specs.Queue.{enqueueAhead, dequeueAhead}
-use Rattle.method_spec.specs.Map.{Outcome}
+use Rattle.method_spec.specs.Outcome.{Outcome}
 use Rattle.method_spec.specs.Rounds.{putDraw}
 use Rattle.method_spec.specs.Call.{Memory, Taken, keepFirst, takeKey, leftOver, Fetched, revealing, given, fetches, drawsFrom, stepped, answered, program, aheadAfter, spareTags, Called, call, Ran, andThen, run}
 

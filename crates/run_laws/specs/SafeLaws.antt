@@ -10,7 +10,7 @@ use Rattle.list_spec.specs.Perm.{Perm, trans}
 use Rattle.list_laws.specs.PermLaws.{perm-sym}
 use Rattle.method_spec.specs.Node.{Node}
 use Rattle.method_spec.specs.Prog.{Want, Prog, done, want, bind}
-use Rattle.method_spec.specs.Safe.{Safe, ends, meets, Within, stops, asks}
+use Rattle.run_laws.specs.Safe.{Safe, ends, meets, Within, stops, asks}
 
 module _ {T : Type 0} {test : Want T → Node T → Bool} where
   -- ---- safe runs

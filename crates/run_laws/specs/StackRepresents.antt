@@ -2,7 +2,7 @@
 use mathlib.Core.Path.{_≡_, refl, sym, _∙_, ap}
 use mathlib.Core.Bool.{true, false}
 use mathlib.Core.List.{List, [], _∷_, map}
-use Prim.Native.Nat.{ℕ, zero, suc, pred, _≤_, _<_}
+use Prim.Native.Nat.{ℕ, suc, pred, _≤_, _<_}
 use native.Mathlib.Nat.{le-refl}
 use native.Mathlib.Omega.{arith}
 use lib.Dec.{ltb}
@@ -12,29 +12,21 @@ use Rattle.list_spec.specs.Perm.{Perm, cons, trans}
 use Rattle.list_laws.specs.PermLaws.{perm-refl, perm-sym, perm-map}
 use Rattle.list_spec.specs.Distinct.{Distinct, All}
 use Rattle.list_laws.specs.DistinctLaws.{all-nil, all-cons, distinct-perm}
-use Rattle.method_spec.specs.Node.{Node, Link, Ahead, absent, retag}
-use Rattle.method_spec.specs.Prog.{Want}
+use Rattle.method_spec.specs.Node.{Node, Link, Ahead, Cell, absent, retag}
+use Rattle.method_spec.specs.Prog.{Want, start}
 use Rattle.method_spec.specs.Answer.{stack, Op, push, pop, pushed, popped, empty, full}
 use Rattle.method_spec.specs.Plain.{plain, popped-from}
-use Rattle.method_spec.specs.Map.{Outcome, start}
+use Rattle.method_spec.specs.Outcome.{Outcome}
 use Rattle.method_spec.specs.Stack.{pushProg, popProg, stackTest}
 use Rattle.method_spec.specs.Rounds.{spare}
 use Rattle.method_spec.specs.Call.{program, aheadAfter, test, Memory, emptyMemory, drawsFrom}
-use Rattle.method_spec.specs.Safe.{Safe, ends, meets}
+use Rattle.method_spec.specs.HeapShape.{countdown}
+use Rattle.run_laws.specs.Safe.{Safe, ends, meets}
 use Rattle.run_laws.specs.SafeLaws.{safe-pick, within-more}
 use Rattle.run_laws.specs.Fetches.{keys}
 use Rattle.run_laws.specs.EnoughRounds.{program-within}
 use Rattle.run_laws.specs.Calls.{memoryOf, givenTags}
 use Rattle.run_laws.specs.Answers.{StepsTo, Represents}
-
--- n, n - 1, .., 1.
-unfoldable pub countdown : ℕ → List ℕ
-countdown zero = []
-countdown (suc n) = suc n ∷ countdown n
-
-pub record Cell (T : Type 0) : Type 0 where
-  pub value : ℕ
-  pub tag : T
 
 module _ {T : Type 0} (nil : T) where
   -- The link to a chain and its nodes: the first cell is the top, and the last has key 1.

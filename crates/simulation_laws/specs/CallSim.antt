@@ -12,7 +12,7 @@ use Rattle.method_spec.specs.Node.{Node, Link, Ahead}
 use Rattle.method_spec.specs.Prog.{From, root, side, Prog, done, want}
 use Rattle.method_spec.specs.Answer.{Structure, Op, Answer}
 use Rattle.method_spec.specs.Plain.{Contents}
-use Rattle.method_spec.specs.Map.{Outcome}
+use Rattle.method_spec.specs.Outcome.{Outcome}
 use Rattle.method_spec.specs.Rounds.{rounds, spareDraw, putDraw}
 use Rattle.method_spec.specs.Call.{capacity, program, aheadAfter, spareTags, Memory, emptyMemory, Fetched, fetches, stepped, answered, Called, call}
 use Rattle.run_laws.specs.RoundsLaws.{some-rounds}

@@ -21,11 +21,12 @@ use Rattle.balance_spec.specs.Tree.{Tree, leaf, node}
 use Rattle.method_spec.specs.Answer.{Structure, map, stack, heap, queue, Op, get, put, remove, push, pop, add, take, enqueue, dequeue}
 use Rattle.method_spec.specs.Plain.{Pair, Contents, lookup, store, erase, enter, put-into, popped-from, taken-from, dequeued-from, plain, numbered, inRow, Entries}
 use Rattle.method_spec.specs.Call.{capacity, Memory}
-use Rattle.run_laws.specs.StackRepresents.{Cell, chain}
+use Rattle.method_spec.specs.Node.{Cell}
+use Rattle.run_laws.specs.StackRepresents.{chain}
 use Rattle.avl_laws.specs.Search.{Entry, pairs, nodesOf}
 use Rattle.heap_laws.specs.HeapFacts.{heap-entries}
 use Rattle.heap_laws.specs.Collections.{enter-perm, enter-length}
-use Rattle.queue_laws.specs.QueueRow.{row, HoldsQueue}
+use Rattle.method_spec.specs.QueueShape.{row, HoldsQueue}
 use Rattle.queue_laws.specs.QueueRepresents.{cells-counted}
 use Rattle.method_laws.specs.Represented.{Held}
 

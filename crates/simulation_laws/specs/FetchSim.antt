@@ -6,9 +6,9 @@ use Rattle.method_spec.specs.Node.{Node, retag}
 use Rattle.method_spec.specs.Prog.{Prog, done, want}
 use Rattle.method_spec.specs.Answer.{Structure}
 use Rattle.method_spec.specs.Plain.{Pair}
-use Rattle.method_spec.specs.Map.{Outcome}
+use Rattle.method_spec.specs.Outcome.{Outcome}
 use Rattle.method_spec.specs.Call.{test, Fetched, fetches, drawsFrom}
-use Rattle.method_spec.specs.Safe.{Safe}
+use Rattle.run_laws.specs.Safe.{Safe}
 use Rattle.run_laws.specs.Fetches.{Unordered, safe-round, fetches-found}
 use Rattle.bucket_call_spec.specs.Fetch.{Going, Round, on, shut, idleRound, fetchRound, fetchRounds}
 use Rattle.bucket_call_spec.specs.Call.{putRounds}

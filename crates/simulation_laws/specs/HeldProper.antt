@@ -15,14 +15,14 @@ use Rattle.balance_spec.specs.Least.{least}
 use Rattle.balance_spec.specs.Shape.{shaped}
 use Rattle.balance_spec.specs.Greatest.{tallest, greatest}
 use Rattle.balance_laws.specs.GreatestLaws.{greatest-mono}
-use Rattle.method_spec.specs.Node.{Node, Ahead, absent}
+use Rattle.method_spec.specs.Node.{Node, Ahead, absent, Cell}
 use Rattle.method_spec.specs.Answer.{Structure, map, stack, heap, queue}
 use Rattle.method_spec.specs.Plain.{Contents}
 use Rattle.method_spec.specs.Call.{capacity, Memory}
-use Rattle.run_laws.specs.StackRepresents.{Cell, chainLink, chain}
+use Rattle.run_laws.specs.StackRepresents.{chainLink, chain}
 use Rattle.method_spec.specs.Heap.{childPosition}
-use Rattle.heap_laws.specs.HeapTree.{heapLink, heapNodes}
-use Rattle.queue_laws.specs.QueueRow.{rowLink, row}
+use Rattle.method_spec.specs.HeapShape.{heapLink, heapNodes}
+use Rattle.method_spec.specs.QueueShape.{rowLink, row}
 use Rattle.avl_laws.specs.Search.{Entry, linkTree, nodesOf}
 use Rattle.avl_laws.specs.Holds.{holds-height}
 use Rattle.method_laws.specs.MapRepresents.{holds-low}

@@ -11,7 +11,7 @@ use lib.Pow.{pow-pos}
 use Rattle.list_spec.specs.Distinct.{All}
 use Rattle.method_spec.specs.Answer.{Structure, Op, Answer}
 use Rattle.method_spec.specs.Plain.{Contents, nothing, plain, plainAnswers}
-use Rattle.method_spec.specs.Map.{Outcome}
+use Rattle.method_spec.specs.Outcome.{Outcome}
 use Rattle.method_spec.specs.Rounds.{rounds}
 use Rattle.method_spec.specs.Call.{capacity, Memory, emptyMemory, Called, call, Ran, run}
 use Rattle.method_spec.specs.Origin.{drawn, names, leafOf, leafRun}

@@ -9,7 +9,7 @@ use Rattle.list_spec.specs.Perm.{Perm}
 use Rattle.slot_spec.specs.Tree.{treeLength}
 use Rattle.method_spec.specs.Node.{Node, absent, noneAhead}
 use Rattle.method_spec.specs.Plain.{Pair}
-use Rattle.method_spec.specs.Map.{Outcome}
+use Rattle.method_spec.specs.Outcome.{Outcome}
 use Rattle.method_spec.specs.Call.{Memory, Called}
 use Rattle.round_spec.specs.Round.{allGood, readBuckets, limit}
 use Rattle.leaf_spec.specs.Leaf.{leafFormat, ProperLeaf}

@@ -6,15 +6,15 @@ use Prim.Native.Nat.{ℕ, _+_}
 use native.Mathlib.Omega.{arith}
 use lib.ListN.{length}
 use Rattle.balance_spec.specs.Tree.{Tree, leaf, node, size}
-use Rattle.method_spec.specs.Node.{absent}
+use Rattle.method_spec.specs.Node.{absent, Cell}
 use Rattle.method_spec.specs.Answer.{Structure, map, stack, heap, queue}
 use Rattle.method_spec.specs.Plain.{Contents}
 use Rattle.method_spec.specs.Call.{Memory}
-use Rattle.run_laws.specs.StackRepresents.{Cell, chainLink, cells-counted}
+use Rattle.run_laws.specs.StackRepresents.{chainLink, cells-counted}
 use Rattle.avl_laws.specs.Search.{Entry, linkTree}
 use Rattle.avl_laws.specs.Holds.{holds-entries}
 use Rattle.heap_laws.specs.HeapFacts.{heap-no-root}
-use Rattle.queue_laws.specs.QueueRow.{rowLink}
+use Rattle.method_spec.specs.QueueShape.{rowLink}
 use Rattle.queue_laws.specs.QueueRepresents as queue
 use Rattle.method_laws.specs.Represented.{Held}
 

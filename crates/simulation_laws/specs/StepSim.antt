@@ -16,7 +16,7 @@ use Rattle.method_spec.specs.Prog.{done}
 use Rattle.method_spec.specs.Answer.{Structure}
 use Rattle.method_spec.specs.Plain.{Pair}
 use Rattle.method_spec.specs.Rounds.{putDraw}
-use Rattle.method_spec.specs.Map.{Outcome}
+use Rattle.method_spec.specs.Outcome.{Outcome}
 use Rattle.method_spec.specs.Call.{Memory, drawsFrom, stepped, Called}
 use Rattle.run_laws.specs.Fetches.{keys}
 use Rattle.run_laws.specs.Calls.{memoryOf}

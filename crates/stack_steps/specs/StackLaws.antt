@@ -8,10 +8,10 @@ use borrow.Author.Tests.{eq-eqb, ne-eqb, lt-ltb, le-ltb}
 use Rattle.method_spec.specs.Node.{Link, Node}
 use Rattle.method_spec.specs.Node as node
 use Rattle.method_spec.specs.Answer.{pushed, popped, empty, full}
-use Rattle.method_spec.specs.Map.{start}
+use Rattle.method_spec.specs.Prog.{start}
 use Rattle.method_spec.specs.Stack.{pushProg, popProg}
 use Rattle.operation_spec.specs.Method.{nothing}
-use Rattle.operation_spec.specs.Resume.{missing, finished, resume}
+use Rattle.operations.specs.Resume.{missing, finished, resume}
 use Rattle.node_rows.specs.Held.{Held, nodesOf, heldAt}
 use Rattle.node_rows.specs.HeldLaws.{held-next, held-none}
 

@@ -20,7 +20,7 @@ ghost use Rattle.method_spec.specs.Node as method;
 ghost use Rattle.method_spec.specs.Stack.{pushProg, popProg, stackTest};
 ghost use Rattle.leaf_spec.specs.Convert.{toLink, toNode};
 ghost use Rattle.operation_spec.specs.Method.{toOutcome, toWant, toWanted};
-ghost use Rattle.operation_spec.specs.Resume.{resume, wantedOf, outcomeOf};
+ghost use Rattle.operations.specs.Resume.{resume, wantedOf, outcomeOf};
 ghost use Rattle.node_rows.specs.Row.{places, words};
 ghost use Rattle.node_rows.specs.Held.{heldIn, nodesOf};
 

@@ -2,11 +2,11 @@
 use mathlib.Core.Path.{_≡_, refl, sym, _∙_, ap, ap₂}
 use mathlib.Core.Bool.{true, not, _&&_, and-eq-true-iff}
 use mathlib.Core.List.{List, [], _∷_, _++_, map}
-use Prim.Native.Nat.{ℕ, zero, suc, _+_, _-_, _^_, _≤_, _<_}
+use Prim.Native.Nat.{ℕ, zero, suc, _+_, _-_, _≤_, _<_}
 use native.Mathlib.Numerals.{add-one}
 use native.Mathlib.Omega.{arith}
-use borrow.Author.Tests.{not-true, eqb-true, leb-true}
-use lib.Dec.{eqb, leb}
+use borrow.Author.Tests.{not-true, eqb-true}
+use lib.Dec.{eqb}
 use lib.ListN.{length, take, drop, getD, set, replicate, length-map, length-append, length-replicate, length-drop, getD-replicate, take-append-drop, drop-of-length-le, List·getD-append, List·getD-map}
 use lib.Seq.{take-suc, split-at, getD-at, drop-cons, drop-drop, drop-append-add, set-at, append-snoc, getD-append-add, getD-take, length-take-le}
 use Rattle.slot_spec.specs.Slot.{fieldsIn, nodeOf, slotBytes, noLink}
@@ -22,9 +22,10 @@ use Rattle.stash_laws.specs.Waiting.{nodeIn, waitingIn, Holds}
 use Rattle.stash_laws.specs.WaitingLaws.{waiting-length}
 use Rattle.state_spec.specs.declared.Place.{Place}
 use Rattle.state_spec.specs.declared.State.{State}
-use Rattle.state_spec.specs.Fit.{largestStructure, largestSize, inRange, zeroLink, zeroNode, zeroPlace, allOf, placeGood, keysIn, places, noPlace, placesFrom, used, unused, placesFit, fits}
+use Rattle.state_spec.specs.Fit.{zeroLink, zeroNode, zeroPlace, allOf, placeGood, keysIn, places, noPlace, placesFrom, used, unused, fits}
 use Rattle.list_spec.specs.Ascending.{ascending}
 use Rattle.call_spec.specs.Store.{placed}
+use Rattle.state_laws.specs.FitLaws.{fit-parts}
 use Rattle.stash.specs.Stash.{saved}
 
 -- ---- the unused places of a fit state
@@ -80,16 +81,11 @@ pub record Places (s : State) : Type 0 where
   pub blank : allOf zeroPlace (unused s) ≡ true
 
 pub fit-places : (s : State) → fits s ≡ true → Places s
-unfolding fits
 fit-places s e =
-    let a = and-eq-true-iff (inRange (s .structure) largestStructure) _ .0 e in
-    let b = and-eq-true-iff (inRange (s .size) largestSize) _ .0 (a .1) in
-    let c = and-eq-true-iff (leb (s .entries) (2 ^ s .size - 1)) _ .0 (b .1) in
-    let d = and-eq-true-iff (leb (s .count) limit) _ .0 (c .1) in
-    let f = and-eq-true-iff (placesFit s) _ .0 (d .1) in
-    let g = and-eq-true-iff (allOf (placeGood (s .size)) (used s)) _ .0 (f .0) in
+    let f = fit-parts s e in
+    let g = and-eq-true-iff (allOf (placeGood (s .size)) (used s)) _ .0 (f .1) in
     record {
-      few = leb-true (s .count) limit (d .0);
+      few = f .0 .waiting;
       blank = and-eq-true-iff (ascending (keysIn (used s))) _ .0 (g .1) .1;
     }
 

@@ -1,6 +1,6 @@
 -- Whether a state fits: its head and its places, and those one at a time.
 use mathlib.Core.Path.{_≡_, refl, sym, _∙_, ap}
-use mathlib.Core.Bool.{Bool, true, false, _&&_, and-false, and-true, and-assoc, and-eq-true-iff}
+use mathlib.Core.Bool.{Bool, true, false, _&&_, and-assoc, and-eq-true-iff}
 use mathlib.Core.List.{List, [], _∷_}
 use Prim.Native.Nat.{ℕ, suc, _+_, _-_, _^_, _≤_, _<_}
 use native.Mathlib.Omega.{arith}
@@ -17,8 +17,7 @@ use Rattle.slot_laws.specs.SlotLaws.{or-zero}
 use Rattle.round_spec.specs.Round.{limit}
 use Rattle.state_spec.specs.declared.Place.{Place}
 use Rattle.state_spec.specs.declared.State.{State}
-use Rattle.state_spec.specs.Fit.{largestStructure, largestSize, zeroLink, zeroNode, allOf, inRange, placesFrom, noPlace, keysIn, rootGood, aheadGood, placesFit, fits}
-use Rattle.state_spec.specs.Head.{headFits}
+use Rattle.state_spec.specs.Fit.{largestStructure, largestSize, zeroLink, zeroNode, allOf, inRange, placesFrom, noPlace, keysIn, rootGood, aheadGood, placesFit, headFits, fits}
 
 -- ---- numbers that are zero together
 three-zero : (a b c : ℕ) → eqb (bitOr (bitOr a b) c) 0 ≡ (eqb a 0 && (eqb b 0 && eqb c 0))
@@ -117,40 +116,42 @@ in-range-true n most e = go (ltb 0 n) refl (leb n most) refl e
     go false a u b e = let z : _≡_ {A = ℕ} 0 1 = cc in absurd (omega arith)
 
 -- ---- the head and the places
-and-last : (a b c d p t : Bool) → (a && (b && (c && (d && (p && t))))) ≡ ((a && (b && (c && (d && t)))) && p)
-and-last false b c d p t = refl
-and-last true false c d p t = refl
-and-last true true false d p t = refl
-and-last true true true false p t = refl
-and-last true true true true false t = sym (and-false t)
-and-last true true true true true t = sym (and-true t)
-
--- A state fits if its head does and its places do.
 pub fits-parts : (s : State) → fits s ≡ (headFits (s .structure) (s .size) (s .entries) (s .count) (s .root) (s .ahead) && placesFit s)
-unfolding fits headFits
-fits-parts s =
-    and-last (inRange (s .structure) largestStructure) (inRange (s .size) largestSize) (leb (s .entries) (2 ^ s .size - 1)) (leb (s .count) limit) (placesFit s)
-    (ltb (s .root .tag) (2 ^ s .size)
-    && (rootGood (s .structure) (s .entries) (s .ahead .key) (s .root) && aheadGood (s .structure) (s .size) (s .entries) (s .ahead)))
+unfolding fits
+fits-parts s = refl
 
--- What a head that fits says of the numbers.
-pub record Head (structure size entries count : ℕ) : Type 0 where
+-- What a head that fits says.
+pub record Head (structure size entries count : ℕ) (root : Link) (ahead : Ahead) : Type 0 where
   pub structures : (1 ≤ structure) × (structure ≤ largestStructure)
   pub sizes : (1 ≤ size) × (size ≤ largestSize)
   pub few : entries ≤ 2 ^ size - 1
   pub waiting : count ≤ limit
+  pub root-tag : root .tag < 2 ^ size
+  pub rooted : rootGood structure entries (ahead .key) root ≡ true
+  pub known : aheadGood structure size entries ahead ≡ true
 
 pub head-true : (structure size entries count : ℕ) (root : Link) (ahead : Ahead) → headFits structure size entries count root ahead ≡ true
-    → Head structure size entries count
+    → Head structure size entries count root ahead
 unfolding headFits
 head-true structure size entries count root ahead e =
     let a = and-eq-true-iff (inRange structure largestStructure) _ .0 e in
     let b = and-eq-true-iff (inRange size largestSize) _ .0 (a .1) in
     let c = and-eq-true-iff (leb entries (2 ^ size - 1)) _ .0 (b .1) in
     let d = and-eq-true-iff (leb count limit) _ .0 (c .1) in
+    let f = and-eq-true-iff (ltb (root .tag) (2 ^ size)) _ .0 (d .1) in
+    let g = and-eq-true-iff (rootGood structure entries (ahead .key) root) _ .0 (f .1) in
     record {
       structures = in-range-true structure largestStructure (a .0);
       sizes = in-range-true size largestSize (b .0);
       few = leb-true entries (2 ^ size - 1) (c .0);
       waiting = leb-true count limit (d .0);
+      root-tag = ltb-true (root .tag) (2 ^ size) (f .0);
+      rooted = g .0;
+      known = g .1;
     }
+
+-- What a fit state says of its head and of its places.
+pub fit-parts : (s : State) → fits s ≡ true → Head (s .structure) (s .size) (s .entries) (s .count) (s .root) (s .ahead) × (placesFit s ≡ true)
+fit-parts s e =
+    let f = and-eq-true-iff (headFits (s .structure) (s .size) (s .entries) (s .count) (s .root) (s .ahead)) (placesFit s) .0 (sym (fits-parts s) ∙ e) in
+    (head-true (s .structure) (s .size) (s .entries) (s .count) (s .root) (s .ahead) (f .0), f .1)

@@ -83,18 +83,21 @@ used s = placesFrom (s .count) 0 (s .places)
 abbrev pub unused : State → List Place
 unused s = placesFrom (places - s .count) (s .count) (s .places)
 
--- "over 64 waiting, or one empty or bad, or keys not ascending; an unused place not zero"
+-- "one empty or bad, or keys not ascending; an unused place not zero"
 abbrev pub placesFit : State → Bool
 placesFit s =
     allOf (placeGood (s .size)) (used s) && (ascending (keysIn (used s)) && allOf zeroPlace (unused s))
 
+-- All but the places: "structure or size out of range; entries above 2^k − 1; over 64 waiting", "a root tag of 2^k or more", a root link
+-- or what is known ahead that the structure cannot have.
+unfoldable pub headFits : (structure size entries count : ℕ) → Link → Ahead → Bool
+headFits structure size entries count root ahead =
+    inRange structure largestStructure
+    && (inRange size largestSize
+    && (leb entries (2 ^ size - 1)
+    && (leb count limit
+    && (ltb (root .tag) (2 ^ size)
+    && (rootGood structure entries (ahead .key) root && aheadGood structure size entries ahead)))))
+
 unfoldable pub fits : State → Bool
-fits s =
-    inRange (s .structure) largestStructure
-    && (inRange (s .size) largestSize
-    && (leb (s .entries) (2 ^ s .size - 1)
-    && (leb (s .count) limit
-    && (placesFit s
-    && (ltb (s .root .tag) (2 ^ s .size)
-    && (rootGood (s .structure) (s .entries) (s .ahead .key) (s .root)
-    && aheadGood (s .structure) (s .size) (s .entries) (s .ahead)))))))
+fits s = headFits (s .structure) (s .size) (s .entries) (s .count) (s .root) (s .ahead) && placesFit s

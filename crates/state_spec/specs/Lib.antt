@@ -1,6 +1,5 @@
 pub mod Widths
 pub mod Fit
-pub mod Head
 pub mod Opening
 pub mod Ticket
 pub mod Fetching

@@ -5,7 +5,7 @@ use mathlib.Core.List.{List}
 use lib.ListN.{length}
 use Rattle.slot_spec.specs.declared.Link.{Link}
 use Rattle.method_spec.specs.Prog.{Prog, after}
-use Rattle.method_spec.specs.Map.{Outcome}
+use Rattle.method_spec.specs.Outcome.{Outcome}
 use Rattle.leaf_spec.specs.Convert.{toLink}
 use Rattle.operation_spec.specs.declared.Op.{Op}
 use Rattle.operation_spec.specs.declared.Spares.{Spares}

@@ -7,7 +7,8 @@ use native.Mathlib.Omega.{arith}
 use native.Mathlib.Decide.{decLt}
 use Rattle.method_spec.specs.Node.{Link, Ahead}
 use Rattle.method_spec.specs.Prog.{Want, Prog, after}
-use Rattle.method_spec.specs.Map.{Outcome, getProg, putProg, removeProg}
+use Rattle.method_spec.specs.Outcome.{Outcome}
+use Rattle.method_spec.specs.Map.{getProg, putProg, removeProg}
 use Rattle.method_spec.specs.Stack.{pushProg, popProg}
 use Rattle.method_spec.specs.Heap.{addProg, takeProg}
 use Rattle.method_spec.specs.Queue.{enqueueProg, enqueueAhead, dequeueProg, dequeueAhead}
@@ -19,7 +20,7 @@ use Rattle.operation_spec.specs.declared.Op.{Op}
 use Rattle.operation_spec.specs.declared.Op.the-variants.{Get, Put, Remove, Push, Pop, Add, Take, Enqueue, Dequeue}
 use Rattle.operation_spec.specs.declared.Spares.{Spares}
 use Rattle.operation_spec.specs.Method.{toOp, programFor, aheadFor, wantedIn, outcomeIn}
-use Rattle.operation_spec.specs.Resume.{resume, wantedOf, outcomeOf}
+use Rattle.operations.specs.Resume.{resume, wantedOf, outcomeOf}
 use Rattle.operations.specs.ResumeLaws.{wanted-after, outcome-after}
 use Rattle.node_rows.specs.Held.{Held, heldIn, nodesOf}
 use Rattle.node_rows.specs.HeldLaws.{row-places}

@@ -12,9 +12,10 @@ use borrow.Author.Tests.{eqb-true}
 use Rattle.list_spec.specs.Choice.{pick}
 use Rattle.list_laws.specs.ChoiceLaws.{pick-both, pick-neither}
 use Rattle.method_spec.specs.Node.{Link, Node, Ahead, child, withChild, heightOf, absent, linkOne}
-use Rattle.method_spec.specs.Prog.{Want, Prog, done, want, bind, after}
+use Rattle.method_spec.specs.Prog.{Want, Prog, done, want, bind, after, start}
 use Rattle.method_spec.specs.Answer as method
-use Rattle.method_spec.specs.Map.{Outcome, Step, Sub, stub, top, Built, Spot, gap, hit, Lowest, linkOf, topOf, kid, seat, start, stepAt, beside, below, walk, tall, rotate, single, double, opened, turn, placed, rest, nearOn, othersOf, raise, climb, getStep, getProg, putStep, putProg, lowest, swapped, takeOut, removeStep, removeProg, mapTest}
+use Rattle.method_spec.specs.Outcome.{Outcome}
+use Rattle.method_spec.specs.Map.{Step, Sub, stub, top, Built, Spot, gap, hit, Lowest, linkOf, topOf, kid, seat, stepAt, beside, below, walk, tall, leansOut, rotate, single, double, opened, turn, placed, rest, nearOn, othersOf, raise, climb, getStep, getProg, putStep, putProg, lowest, swapped, takeOut, removeStep, removeProg, mapTest}
 use Rattle.method_spec.specs.Stack.{pushProg, popProg, stackTest}
 use Rattle.method_spec.specs.Heap.{Pass, Reached, lower, wayTo, beneath, descend, addProg, downward, childOf, smaller, above, sunk, sink, replaceRoot, takeProg, heapTest}
 use Rattle.method_spec.specs.Queue.{enqueueProg, dequeueProg, queueTest}
@@ -104,7 +105,7 @@ module _ {T : Type 0} (most : ℕ) where
   low-turn p s n near others h k =
       low-bind _
       (asks-more
-      (λ c o. low-pick (leb (child (not s) c .height) (child s c .height)) (ends-low (open-single s n c near others o))
+      (λ c o. low-pick (leansOut s c) (ends-low (open-single s n c near others o))
       (low-bind _
       (asks-more (λ g u. ends-low (open-double s n c g (kid s near) others))
       (open-kid (below (stepAt (beside p s (child s n)) c (not s))) (kid (not s) near) (o (not s))))))

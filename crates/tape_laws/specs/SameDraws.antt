@@ -6,7 +6,7 @@ use Rattle.method_spec.specs.Node.{Ahead}
 use Rattle.method_spec.specs.Prog.{Prog, done, want}
 use Rattle.method_spec.specs.Answer.{Structure, Op}
 use Rattle.method_spec.specs.Rounds.{spare, putDraw}
-use Rattle.method_spec.specs.Map.{Outcome}
+use Rattle.method_spec.specs.Outcome.{Outcome}
 use Rattle.method_spec.specs.Call.{capacity, spareTags}
 use Rattle.run_laws.specs.Calls.{AgreeOn, program-agrees, ahead-agrees}
 use Rattle.bucket_call_spec.specs.Fetch.{Going, Round, on, shut, idleRound, fetchRound, fetchRounds}

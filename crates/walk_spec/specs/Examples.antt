@@ -12,7 +12,7 @@ use Rattle.slot_spec.specs.Tree.{halvings, among}
 use Rattle.slot_spec.specs.Slot.{fieldsIn, fieldsOf, nodeOf, encode, allZero, bad, readSlot, filled, wellFormed}
 use Rattle.round_spec.specs.Round.{withBucket, noneTwice, allGood, readBucket, readBuckets, insert, join, takeFirst, tagged, granted, joined, grantedFrom, readHalf, choose, evict}
 use Rattle.method_spec.specs.Prog.{bind}
-use Rattle.method_spec.specs.Map.{walk, single, double, turn, raise, climb, unwind, unwound, getStep, getProg, putStep, putProg, lowest, takeOut, removeStep, removeProg, between, mapTest}
+use Rattle.method_spec.specs.Map.{walk, balanceOf, single, double, turn, raise, climb, unwind, unwound, getStep, getProg, putStep, putProg, lowest, takeOut, removeStep, removeProg, between, mapTest}
 use Rattle.method_spec.specs.Stack.{pushProg, popProg, stackTest}
 use Rattle.method_spec.specs.Heap.{turnsTo, descend, settled, rise, topmost, addProg, downward, childOf, sink, replaceRoot, takeProg, heapTest}
 use Rattle.method_spec.specs.Queue.{enqueueProg, enqueueAhead, dequeueProg, dequeueAhead, queueTest}
@@ -23,7 +23,7 @@ use Rattle.bucket_call_spec.specs.Fetch.{movedLink, movedNode, closing, atClose
 use Rattle.bucket_call_spec.specs.Call.{putRounds, afterPuts, afterFetches, bucketCall}
 use Rattle.call_spec.specs.declared.Reply.the-variants.{Answered, Refused}
 use Rattle.list_spec.specs.Ascending.{ascendingFrom, ascending}
-use Rattle.state_spec.specs.Fit.{allOf, rootGood, aheadGood, fits, placesFrom}
+use Rattle.state_spec.specs.Fit.{allOf, rootGood, aheadGood, fits, headFits, placesFrom}
 use Rattle.state_spec.specs.Ticket.{opIn, uses, strayFields}
 use Rattle.state_spec.specs.Opening.{opened}
 use Rattle.call_spec.specs.Store.{called, checks, firstMet, decided, replied, replyOf}
@@ -94,7 +94,7 @@ pub record Outputs : Type 0 where
   pub no-byte : walked [] ≡ ascii "short\n"
 
 outputs-worked : Outputs
-unfolding leading decimal numbers lineOf numbersIn arrivedOf callLines walked opened called checks firstMet decided replied replyOf fits allOf ascendingFrom ascending rootGood placesFrom opIn uses strayFields rounds spare greatest tallest shaped least bucketCall afterFetches afterPuts putRounds fetchRounds fetchRound wantRound tookRound idleRound atClose closing movedLink movedNode withBucket noneTwice allGood readBucket readBuckets insert join takeFirst tagged granted joined grantedFrom readHalf choose evict halvings among filled encode fieldsOf pack bytes readSlot bad fieldsIn nodeOf fields value allZero wellFormed readLeaf program test walk single double turn raise climb unwind unwound getStep getProg putStep putProg lowest takeOut removeStep removeProg between mapTest pushProg popProg stackTest turnsTo descend settled rise topmost addProg downward childOf sink replaceRoot takeProg heapTest enqueueProg enqueueAhead dequeueProg dequeueAhead queueTest aheadAfter aheadGood bind
+unfolding leading decimal numbers lineOf numbersIn arrivedOf callLines walked opened called checks firstMet decided replied replyOf fits headFits allOf ascendingFrom ascending rootGood placesFrom opIn uses strayFields rounds spare greatest tallest shaped least bucketCall afterFetches afterPuts putRounds fetchRounds fetchRound wantRound tookRound idleRound atClose closing movedLink movedNode withBucket noneTwice allGood readBucket readBuckets insert join takeFirst tagged granted joined grantedFrom readHalf choose evict halvings among filled encode fieldsOf pack bytes readSlot bad fieldsIn nodeOf fields value allZero wellFormed readLeaf program test walk single double turn raise climb unwind unwound getStep getProg putStep putProg lowest takeOut removeStep removeProg between mapTest pushProg popProg stackTest turnsTo descend settled rise topmost addProg downward childOf sink replaceRoot takeProg heapTest enqueueProg enqueueAhead dequeueProg dequeueAhead queueTest aheadAfter aheadGood bind balanceOf
 outputs-worked =
     record {
       document = refl;

@@ -5,7 +5,7 @@ use Prim.Native.Nat.{ℕ, zero, suc, _+_}
 use native.Mathlib.Nat.{add-zero, add-suc, suc-add, zero-add}
 use Rattle.method_spec.specs.Prog.{Prog}
 use Rattle.method_spec.specs.Answer.{Structure}
-use Rattle.method_spec.specs.Map.{Outcome}
+use Rattle.method_spec.specs.Outcome.{Outcome}
 use Rattle.bucket_call_spec.specs.Fetch.{Going, Round, on, shut, fetchRound, fetchRounds}
 
 -- ---- fetch rounds

@@ -6,7 +6,7 @@ use Prim.Native.Nat.{ℕ, max, _+_, _-_, _*_, _≤_}
 use lib.ListN.{length, take, drop}
 use Rattle.method_spec.specs.Prog.{Prog, after}
 use Rattle.method_spec.specs.Answer.{Structure}
-use Rattle.method_spec.specs.Map.{Outcome}
+use Rattle.method_spec.specs.Outcome.{Outcome}
 use Rattle.method_spec.specs.Rounds.{rounds, putDraw}
 use Rattle.method_spec.specs.Call.{capacity}
 use Rattle.bucket_call_spec.specs.Fetch as fetch

@@ -19,7 +19,7 @@ use Rattle.method_spec.specs.Node.{Node, retag}
 use Rattle.method_spec.specs.Prog.{From, Want, Prog, done, want, after}
 use Rattle.method_spec.specs.Answer as answer
 use Rattle.method_spec.specs.Answer.{Structure}
-use Rattle.method_spec.specs.Map.{Outcome}
+use Rattle.method_spec.specs.Outcome.{Outcome}
 use Rattle.method_spec.specs.Rounds.{rounds, spare}
 use Rattle.method_spec.specs.Call.{capacity, program, spareTags, test}
 use Rattle.run_laws.specs.Calls.{AgreeOn, program-agrees, ahead-agrees}
@@ -38,8 +38,8 @@ use Rattle.want_rounds.specs.Splits.{goesOn, fetches-none, fetches-next,
 use Rattle.idle_rounds.specs.Idle.{Between, keysHeld}
 use Rattle.idle_rounds.specs.IdleLaws.{put-none, put-goes, put-shuts, goes-on, stops-here, between-ready}
 use Rattle.want_rounds.specs.declared.Job.{Job}
-use Rattle.bucket_call_spec.specs.Peak.{roundsFrom, peakOf}
-use Rattle.peak_laws.specs.PeakLaws.{peakAt, wanting-round, peak-goes, peak-shuts}
+use Rattle.bucket_call_spec.specs.Peak.{roundsFrom, peakOf, peakAt}
+use Rattle.peak_laws.specs.PeakLaws.{wanting-round, peak-goes, peak-shuts}
 use Rattle.want_rounds.specs.Wanting.{heldBy, structureIn, programOf, storeAt, fetched, listedFrom, listedBy, Begins, Walked, Fetches}
 use Rattle.operation_spec.specs.declared.Want as code
 use Rattle.slot_spec.specs.declared.Node as node

@@ -14,7 +14,7 @@ use Rattle.slot_spec.specs.Slot.{noLink, fieldsIn, fieldsOf, nodeOf, encode, al
 use Rattle.round_spec.specs.Round.{withBucket, noneTwice, allGood, readBucket, readBuckets, insert, join, takeFirst, tagged, granted, joined, grantedFrom, readHalf, choose, evict}
 use Rattle.method_spec.specs.Prog.{bind}
 use Rattle.method_spec.specs.Answer.{stack, Op, push, pop}
-use Rattle.method_spec.specs.Map.{walk, single, double, turn, raise, climb, unwind, unwound, getStep, getProg, putStep, putProg, lowest, takeOut, removeStep, removeProg, between, mapTest}
+use Rattle.method_spec.specs.Map.{walk, balanceOf, single, double, turn, raise, climb, unwind, unwound, getStep, getProg, putStep, putProg, lowest, takeOut, removeStep, removeProg, between, mapTest}
 use Rattle.method_spec.specs.Stack.{pushProg, popProg, stackTest}
 use Rattle.method_spec.specs.Queue.{enqueueProg, enqueueAhead, dequeueProg, dequeueAhead, queueTest}
 use Rattle.method_spec.specs.Call.{program, aheadAfter, test, run, call, emptyMemory, takeKey, fetches, drawsFrom, stepped, answered}
@@ -29,7 +29,7 @@ use Rattle.slot_spec.specs.declared.Reading.the-variants.{Full}
 use Rattle.state_spec.specs.declared.State.{State}
 use Rattle.call_spec.specs.declared.Reply.the-variants.{Answered, Refused}
 use Rattle.list_spec.specs.Ascending.{ascendingFrom, ascending}
-use Rattle.state_spec.specs.Fit.{allOf, rootGood, aheadGood, fits, placesFrom}
+use Rattle.state_spec.specs.Fit.{allOf, rootGood, aheadGood, fits, headFits, placesFrom}
 use Rattle.state_spec.specs.Ticket.{opIn, uses, strayFields}
 use Rattle.state_spec.specs.Opening.{opened}
 use Rattle.call_spec.specs.Store.{Ended, called, checks, firstMet, decided, replied, replyOf}
@@ -50,7 +50,7 @@ callOn room s tree c = called s tree (ticketOf c) (c .tape) (replicate room 0)
 
 -- The calls of a list in order, each on what the last one left: the last one's outcome.
 unfoldable pub lastOf : ℕ → State → List ℕ → Ticketed → List Ticketed → Ended
-unfolding opened called checks firstMet decided replied replyOf fits allOf ascendingFrom ascending rootGood aheadGood placesFrom opIn uses strayFields rounds spare greatest tallest shaped least bucketCall afterFetches afterPuts putRounds fetchRounds fetchRound wantRound tookRound idleRound atClose closing movedLink movedNode withBucket noneTwice allGood readBucket readBuckets insert join takeFirst tagged granted joined grantedFrom readHalf choose evict halvings among filled encode fieldsOf pack bytes readSlot bad fieldsIn nodeOf fields value allZero wellFormed readLeaf program aheadAfter test walk single double turn raise climb unwind unwound getStep getProg putStep putProg lowest takeOut removeStep removeProg between mapTest pushProg popProg stackTest enqueueProg enqueueAhead dequeueProg dequeueAhead queueTest bind
+unfolding opened called checks firstMet decided replied replyOf fits headFits allOf ascendingFrom ascending rootGood aheadGood placesFrom opIn uses strayFields rounds spare greatest tallest shaped least bucketCall afterFetches afterPuts putRounds fetchRounds fetchRound wantRound tookRound idleRound atClose closing movedLink movedNode withBucket noneTwice allGood readBucket readBuckets insert join takeFirst tagged granted joined grantedFrom readHalf choose evict halvings among filled encode fieldsOf pack bytes readSlot bad fieldsIn nodeOf fields value allZero wellFormed readLeaf program aheadAfter test walk single double turn raise climb unwind unwound getStep getProg putStep putProg lowest takeOut removeStep removeProg between mapTest pushProg popProg stackTest enqueueProg enqueueAhead dequeueProg dequeueAhead queueTest bind balanceOf
 lastOf room s tree c [] = callOn room s tree c
 lastOf room s tree c (d ∷ cs) =
     lastOf room (callOn room s tree c .state) (callOn room s tree c .tree) d cs

@@ -6,11 +6,9 @@ use lib.ListN.{length, length-map}
 use borrow.Author.Tests.{not-true, not-false}
 use borrow.Author.Needs.{needs}
 use native.Mathlib.Omega.{arith}
-use Rattle.state_spec.specs.Fit.{placesFit}
-use Rattle.state_spec.specs.Head.{headFits}
+use Rattle.state_spec.specs.Fit.{placesFit, headFits}
 use Rattle.call_spec.specs.declared.Reply.the-variants.{Refused}
-use Rattle.call_spec.specs.Store.{called}
-use Rattle.call.specs.Run.{endedAs}
+use Rattle.call_spec.specs.Store.{called, callEndedAs}
 use Rattle.state_laws.specs.FitLaws.{head-true}
 use Rattle.stash.specs.LoadLaws.{LookedAt, looked-none, used-unfit, unused-unfit, used-more, unused-more, looked-all}
 use Rattle.stash.specs.SaveLaws.{savedTo, saved-more, saved-all}
@@ -68,7 +66,7 @@ sized c = sym (length-map (c .args .t1 .places) _) ∙ (c .good .0 .1 .1 .1 .1 .
 
 -- A place does not fit: refused.
 unfit : (c : tie.Else1 Inv-loop μ-loop Inv-loop2 μ-loop2 Inv-loop3 μ-loop3) → placesFit (c .before .before .before .before .before .before .before .before .args .t1) ≡ false
-    → (let a = c .before .before .before .before .before .before .before .before .args in endedAs (record { state = a .t1; reply = Refused 2; leaves = 0; peak = 0 }) (a .tree .now) (a .trace .now) ≡ called (a .t1) (a .tree .now) (a .ticket .now) (a .tape .now) (a .trace .now))
+    → (let a = c .before .before .before .before .before .before .before .before .args in callEndedAs (record { state = a .t1; reply = Refused 2; leaves = 0; peak = 0 }) (a .tree .now) (a .trace .now) ≡ called (a .t1) (a .tree .now) (a .ticket .now) (a .tape .now) (a .trace .now))
 unfit c e =
     let a = c .before .before .before .before .before .before .before .before .args in
     refuses (a .t1) (a .tree .now) (a .ticket .now) (a .tape .now) (a .trace .now) refl (refused-2 (a .t1) (a .tree .now) (a .ticket .now) (a .tape .now) (a .trace .now) (unmarked c) (fit-by-places (a .t1) (fit-head c) e))

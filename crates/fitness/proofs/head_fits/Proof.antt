@@ -3,8 +3,7 @@ use mathlib.Core.Path.{_≡_, sym, _∙_}
 use mathlib.Core.Bool.{true}
 use Prim.Native.Nat.{_-_, _^_, _≤_, _<_}
 use borrow.Author.Tests.{lt-leb, le-leb, not-true, not-false}
-use Rattle.state_spec.specs.Fit.{inRange, largestStructure, largestSize}
-use Rattle.state_spec.specs.Head.{headFits}
+use Rattle.state_spec.specs.Fit.{inRange, largestStructure, largestSize, headFits}
 use Rattle.state_laws.specs.FitLaws.{in-range-true}
 use native.Mathlib.Omega.{arith}
 use borrow.Author.Needs.{needs}

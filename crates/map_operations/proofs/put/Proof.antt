@@ -4,7 +4,8 @@ use native.Mathlib.Omega.{arith}
 use native.Mathlib.Numerals.{add-one}
 use borrow.Author.Needs.{needs}
 use Rattle.method_spec.specs.Prog.{Prog}
-use Rattle.method_spec.specs.Map.{Outcome, Spot, putStep}
+use Rattle.method_spec.specs.Outcome.{Outcome}
+use Rattle.method_spec.specs.Map.{Spot, putStep}
 use Rattle.leaf_spec.specs.Convert.{toLink}
 use Rattle.operation_spec.specs.Method.{toWant}
 use Rattle.map_operations.specs.BottomLaws.{put-is, put-new, put-gap-full, put-replaced, starts-missing, starts-gap, starts-hit, hit-within, hit-low}

@@ -1,6 +1,6 @@
 use mathlib.Core.Path.{sym, _∙_}
 use Rattle.method_spec.specs.Heap.{wayTo}
-use Rattle.method_spec.specs.Map.{start}
+use Rattle.method_spec.specs.Prog.{start}
 use Rattle.leaf_spec.specs.Convert.{toLink}
 use Rattle.node_rows.specs.Held.{heldIn}
 use Rattle.heap_descent.specs.WayLaws.{want-first, want-next}

@@ -2,8 +2,8 @@ use mathlib.Core.Path.{subst, sym, _∙_, ap}
 use Prim.Native.Nat.{ℕ, _≤_, _<_}
 use native.Mathlib.Omega.{arith}
 use borrow.Author.Needs.{needs}
-use Rattle.method_spec.specs.Prog.{Want}
-use Rattle.method_spec.specs.Map.{start, below}
+use Rattle.method_spec.specs.Prog.{Want, start}
+use Rattle.method_spec.specs.Map.{below}
 use Rattle.operation_spec.specs.Method.{toWant}
 use Rattle.node_rows.specs.Held.{heldIn}
 use Rattle.map_descent.specs.Walk.{Descending}

@@ -10,7 +10,7 @@ use Rattle.method_spec.specs.Node.{Link, Ahead, Node, retag}
 use Rattle.method_spec.specs.Prog.{From, root, side, Want, Prog, done, want}
 use Rattle.method_spec.specs.Answer.{Structure, Answer}
 use Rattle.method_spec.specs.Call.{test}
-use Rattle.round_spec.specs.Round.{Wish, join, readHalf, writeHalf, overflows}
+use Rattle.round_spec.specs.Round.{Wish, join, readHalf, writeHalf, exceedsLimit}
 use Rattle.leaf_spec.specs.Leaf.{leafFormat}
 
 -- A node that the call holds, as it was fetched under its new tag, and where the link to it stood.
@@ -93,7 +93,7 @@ abbrev pub total : Going → ℕ
 total g = length (g .waiting) + length (g .held)
 
 abbrev pub tooMany : Going → Bool
-tooMany g = overflows (length (g .waiting)) (length (g .held))
+tooMany g = exceedsLimit (length (g .waiting)) (length (g .held))
 
 abbrev pub heldKeys : Going → List ℕ
 heldKeys g = map (λ (h : Held). h .node .key) (g .held)

@@ -11,7 +11,7 @@ use Rattle.method_spec.specs.Answer.{Structure, queue, Op}
 use Rattle.method_spec.specs.Rounds.{rounds, spare}
 use Rattle.state_spec.specs.declared.State.{State}
 use Rattle.state_spec.specs.Fit.{allOf, rootGood, aheadGood, fits, headFits, placesFrom, places, noPlace}
-use Rattle.state_spec.specs.Ticket.{opIn, uses, strayFields, lastKey}
+use Rattle.state_spec.specs.Ticket.{opIn, fieldsUsed, strayFields, lastKey}
 use Rattle.call_spec.specs.Store.{Check, checks, firstMet}
 
 -- Of every call.
@@ -57,7 +57,7 @@ pub record Firsts : Type 0 where
   pub passes : first (keysGone 0 0) tree (ticket 9 0 0) (replicate 4 0) (0 ∷ 0 ∷ []) ≡ none
 
 firsts : Firsts
-unfolding checks firstMet fits headFits allOf ascendingFrom ascending rootGood aheadGood placesFrom opIn uses strayFields rounds spare value bytes
+unfolding checks firstMet fits headFits allOf ascendingFrom ascending rootGood aheadGood placesFrom opIn fieldsUsed strayFields rounds spare value bytes
 firsts =
     record {
       closed = refl;

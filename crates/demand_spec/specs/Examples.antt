@@ -22,7 +22,7 @@ use Rattle.bucket_call_spec.specs.Fetch.{movedLink, movedNode, closing, atClose
 use Rattle.bucket_call_spec.specs.Call.{putRounds, afterPuts, afterFetches, bucketCall}
 use Rattle.list_spec.specs.Ascending.{ascendingFrom, ascending}
 use Rattle.state_spec.specs.Fit.{allOf, rootGood, aheadGood, fits, headFits, placesFrom}
-use Rattle.state_spec.specs.Ticket.{opIn, uses, strayFields}
+use Rattle.state_spec.specs.Ticket.{opIn, fieldsUsed, strayFields}
 use Rattle.state_spec.specs.Opening.{opened}
 use Rattle.call_spec.specs.Store.{called, checks, firstMet, decided, refusing, replied, replyOf}
 use Rattle.demand_spec.specs.History.{Brought, Kept, callOn, leftBy, untilClosed, early, counted}
@@ -114,5 +114,5 @@ pub record Worked : Type 0 where
   pub strays-do-not-count : counted keysGone (inKeyed ∷ popKeyed ∷ outNext ∷ []) ≡ outNext ∷ []
 
 pub worked : Worked
-unfolding untilClosed opened called checks firstMet decided replied replyOf fits headFits allOf ascendingFrom ascending rootGood aheadGood placesFrom opIn uses strayFields rounds spare greatest tallest shaped least bucketCall afterFetches afterPuts putRounds fetchRounds fetchRound wantRound tookRound idleRound atClose closing movedLink movedNode withBucket noneTwice allGood readBucket readBuckets insert join takeFirst tagged granted joined grantedFrom readHalf choose evict halvings among filled encode fieldsOf pack bytes readSlot bad fieldsIn nodeOf fields value allZero wellFormed readLeaf program aheadAfter test pushProg popProg stackTest enqueueProg enqueueAhead dequeueProg dequeueAhead queueTest early counted bind
+unfolding untilClosed opened called checks firstMet decided replied replyOf fits headFits allOf ascendingFrom ascending rootGood aheadGood placesFrom opIn fieldsUsed strayFields rounds spare greatest tallest shaped least bucketCall afterFetches afterPuts putRounds fetchRounds fetchRound wantRound tookRound idleRound atClose closing movedLink movedNode withBucket noneTwice allGood readBucket readBuckets insert join takeFirst tagged granted joined grantedFrom readHalf choose evict halvings among filled encode fieldsOf pack bytes readSlot bad fieldsIn nodeOf fields value allZero wellFormed readLeaf program aheadAfter test pushProg popProg stackTest enqueueProg enqueueAhead dequeueProg dequeueAhead queueTest early counted bind
 worked = record { all-of-them = refl; first-alone = refl; meets-damage = refl; closed-before = refl; no-key = refl; short-tape = refl; one-counts = refl; stray-key = refl; foreign-kind = refl; strays-do-not-count = refl }

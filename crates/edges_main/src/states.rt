@@ -9,9 +9,12 @@ use slot_spec::Node;
 use state_places::no_place;
 use state_spec::Place;
 use state_spec::State;
+ghost use mathlib.Core.Path.{_≡_};
 
 // A link under tag 0.
-pub fn link(height: u8, key: u32) -> Link {
+pub fn link(height: u8, key: u32) -> Link
+    ensures { λ r. ⌜ r ≡ record { height = height; key = key; tag = 0 } ⌝ }
+{
     Link {
         height,
         key,
@@ -19,7 +22,9 @@ pub fn link(height: u8, key: u32) -> Link {
     }
 }
 
-pub fn node(key: u32, tag: u16, left: Link, right: Link) -> Node {
+pub fn node(key: u32, tag: u16, left: Link, right: Link) -> Node
+    ensures { λ r. ⌜ r ≡ record { key = key; value = 0; tag = tag; left = left; right = right } ⌝ }
+{
     Node {
         key,
         value: 0,

@@ -2,9 +2,11 @@
 use libc::PATH_MAX;
 use libc::types::stat;
 use libc::types::timespec;
+ghost use mathlib.Core.Path.{_≡_};
 ghost use Prim.Native.Nat.{_<_};
 ghost use lib.ListN.{length};
 ghost use Rattle.libc.specs.Io.{Ended};
+ghost use Rattle.file_facts.specs.Modes.{there, regular, sameFile, permissionBits};
 
 // The file's device and its number there; its kind and its permissions. The mode 0 says that there is no file: none has it.
 pub struct Facts {
@@ -72,18 +74,35 @@ pub fn facts_of(name: &[u8]) -> Facts
     }
 }
 
-pub fn is_there(facts: Facts) -> bool {
+pub fn is_there(facts: Facts) -> bool
+    ensures { λ r. ⌜ r ≡ there facts ⌝ }
+{
     facts.mode != 0
 }
 
-pub fn is_regular(facts: Facts) -> bool {
-    facts.mode & 0o170000 == 0o100000
+pub fn is_regular(facts: Facts) -> bool
+    ensures { λ r. ⌜ r ≡ regular facts ⌝ }
+{
+    facts.mode / 4096 % 16 == 8
 }
 
-pub fn are_same(a: Facts, b: Facts) -> bool {
-    is_there(a) && is_there(b) && a.device == b.device && a.number == b.number
+pub fn are_same(a: Facts, b: Facts) -> bool
+    ensures { λ r. ⌜ r ≡ sameFile a b ⌝ }
+{
+    if !is_there(a) {
+        return false;
+    }
+    if !is_there(b) {
+        return false;
+    }
+    if a.device != b.device {
+        return false;
+    }
+    a.number == b.number
 }
 
-pub fn permissions(facts: Facts) -> u32 {
-    facts.mode & 0o777
+pub fn permissions(facts: Facts) -> u32
+    ensures { λ r. ⌜ r ≡ permissionBits facts ⌝ }
+{
+    facts.mode % 512
 }

@@ -10,7 +10,7 @@ use Rattle.list_spec.specs.Choice.{pick}
 use Rattle.method_spec.specs.Node.{Node}
 use Rattle.method_spec.specs.Prog.{done}
 use Rattle.method_spec.specs.Outcome.{Outcome}
-use Rattle.round_spec.specs.Round.{Hand, readHalf, overflows}
+use Rattle.round_spec.specs.Round.{Hand, readHalf, exceedsLimit}
 use Rattle.round_spec.specs.Whole.{IsTree}
 use Rattle.round_laws.specs.NothingLost.{write-is-tree}
 use Rattle.leaf_spec.specs.Leaf.{leafFormat, ProperLeaf}
@@ -41,7 +41,7 @@ module _ (k : ℕ) {a b : Node ℕ} (same-key : b .key ≡ a .key) (same-tag : b
   unfolding atClose
   close-near g h near =
       subst (λ (many : Bool). NearRounds k a b o q (pick (tooMany g) (shut 9 g) (on g (done o))) (pick many (shut 9 h) (on h (done q))))
-      (ap₂ overflows (apart-length (near .apart)) (ap length (sym (near .held)))) (go (tooMany g))
+      (ap₂ exceedsLimit (apart-length (near .apart)) (ap length (sym (near .held)))) (go (tooMany g))
     where
       go : (many : Bool) → NearRounds k a b o q (pick many (shut 9 g) (on g (done o))) (pick many (shut 9 h) (on h (done q)))
       go true = near-shut 9 g h (inr refl) near

@@ -23,7 +23,7 @@ use Rattle.bucket_call_spec.specs.Call.{putRounds, afterPuts, afterFetches, buc
 use Rattle.bucket_call_spec.specs.Peak.{thenRounds, roundsFrom, countsOf, putsAfter}
 use Rattle.operation_spec.specs.declared.Answer.the-variants.{Found, Absent}
 use Rattle.state_spec.specs.Fit.{allOf, rootGood, aheadGood, fits, headFits, placesFrom}
-use Rattle.state_spec.specs.Ticket.{opIn, uses, strayFields}
+use Rattle.state_spec.specs.Ticket.{opIn, fieldsUsed, strayFields}
 use Rattle.state_spec.specs.Opening.{opened}
 use Rattle.call_spec.specs.declared.Reply.the-variants.{Answered, Refused}
 use Rattle.call_spec.specs.Store.{called, checks, firstMet, decided, replied, replyOf}
@@ -118,7 +118,7 @@ pub record Calls : Type 0 where
   pub foreign-fields : hostCalled freshBytes (replicate 896 0) (9 ∷ replicate 12 7) tape trace result ≡ hostLeaving 5 freshBytes (replicate 896 0) trace result
 
 calls-worked : Calls
-unfolding hostCalled lengthsGood fitBytes stateIn headIn placesIn placeIn slotsSound stateBytes headBytes placesBytes numbersIn numbersBytes resultBytes called checks firstMet decided replied replyOf fits headFits allOf ascendingFrom ascending rootGood aheadGood placesFrom opIn uses strayFields rounds spare greatest tallest shaped least bucketCall afterFetches afterPuts putRounds fetchRounds fetchRound wantRound tookRound idleRound atClose closing countAtClose thenRounds roundsFrom countsOf putsAfter largest movedLink movedNode withBucket noneTwice allGood readBucket readBuckets insert join takeFirst tagged granted joined grantedFrom readHalf choose evict halvings among filled encode fieldsOf pack bytes readSlot bad fieldsIn nodeOf fields value allZero wellFormed readLeaf program aheadAfter test pushProg popProg stackTest
+unfolding hostCalled lengthsGood fitBytes stateIn headIn placesIn placeIn slotsSound stateBytes headBytes placesBytes numbersIn numbersBytes resultBytes called checks firstMet decided replied replyOf fits headFits allOf ascendingFrom ascending rootGood aheadGood placesFrom opIn fieldsUsed strayFields rounds spare greatest tallest shaped least bucketCall afterFetches afterPuts putRounds fetchRounds fetchRound wantRound tookRound idleRound atClose closing countAtClose thenRounds roundsFrom countsOf putsAfter largest movedLink movedNode withBucket noneTwice allGood readBucket readBuckets insert join takeFirst tagged granted joined grantedFrom readHalf choose evict halvings among filled encode fieldsOf pack bytes readSlot bad fieldsIn nodeOf fields value allZero wellFormed readLeaf program aheadAfter test pushProg popProg stackTest
 calls-worked = record { push = refl; pop = refl; odd-tape = refl; closed = refl; stray-byte = refl; foreign-kind = refl; stray-value = refl; stray-key = refl; foreign-fields = refl }
 
 -- ---- reading out: a state of another length, and an open store.

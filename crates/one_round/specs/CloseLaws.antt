@@ -15,7 +15,7 @@ use Rattle.method_spec.specs.Node.{Node}
 use Rattle.method_spec.specs.Prog.{Prog}
 use Rattle.method_spec.specs.Outcome.{Outcome}
 use Rattle.round_spec.specs.Round as round
-use Rattle.round_spec.specs.Round.{Written, keysOf, noneTwice, writeHalf, overflows}
+use Rattle.round_spec.specs.Round.{Written, keysOf, noneTwice, writeHalf, exceedsLimit}
 use Rattle.round_spec.specs.Nodes.{wordsFormat}
 use Rattle.round_laws.specs.Same.{mapWritten}
 use Rattle.round_spec.specs.Whole.{Ascending}
@@ -57,7 +57,7 @@ module _ {k leaf n : ℕ} {words scratch tree held after : List ℕ} (ready : Re
 
 -- A round's close as `close_of` gives it.
 abbrev pub closing : (waiting held : ℕ) → Close
-closing waiting held = record { count = waiting + held; mark = pick (overflows waiting held) 9 0 }
+closing waiting held = record { count = waiting + held; mark = pick (exceedsLimit waiting held) 9 0 }
 
 ended-at-close : (b : Bool) (g : Going) (p : Prog ℕ (Outcome ℕ)) → pick b (shut 9 g) (on g p) ≡ endedWith (pick b 9 0) g p
 ended-at-close true g p = refl
@@ -113,17 +113,17 @@ module _ {k leaf n : ℕ} {w : Option round.Wish} {words scratch tree held : Lis
       }
 
   -- How the round ends, whatever is held from then on.
-  pub settled-close : (hs hs′ : List Held) (ls : List ℕ) (p : Prog ℕ (Outcome ℕ)) (count mark : ℕ) → length hs′ ≡ count → mark ≡ pick (overflows left count) 9 0
+  pub settled-close : (hs hs′ : List Held) (ls : List ℕ) (p : Prog ℕ (Outcome ℕ)) (count mark : ℕ) → length hs′ ≡ count → mark ≡ pick (exceedsLimit left count) 9 0
       → atClose (written k leaf (i .hand .waiting) hs′ (going n words tree hs ls)) p ≡ endedWith mark (going left words′ tree′ hs′ (ls ++ (leaf ∷ []))) p
   unfolding atClose
   settled-close hs hs′ ls p count mark sized marked =
       let g : Going = going left words′ tree′ hs′ (ls ++ (leaf ∷ [])) in
       let same : written k leaf (i .hand .waiting) hs′ (going n words tree hs ls) ≡ g =
       ap₂ (λ (t : List ℕ) (ns : List (Node ℕ)). record { tree = t; waiting = ns; held = hs′; leaves = ls ++ (leaf ∷ []) }) settled-tree (sym settled-waiting) in
-      let many : tooMany g ≡ overflows left count = ap₂ overflows (ap length settled-waiting ∙ settled-count) sized in
+      let many : tooMany g ≡ exceedsLimit left count = ap₂ exceedsLimit (ap length settled-waiting ∙ settled-count) sized in
       ap (λ (x : Going). atClose x p) same
       ∙ ap (λ (b : Bool). pick b (shut 9 g) (on g p)) many
-      ∙ ended-at-close (overflows left count) g p
+      ∙ ended-at-close (exceedsLimit left count) g p
       ∙ ap (λ (x : ℕ). endedWith x g p) (sym marked)
 
   -- What it counts then.

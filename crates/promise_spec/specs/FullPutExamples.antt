@@ -25,7 +25,7 @@ use Rattle.balance_spec.specs.Shape.{shaped}
 use Rattle.balance_spec.specs.Greatest.{tallest, greatest}
 use Rattle.list_spec.specs.Ascending.{ascendingFrom, ascending}
 use Rattle.state_spec.specs.Fit.{allOf, rootGood, aheadGood, fits, headFits, placesFrom}
-use Rattle.state_spec.specs.Ticket.{opIn, uses, strayFields}
+use Rattle.state_spec.specs.Ticket.{opIn, fieldsUsed, strayFields}
 use Rattle.state_spec.specs.Opening.{opened}
 use Rattle.operation_spec.specs.declared.Answer.the-variants.{Replaced}
 use Rattle.call_spec.specs.declared.Reply.the-variants.{Answered, Refused}
@@ -148,7 +148,7 @@ abbrev putTicket : (key number : ℕ) → List ℕ
 putTicket key number = bytes 1 2 ++ (bytes 4 key ++ bytes 8 number)
 
 unfoldable filled-by-nine : Ended
-unfolding holdsNine opened called checks firstMet decided calledWith presentOnFull replied replyOf fits headFits allOf ascendingFrom ascending rootGood aheadGood placesFrom opIn uses strayFields rounds greatest tallest shaped least
+unfolding holdsNine opened called checks firstMet decided calledWith presentOnFull replied replyOf fits headFits allOf ascendingFrom ascending rootGood aheadGood placesFrom opIn fieldsUsed strayFields rounds greatest tallest shaped least
 filled-by-nine =
     called (opened 1 1 (replicate 384 7) .state) (opened 1 1 (replicate 384 7) .tree) (putTicket 9 1) (replicate 7 0) (replicate 6 5)
 

@@ -20,7 +20,7 @@ use Rattle.leaf_spec.specs.Leaf.{readLeaf}
 use Rattle.bucket_call_spec.specs.Fetch.{movedLink, movedNode, closing, atClose, idleRound, tookRound, wantRound, fetchRound, fetchRounds}
 use Rattle.bucket_call_spec.specs.Call.{putRounds, afterPuts, afterFetches, bucketCall}
 use Rattle.state_spec.specs.Fit.{allOf, rootGood, aheadGood, fits, headFits, placesFrom}
-use Rattle.state_spec.specs.Ticket.{opIn, uses, strayFields}
+use Rattle.state_spec.specs.Ticket.{opIn, fieldsUsed, strayFields}
 use Rattle.state_spec.specs.Opening.{opened}
 use Rattle.operation_spec.specs.declared.Answer.the-variants.{Popped}
 use Rattle.call_spec.specs.declared.Reply.the-variants.{Answered, Refused}
@@ -33,7 +33,7 @@ ticket kind key number = bytes 1 kind ++ (bytes 4 key ++ bytes 8 number)
 
 -- Where this unfolds, so does all that a call computes with.
 unfoldable holdsFifty : Ended
-unfolding opened called checks firstMet decided calledBeforeUnusedFields checkedBefore without replied replyOf fits headFits allOf ascendingFrom ascending rootGood aheadGood placesFrom opIn uses strayFields rounds spare greatest tallest shaped least bucketCall afterFetches afterPuts putRounds fetchRounds fetchRound wantRound tookRound idleRound atClose closing movedLink movedNode withBucket noneTwice allGood readBucket readBuckets insert join takeFirst tagged granted joined grantedFrom readHalf choose evict halvings among filled encode fieldsOf pack bytes readSlot bad fieldsIn nodeOf fields value allZero wellFormed readLeaf program aheadAfter test pushProg popProg stackTest bind
+unfolding opened called checks firstMet decided calledBeforeUnusedFields checkedBefore without replied replyOf fits headFits allOf ascendingFrom ascending rootGood aheadGood placesFrom opIn fieldsUsed strayFields rounds spare greatest tallest shaped least bucketCall afterFetches afterPuts putRounds fetchRounds fetchRound wantRound tookRound idleRound atClose closing movedLink movedNode withBucket noneTwice allGood readBucket readBuckets insert join takeFirst tagged granted joined grantedFrom readHalf choose evict halvings among filled encode fieldsOf pack bytes readSlot bad fieldsIn nodeOf fields value allZero wellFormed readLeaf program aheadAfter test pushProg popProg stackTest bind
 holdsFifty = called (opened 2 1 (replicate 384 7) .state) (opened 2 1 (replicate 384 7) .tree) (ticket 4 0 50) (replicate 3 0) (5 ∷ 5 ∷ [])
 
 abbrev now : List ℕ → Ended

@@ -141,5 +141,5 @@ module _ {E : Type 0} (F : Format E) where
 abbrev pub limit : ℕ
 limit = 64
 
-abbrev pub overflows : (waiting held : ℕ) → Bool
-overflows waiting held = ltb limit (waiting + held)
+abbrev pub exceedsLimit : (waiting held : ℕ) → Bool
+exceedsLimit waiting held = ltb limit (waiting + held)

@@ -9,7 +9,7 @@ use Rattle.balance_spec.specs.Shape.{shaped}
 use Rattle.method_spec.specs.Answer.{push, enqueue, dequeue}
 use Rattle.state_spec.specs.Fit.{rootGood, aheadGood}
 use Rattle.slot_spec.specs.LittleEndian.{value}
-use Rattle.state_spec.specs.Ticket.{outOfKeys, uses, strayFields}
+use Rattle.state_spec.specs.Ticket.{outOfKeys, fieldsUsed, strayFields}
 
 -- Two entries and next unused key 5: height 1 and key 3. Refused: another key, another height, no link. With next unused key 1 no key
 -- will do; key 4,294,967,295 is none, whatever a 32-bit sum makes of it. Without entries only the link that is all zero.
@@ -69,5 +69,5 @@ pub record Strays : Type 0 where
   pub unknown : map strayFields (full 0 ∷ full 10 ∷ full 255 ∷ []) ≡ false ∷ false ∷ false ∷ []
 
 strays-worked : Strays
-unfolding strayFields uses value
+unfolding strayFields fieldsUsed value
 strays-worked = record { a-key = refl; a-value = refl; a-key-and-value = refl; all-zero = refl; unknown = refl }

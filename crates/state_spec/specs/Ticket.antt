@@ -1,4 +1,4 @@
--- A ticket's 13 bytes: kind, key and value, what they ask of each structure, and which fields a kind uses.
+-- A ticket's 13 bytes: kind, key and value, what they ask of each structure, and which fields a kind fieldsUsed.
 use Prim.Native.Nat.{ℕ}
 use mathlib.Core.Bool.{Bool, true, false, not, _&&_, _||_}
 use mathlib.Core.List.{List, [], _∷_}
@@ -60,7 +60,7 @@ outOfKeys take-smallest next = false
 outOfKeys (enqueue value) next = eqb next lastKey
 outOfKeys dequeue next = false
 
--- ---- the fields that a kind uses
+-- ---- the fields that a kind fieldsUsed
 abbrev pub neither : Uses
 neither = record { key = false; value = false }
 
@@ -73,7 +73,7 @@ valueAlone = record { key = false; value = true }
 abbrev pub both : Uses
 both = record { key = true; value = true }
 
--- "Get and remove use the key; put uses both; push, add and in use the value; the others use none." By kind, from 0 on; what the fields of
+-- "Get and remove use the key; put fieldsUsed both; push, add and in use the value; the others use none." By kind, from 0 on; what the fields of
 -- an unknown kind are for is not known, so none of them counts as unused.
 abbrev pub usesTable : List Uses
 usesTable =
@@ -89,8 +89,8 @@ usesTable =
     ∷ neither  -- 9 out
     ∷ []
 
-unfoldable pub uses : (kind : ℕ) → Uses
-uses kind = getD usesTable kind both
+unfoldable pub fieldsUsed : (kind : ℕ) → Uses
+fieldsUsed kind = getD usesTable kind both
 
 -- A field that is not used and not zero.
 abbrev pub stray : (used : Bool) → (field : ℕ) → Bool
@@ -98,4 +98,4 @@ stray used field = not used && not (eqb field 0)
 
 -- "19 when an unused field is not zero"
 unfoldable pub strayFields : List ℕ → Bool
-strayFields t = stray (uses (kindIn t) .key) (keyIn t) || stray (uses (kindIn t) .value) (valueIn t)
+strayFields t = stray (fieldsUsed (kindIn t) .key) (keyIn t) || stray (fieldsUsed (kindIn t) .value) (valueIn t)

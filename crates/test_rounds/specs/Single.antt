@@ -10,7 +10,7 @@ use Rattle.slot_spec.specs.Tree.{treeLength}
 use Rattle.slot_spec.specs.Slot.{fieldsIn, slotBytes, nodeOf}
 use Rattle.slot_spec.specs.declared.Slot.{Slot}
 use Rattle.round_spec.specs.Round as round
-use Rattle.round_spec.specs.Round.{Hand, keysOf, insert, readHalf, writeHalf, overflows}
+use Rattle.round_spec.specs.Round.{Hand, keysOf, insert, readHalf, writeHalf, exceedsLimit}
 use Rattle.round_spec.specs.Nodes.{wordsFormat}
 use Rattle.word_round_laws.specs.Words.{wordCount, Leaves}
 use Rattle.slot_spec.specs.Row.{slotsOf}
@@ -35,7 +35,7 @@ unfoldable pub closing : (size leaf : ℕ) (waiting : List Slot) (tree : List �
 closing k t ws tree none = record { mark = 8; waiting = ws; tree = tree }
 closing k t ws tree (some h) =
     record {
-      mark = pick (overflows (length (writeHalf wordsFormat k t (h .waiting) tree .waiting)) (heldCount (h .taken))) 9 0;
+      mark = pick (exceedsLimit (length (writeHalf wordsFormat k t (h .waiting) tree .waiting)) (heldCount (h .taken))) 9 0;
       waiting = writeHalf wordsFormat k t (h .waiting) tree .waiting;
       tree = writeHalf wordsFormat k t (h .waiting) tree .tree;
     }

@@ -14,7 +14,7 @@ use Rattle.list_laws.specs.DistinctLaws.{all-nil}
 use Rattle.slot_spec.specs.Tree.{among, treeLength}
 use Rattle.slot_spec.specs.Slot.{fieldsIn, slotBytes, nodeOf}
 use Rattle.slot_spec.specs.declared.Slot.{Slot}
-use Rattle.round_spec.specs.Round.{Hand, Written, keysOf, noneTwice, insert, writeHalf, overflows}
+use Rattle.round_spec.specs.Round.{Hand, Written, keysOf, noneTwice, insert, writeHalf, exceedsLimit}
 use Rattle.round_spec.specs.Nodes.{wordsFormat}
 use Rattle.word_round_laws.specs.Words.{wordCount, Leaves}
 use Rattle.slot_spec.specs.Row.{slotsOf, zeroSlot}
@@ -82,7 +82,7 @@ closing-damage k t ws tree = refl
 closing-through : (k t : ℕ) (ws : List Slot) (tree : List ℕ) (h : Hand Slot)
     → closing k t ws tree (some h)
     ≡ record {
-      mark = pick (overflows (length (writeHalf wordsFormat k t (h .waiting) tree .waiting)) (heldCount (h .taken))) 9 0;
+      mark = pick (exceedsLimit (length (writeHalf wordsFormat k t (h .waiting) tree .waiting)) (heldCount (h .taken))) 9 0;
       waiting = writeHalf wordsFormat k t (h .waiting) tree .waiting;
       tree = writeHalf wordsFormat k t (h .waiting) tree .tree;
     }
@@ -97,7 +97,7 @@ in-hand : (taken : Bool) (x y : Slot) → pick taken (some x) none ≡ some y �
 in-hand true x y e = (refl, cc)
 in-hand false x y e = let z : _≡_ {A = ℕ} 0 1 = cc in absurd (omega arith)
 
-few-left : (left held mark : ℕ) → mark ≡ pick (overflows left held) 9 0 → (mark ≡ 9 → ⊥) → left + held ≤ 64
+few-left : (left held mark : ℕ) → mark ≡ pick (exceedsLimit left held) 9 0 → (mark ≡ 9 → ⊥) → left + held ≤ 64
 few-left left held mark e other = go (ltb 64 (left + held)) refl
   where
     go : (b : Bool) → ltb 64 (left + held) ≡ b → left + held ≤ 64
@@ -153,11 +153,11 @@ module _ {k n : ℕ} {words scratch tree after : List ℕ} (rest : Resting k n w
         (write-holds wordsFormat k leaf (hand .waiting) tree (λ (x : Slot). wordsFormat .tag x < 2 ^ k)
         (removed-leaves k taken (r .at) joint (looked .leaves good (rest .waits .leaves))))
 
-    pub round-close : (held mark : ℕ) → held ≡ pick taken 1 0 → mark ≡ pick (overflows left held) 9 0 → length tree′ ≡ length tree
+    pub round-close : (held mark : ℕ) → held ≡ pick taken 1 0 → mark ≡ pick (exceedsLimit left held) 9 0 → length tree′ ≡ length tree
         → Rounded k leaf wish n words tree words′ scratch′ tree′ (record { mark = mark; waiting = left; node = r .node })
     round-close held mark counted marked same =
-        let mark-is : pick (overflows (length (written .waiting)) (heldCount (hand .taken))) 9 0 ≡ mark =
-        ap₂ (λ (a b : ℕ). pick (overflows a b) 9 0) (sym (settled .counted)) (held-count taken (getD joint (r .at) zeroSlot) ∙ sym counted) ∙ sym marked in
+        let mark-is : pick (exceedsLimit (length (written .waiting)) (heldCount (hand .taken))) 9 0 ≡ mark =
+        ap₂ (λ (a b : ℕ). pick (exceedsLimit a b) 9 0) (sym (settled .counted)) (held-count taken (getD joint (r .at) zeroSlot) ∙ sym counted) ∙ sym marked in
         record {
           round =
               ap (closing k leaf ws tree) hand-read

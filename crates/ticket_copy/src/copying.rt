@@ -6,9 +6,10 @@ use tickets::TICKET_LENGTH;
 ghost use mathlib.Core.Path.{_≡_};
 ghost use Prim.Native.Nat.{_≤_};
 ghost use lib.ListN.{length};
+ghost use Rattle.ticket_copy_spec.specs.Copy.{fileCopy, changedIn};
 ghost use Rattle.io.specs.Counts.{Counts};
 ghost use Rattle.named_files.specs.Names.{longestName};
-ghost use Rattle.ticket_copy.specs.Pieces.{mostTickets, longestPiece};
+ghost use Rattle.ticket_copy.specs.Pieces.{longestPiece, Copies};
 
 const PIECE: usize = 4096 * TICKET_LENGTH;
 
@@ -21,10 +22,10 @@ struct Arrival {
     length: usize,
 }
 
-// How a piece was copied: whether it was, whether more may come, and how many tickets were changed.
+// How a piece was copied: whether it was, how many bytes came, and how many tickets were changed.
 struct Turn {
     done: bool,
-    more: bool,
+    came: usize,
     changed: u64,
 }
 
@@ -71,30 +72,28 @@ fn room() -> [u8; PIECE]
 // Copies a piece that came, by way of a room of its length, and writes the copy.
 fn write_copy(out: i32, piece: &[u8], copy: &mut [u8], new: &[u8]) -> Turn
     requires { ⌜ (length (now copy) ≡ length (now piece)) × (length (now piece) ≤ longestPiece) × (length (now new) ≤ longestName) ⌝ }
-    ensures { λ r. ⌜ r .changed ≤ mostTickets ⌝ }
+    ensures { λ r. ⌜ (now (copy .exit) ≡ fileCopy (now (piece .entry))) × (r .changed ≡ changedIn (now (piece .entry))) × (r .came ≡ length (now (piece .entry))) ⌝ }
 {
     let changed = copy_piece(piece, copy);
     let done = write(out, copy, b"ticket_copy: ", new);
     Turn {
         done,
-        more: piece.len() == PIECE,
+        came: piece.len(),
         changed: changed as u64,
     }
 }
 
-// Copies one piece.
-fn copy_some(fd: i32, out: i32, old: &[u8], new: &[u8]) -> Turn
-    requires { ⌜ (length (now old) ≤ longestName) × (length (now new) ≤ longestName) ⌝ }
-    ensures { λ r. ⌜ r .changed ≤ mostTickets ⌝ }
+// Copies one piece, by way of two rooms: what came stands in the first, its copy in the second.
+fn copy_some(fd: i32, out: i32, piece: &mut [u8], copy: &mut [u8], old: &[u8], new: &[u8]) -> Turn
+    requires { ⌜ (length (now piece) ≡ longestPiece) × (length (now copy) ≡ longestPiece) × (length (now old) ≤ longestName) × (length (now new) ≤ longestName) ⌝ }
+    ensures { λ r. ⌜ Copies (r .came) (r .changed) (now (piece .exit)) (now (copy .exit)) ⌝ }
 {
-    let mut piece = room();
-    let mut copy = room();
-    let arrived = read_piece(fd, &mut piece);
+    let arrived = read_piece(fd, piece);
     if arrived.failed {
         fail(b"ticket_copy: ", b"cannot read ", old);
         return Turn {
             done: false,
-            more: false,
+            came: 0,
             changed: 0,
         };
     }
@@ -102,15 +101,17 @@ fn copy_some(fd: i32, out: i32, old: &[u8], new: &[u8]) -> Turn
     write_copy(out, &piece[..length], &mut copy[..length], new)
 }
 
-// Copies the file. A proved loop has to end, and nothing says that a file does: the loop counts its turns down from a number that
-// no run uses up.
+// Copies the file. A piece that is not full is the last. A proved loop has to end, and nothing says that a file does: the loop counts
+// its turns down from a number that no run uses up.
 pub fn copy_all(fd: i32, out: i32, old: &[u8], new: &[u8]) -> Copied
     requires { ⌜ (length (now old) ≤ longestName) × (length (now new) ≤ longestName) ⌝ }
 {
+    let mut piece = room();
+    let mut copy = room();
     let mut changed: u64 = 0;
     let mut turns = MOST_TURNS;
     while turns > 0 {
-        let turn = copy_some(fd, out, old, new);
+        let turn = copy_some(fd, out, &mut piece, &mut copy, old, new);
         if !turn.done {
             return Copied {
                 whole: false,
@@ -118,7 +119,7 @@ pub fn copy_all(fd: i32, out: i32, old: &[u8], new: &[u8]) -> Copied
             };
         }
         changed += turn.changed;
-        if !turn.more {
+        if turn.came < PIECE {
             return Copied {
                 whole: true,
                 changed,

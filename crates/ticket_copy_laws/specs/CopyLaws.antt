@@ -12,7 +12,7 @@ use lib.Seq.{take-all, take-at, drop-at, drop-drop}
 use Rattle.list_spec.specs.Choice.{pick}
 use Rattle.slot_spec.specs.LittleEndian.{value}
 use Rattle.method_spec.specs.Answer.{Structure, map, stack, heap, queue}
-use Rattle.state_spec.specs.Ticket.{ticketLength, kindIn, keyField, valueField, keyIn, valueIn, opIn, both, usesTable, uses, stray, strayFields}
+use Rattle.state_spec.specs.Ticket.{ticketLength, kindIn, keyField, valueField, keyIn, valueIn, opIn, both, usesTable, fieldsUsed, stray, strayFields}
 use Rattle.ticket_copy_spec.specs.Copy.{fieldCopy, ticketCopy, differ, changed}
 
 -- ---- bytes that differ
@@ -86,10 +86,10 @@ changed-other t h = rw (other-length t h) (differ-same t)
 -- ---- a whole ticket
 module _ (t : List ℕ) (whole : length t ≡ ticketLength) where
   abbrev keyCopy : List ℕ
-  keyCopy = fieldCopy (uses (kindIn t) .key) (keyField t)
+  keyCopy = fieldCopy (fieldsUsed (kindIn t) .key) (keyField t)
 
   abbrev valueCopy : List ℕ
-  valueCopy = fieldCopy (uses (kindIn t) .value) (valueField t)
+  valueCopy = fieldCopy (fieldsUsed (kindIn t) .value) (valueField t)
 
   kind-length : length (take 1 t) ≡ 1
   kind-length = simp length-take (omega arith)
@@ -101,10 +101,10 @@ module _ (t : List ℕ) (whole : length t ≡ ticketLength) where
   value-length = simp (length-take, length-drop) (omega arith)
 
   key-copy-length : length keyCopy ≡ 4
-  key-copy-length = field-length (uses (kindIn t) .key) (keyField t) ∙ key-length
+  key-copy-length = field-length (fieldsUsed (kindIn t) .key) (keyField t) ∙ key-length
 
   value-copy-length : length valueCopy ≡ 8
-  value-copy-length = field-length (uses (kindIn t) .value) (valueField t) ∙ value-length
+  value-copy-length = field-length (fieldsUsed (kindIn t) .value) (valueField t) ∙ value-length
 
   pub whole-copy : ticketCopy t ≡ take 1 t ++ (keyCopy ++ valueCopy)
   unfolding ticketCopy
@@ -119,8 +119,8 @@ module _ (t : List ℕ) (whole : length t ≡ ticketLength) where
   pub changed-is-stray : changed t ≡ strayFields t
   unfolding strayFields
   changed-is-stray =
-      let k = uses (kindIn t) .key in
-      let v = uses (kindIn t) .value in
+      let k = fieldsUsed (kindIn t) .key in
+      let v = fieldsUsed (kindIn t) .value in
       let e : differ t (ticketCopy t) ≡ differ (take 1 t ++ (keyField t ++ valueField t)) (take 1 t ++ (keyCopy ++ valueCopy)) =
       rw (whole-copy, whole-parts) in
       e ∙ differ-append (take 1 t) (take 1 t) (keyField t ++ valueField t) (keyCopy ++ valueCopy) refl
@@ -145,8 +145,8 @@ module _ (t : List ℕ) (whole : length t ≡ ticketLength) where
   pub copy-clean : strayFields (ticketCopy t) ≡ false
   unfolding strayFields
   copy-clean =
-      let k = uses (kindIn t) .key in
-      let v = uses (kindIn t) .value in
+      let k = fieldsUsed (kindIn t) .key in
+      let v = fieldsUsed (kindIn t) .value in
       rw (copy-kind, copy-key, copy-value, field-clean k (keyField t), field-clean v (valueField t))
 
   pub clean-kept : strayFields t ≡ false → ticketCopy t ≡ t
@@ -182,8 +182,8 @@ changed-differs t = (
     go n false e = absurd (n (sym (differ-none t (ticketCopy t) e)))
 
 -- A kind that is not known.
-unknown-uses : (kind : ℕ) → (kind ≡ 0) ⊎ (9 < kind) → uses kind ≡ both
-unfolding uses
+unknown-uses : (kind : ℕ) → (kind ≡ 0) ⊎ (9 < kind) → fieldsUsed kind ≡ both
+unfolding fieldsUsed
 unknown-uses kind h = ⊎-elim (λ e. rw e) (λ l. List·getD-eq-default usesTable both {n = kind} l) h
 
 pub unknown-unchanged : (t : List ℕ) → (kindIn t ≡ 0) ⊎ (9 < kindIn t) → ticketCopy t ≡ t
@@ -201,14 +201,14 @@ same-choice false f g = g
 
 module _ (t : List ℕ) (whole : length t ≡ ticketLength) where
   -- A kind that uses its key, or its value.
-  key-kept : (kind : ℕ) → uses kind .key ≡ true → eqb (kindIn t) kind ≡ true → keyIn (ticketCopy t) ≡ keyIn t
+  key-kept : (kind : ℕ) → fieldsUsed kind .key ≡ true → eqb (kindIn t) kind ≡ true → keyIn (ticketCopy t) ≡ keyIn t
   key-kept kind h e = ap value (copy-key t whole ∙ rw (eqb-true (kindIn t) kind e, h))
 
-  value-kept : (kind : ℕ) → uses kind .value ≡ true → eqb (kindIn t) kind ≡ true → valueIn (ticketCopy t) ≡ valueIn t
+  value-kept : (kind : ℕ) → fieldsUsed kind .value ≡ true → eqb (kindIn t) kind ≡ true → valueIn (ticketCopy t) ≡ valueIn t
   value-kept kind h e = ap value (copy-value t whole ∙ rw (eqb-true (kindIn t) kind e, h))
 
   whole-asks : (st : Structure) → opIn st (ticketCopy t) ≡ opIn st t
-  unfolding opIn uses
+  unfolding opIn fieldsUsed
   whole-asks map =
       rw (copy-kind t whole)
       (same-choice (eqb (kindIn t) 1) (λ e. rw (key-kept 1 refl e))

@@ -6,7 +6,7 @@ use mathlib.Core.List.{List, [], _∷_, _++_}
 use lib.Dec.{eqb}
 use lib.ListN.{length, take, drop, replicate}
 use Rattle.list_spec.specs.Choice.{pick}
-use Rattle.state_spec.specs.Ticket.{ticketLength, kindIn, keyField, valueField, uses}
+use Rattle.state_spec.specs.Ticket.{ticketLength, kindIn, keyField, valueField, fieldsUsed}
 
 -- ---- one ticket
 -- A field's bytes, zeroed where the field is not used.
@@ -17,7 +17,7 @@ fieldCopy used field = pick used field (replicate (length field) 0)
 unfoldable pub ticketCopy : List ℕ → List ℕ
 ticketCopy t =
     pick (eqb (length t) ticketLength)
-    (take 1 t ++ (fieldCopy (uses (kindIn t) .key) (keyField t) ++ fieldCopy (uses (kindIn t) .value) (valueField t)))
+    (take 1 t ++ (fieldCopy (fieldsUsed (kindIn t) .key) (keyField t) ++ fieldCopy (fieldsUsed (kindIn t) .value) (valueField t)))
     t
 
 -- Whether two lists of bytes differ.

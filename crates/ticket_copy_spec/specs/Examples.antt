@@ -4,7 +4,7 @@ use mathlib.Core.Path.{_≡_, refl}
 use mathlib.Core.Bool.{true, false}
 use mathlib.Core.List.{List, [], _∷_, _++_, map}
 use Rattle.slot_spec.specs.LittleEndian.{value}
-use Rattle.state_spec.specs.Ticket.{uses}
+use Rattle.state_spec.specs.Ticket.{fieldsUsed}
 use Rattle.state_spec.specs.Examples.{full, keyed, valued, bare, everyKind}
 use Rattle.ticket_copy_spec.specs.Copy.{ticketCopy, differ, changed, copied, changedAmong, fileCopy, changedIn}
 
@@ -20,7 +20,7 @@ pub record Kinds : Type 0 where
   pub one-field : map changed (keyed 5 ∷ valued 5 ∷ bare 5 ∷ []) ≡ true ∷ true ∷ false ∷ []
 
 kinds-worked : Kinds
-unfolding ticketCopy differ uses value
+unfolding ticketCopy differ fieldsUsed value
 kinds-worked =
     record {
       map-kinds = refl;
@@ -38,7 +38,7 @@ pub record Unchanged : Type 0 where
   pub no-end : ticketCopy [] ≡ []
 
 unchanged-worked : Unchanged
-unfolding ticketCopy uses value
+unfolding ticketCopy fieldsUsed value
 unchanged-worked = record { unknown = refl; short-end = refl; no-end = refl }
 
 -- A file of a stray pop, a put, a clean push, an unknown kind, a stray in, and the first three bytes of a pop: two were changed. A file
@@ -56,5 +56,5 @@ pub record Files : Type 0 where
   pub nothing : (fileCopy [] ≡ []) × (changedIn [] ≡ 0)
 
 files-worked : Files
-unfolding copied changedAmong ticketCopy differ uses value
+unfolding copied changedAmong ticketCopy differ fieldsUsed value
 files-worked = record { a-season = (refl, refl); again = (refl, refl); short-alone = (refl, refl); nothing = (refl, refl) }

@@ -9,7 +9,7 @@ use lib.Seq.{sets, sets-eq, length-take-le, take-all, take-length, drop-length, 
 use Rattle.list_spec.specs.Choice.{pick}
 use Rattle.slot_laws.specs.WordLaws.{sets-append}
 use Rattle.state_spec.specs.declared.Uses.{Uses}
-use Rattle.state_spec.specs.Ticket.{kindIn, uses}
+use Rattle.state_spec.specs.Ticket.{kindIn, fieldsUsed}
 use Rattle.ticket_copy_spec.specs.Copy.{fieldCopy, ticketCopy, changed, copied, changedAmong, fileCopy, changedIn}
 use Rattle.ticket_copy_laws.specs.CopyLaws.{field-length, other-length, whole-copy, copy-length}
 use Rattle.ticket_copy_laws.specs.PieceLaws.{piecewise, one-ticket, short-end}
@@ -59,10 +59,10 @@ sets-all out vs h =
     sets-eq vs out 0 (omega arith) ∙ rw (e, drop-length out) (append-nil vs)
 
 -- The kind, the key and the value.
-pub ticket-written : (t o o1 o2 o3 : List ℕ) (used : Uses) → length t ≡ 13 → length o ≡ 13 → used ≡ uses (getD t 0 0)
+pub ticket-written : (t o o1 o2 o3 : List ℕ) (used : Uses) → length t ≡ 13 → length o ≡ 13 → used ≡ fieldsUsed (getD t 0 0)
     → o1 ≡ sets o 0 (fieldOf true t 0 1) → o2 ≡ sets o1 1 (fieldOf (used .key) t 1 5) → o3 ≡ sets o2 5 (fieldOf (used .value) t 5 13) → o3 ≡ ticketCopy t
 ticket-written t o o1 o2 o3 used h l e e1 e2 e3 =
-    let u : used ≡ uses (kindIn t) = e ∙ ap uses (first-byte t (omega arith)) in
+    let u : used ≡ fieldsUsed (kindIn t) = e ∙ ap fieldsUsed (first-byte t (omega arith)) in
     let k = fieldOf (used .key) t 1 5 in
     let v = fieldOf (used .value) t 5 13 in
     let a : length (take 1 t) ≡ 1 = length-take 1 t ∙ omega arith in

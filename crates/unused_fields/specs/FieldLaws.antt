@@ -9,7 +9,7 @@ use borrow.Author.Tests.{ltb-true, ltb-false}
 use lib.Dec.{ltb}
 use lib.ListN.{length, getD, List·getD-eq-default}
 use Rattle.state_spec.specs.declared.Uses.{Uses}
-use Rattle.state_spec.specs.Ticket.{kindIn, keyIn, valueIn, both, usesTable, uses, stray, strayFields}
+use Rattle.state_spec.specs.Ticket.{kindIn, keyIn, valueIn, both, usesTable, fieldsUsed, stray, strayFields}
 use Rattle.tickets.specs.AskedLaws.{first-byte}
 
 -- ---- kinds
@@ -18,8 +18,8 @@ less k n other h = omega arith
 
 -- 0 and what is past the table.
 pub uses-rest : (k : ℕ) → ((k ≡ 1) ⊎ (k ≡ 3) → ⊥) → (k ≡ 2 → ⊥) → ((k ≡ 4) ⊎ ((k ≡ 6) ⊎ (k ≡ 8)) → ⊥)
-    → ((k ≡ 5) ⊎ ((k ≡ 7) ⊎ (k ≡ 9)) → ⊥) → both ≡ uses k
-unfolding uses
+    → ((k ≡ 5) ⊎ ((k ≡ 7) ⊎ (k ≡ 9)) → ⊥) → both ≡ fieldsUsed k
+unfolding fieldsUsed
 uses-rest k no-key no-put no-value none = go (ltb 9 k) refl
   where
     least : k ≤ 9 → k ≤ 0
@@ -37,18 +37,18 @@ uses-rest k no-key no-put no-value none = go (ltb 9 k) refl
     go false e = let z : k ≡ 0 = omega (arith, least (ltb-false 9 k e)) in rw z
 
 -- ---- a ticket: its key, and where that is in order its value
-module _ (t : List ℕ) (used : Uses) (known : used ≡ uses (getD t 0 0)) (whole : length t ≡ 13) where
-  used-kind : used ≡ uses (kindIn t)
-  used-kind = known ∙ ap uses (first-byte t (omega arith))
+module _ (t : List ℕ) (used : Uses) (known : used ≡ fieldsUsed (getD t 0 0)) (whole : length t ≡ 13) where
+  used-kind : used ≡ fieldsUsed (kindIn t)
+  used-kind = known ∙ ap fieldsUsed (first-byte t (omega arith))
 
   pub key-tells : (k : Bool) → k ≡ stray (used .key) (keyIn t) → k ≡ true → k ≡ strayFields t
   unfolding strayFields
   key-tells k e h =
-      let f : stray (uses (kindIn t) .key) (keyIn t) ≡ true = rw (← used-kind, ← e) h in
+      let f : stray (fieldsUsed (kindIn t) .key) (keyIn t) ≡ true = rw (← used-kind, ← e) h in
       rw f h
 
   pub value-tells : (k v : Bool) → k ≡ stray (used .key) (keyIn t) → k ≡ false → v ≡ stray (used .value) (valueIn t) → v ≡ strayFields t
   unfolding strayFields
   value-tells k v e h g =
-      let f : stray (uses (kindIn t) .key) (keyIn t) ≡ false = rw (← used-kind, ← e) h in
+      let f : stray (fieldsUsed (kindIn t) .key) (keyIn t) ≡ false = rw (← used-kind, ← e) h in
       rw (f, ← used-kind) g

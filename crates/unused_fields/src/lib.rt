@@ -4,7 +4,7 @@ use tickets::key_in;
 use tickets::value_in;
 ghost use mathlib.Core.Path.{_≡_};
 ghost use lib.ListN.{length};
-ghost use Rattle.state_spec.specs.Ticket.{uses, stray, strayFields};
+ghost use Rattle.state_spec.specs.Ticket.{fieldsUsed, stray, strayFields};
 
 const NEITHER: Uses = Uses {
     key: false,
@@ -28,7 +28,7 @@ const BOTH: Uses = Uses {
 
 // The fields that a kind uses: get and remove; put; push, add and in; pop, take and out; a kind that is not known.
 pub fn uses(kind: u8) -> Uses
-    ensures { λ r. ⌜ r ≡ uses kind ⌝ }
+    ensures { λ r. ⌜ r ≡ fieldsUsed kind ⌝ }
 {
     match kind {
         1 | 3 => KEY_ALONE,

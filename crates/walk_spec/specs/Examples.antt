@@ -24,7 +24,7 @@ use Rattle.bucket_call_spec.specs.Call.{putRounds, afterPuts, afterFetches, buc
 use Rattle.call_spec.specs.declared.Reply.the-variants.{Answered, Refused}
 use Rattle.list_spec.specs.Ascending.{ascendingFrom, ascending}
 use Rattle.state_spec.specs.Fit.{allOf, rootGood, aheadGood, fits, headFits, placesFrom}
-use Rattle.state_spec.specs.Ticket.{opIn, uses, strayFields}
+use Rattle.state_spec.specs.Ticket.{opIn, fieldsUsed, strayFields}
 use Rattle.state_spec.specs.Opening.{opened}
 use Rattle.call_spec.specs.Store.{called, checks, firstMet, decided, replied, replyOf}
 use Rattle.operation_spec.specs.declared.Answer.the-variants.{Absent, Pushed, Popped, Replaced}
@@ -94,7 +94,7 @@ pub record Outputs : Type 0 where
   pub no-byte : walked [] ≡ ascii "short\n"
 
 outputs-worked : Outputs
-unfolding leading decimal numbers lineOf numbersIn arrivedOf callLines walked opened called checks firstMet decided replied replyOf fits headFits allOf ascendingFrom ascending rootGood placesFrom opIn uses strayFields rounds spare greatest tallest shaped least bucketCall afterFetches afterPuts putRounds fetchRounds fetchRound wantRound tookRound idleRound atClose closing movedLink movedNode withBucket noneTwice allGood readBucket readBuckets insert join takeFirst tagged granted joined grantedFrom readHalf choose evict halvings among filled encode fieldsOf pack bytes readSlot bad fieldsIn nodeOf fields value allZero wellFormed readLeaf program test walk single double turn raise climb unwind unwound getStep getProg putStep putProg lowest takeOut removeStep removeProg between mapTest pushProg popProg stackTest turnsTo descend settled rise topmost addProg downward childOf sink replaceRoot takeProg heapTest enqueueProg enqueueAhead dequeueProg dequeueAhead queueTest aheadAfter aheadGood bind balanceOf
+unfolding leading decimal numbers lineOf numbersIn arrivedOf callLines walked opened called checks firstMet decided replied replyOf fits headFits allOf ascendingFrom ascending rootGood placesFrom opIn fieldsUsed strayFields rounds spare greatest tallest shaped least bucketCall afterFetches afterPuts putRounds fetchRounds fetchRound wantRound tookRound idleRound atClose closing movedLink movedNode withBucket noneTwice allGood readBucket readBuckets insert join takeFirst tagged granted joined grantedFrom readHalf choose evict halvings among filled encode fieldsOf pack bytes readSlot bad fieldsIn nodeOf fields value allZero wellFormed readLeaf program test walk single double turn raise climb unwind unwound getStep getProg putStep putProg lowest takeOut removeStep removeProg between mapTest pushProg popProg stackTest turnsTo descend settled rise topmost addProg downward childOf sink replaceRoot takeProg heapTest enqueueProg enqueueAhead dequeueProg dequeueAhead queueTest aheadAfter aheadGood bind balanceOf
 outputs-worked =
     record {
       document = refl;

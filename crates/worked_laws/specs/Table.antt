@@ -30,7 +30,7 @@ use Rattle.state_spec.specs.declared.State.{State}
 use Rattle.call_spec.specs.declared.Reply.the-variants.{Answered, Refused}
 use Rattle.list_spec.specs.Ascending.{ascendingFrom, ascending}
 use Rattle.state_spec.specs.Fit.{allOf, rootGood, aheadGood, fits, headFits, placesFrom}
-use Rattle.state_spec.specs.Ticket.{opIn, uses, strayFields}
+use Rattle.state_spec.specs.Ticket.{opIn, fieldsUsed, strayFields}
 use Rattle.state_spec.specs.Opening.{opened}
 use Rattle.call_spec.specs.Store.{Ended, called, checks, firstMet, decided, replied, replyOf}
 
@@ -50,7 +50,7 @@ callOn room s tree c = called s tree (ticketOf c) (c .tape) (replicate room 0)
 
 -- The calls of a list in order, each on what the last one left: the last one's outcome.
 unfoldable pub lastOf : ℕ → State → List ℕ → Ticketed → List Ticketed → Ended
-unfolding opened called checks firstMet decided replied replyOf fits headFits allOf ascendingFrom ascending rootGood aheadGood placesFrom opIn uses strayFields rounds spare greatest tallest shaped least bucketCall afterFetches afterPuts putRounds fetchRounds fetchRound wantRound tookRound idleRound atClose closing movedLink movedNode withBucket noneTwice allGood readBucket readBuckets insert join takeFirst tagged granted joined grantedFrom readHalf choose evict halvings among filled encode fieldsOf pack bytes readSlot bad fieldsIn nodeOf fields value allZero wellFormed readLeaf program aheadAfter test walk single double turn raise climb unwind unwound getStep getProg putStep putProg lowest takeOut removeStep removeProg between mapTest pushProg popProg stackTest enqueueProg enqueueAhead dequeueProg dequeueAhead queueTest bind balanceOf
+unfolding opened called checks firstMet decided replied replyOf fits headFits allOf ascendingFrom ascending rootGood aheadGood placesFrom opIn fieldsUsed strayFields rounds spare greatest tallest shaped least bucketCall afterFetches afterPuts putRounds fetchRounds fetchRound wantRound tookRound idleRound atClose closing movedLink movedNode withBucket noneTwice allGood readBucket readBuckets insert join takeFirst tagged granted joined grantedFrom readHalf choose evict halvings among filled encode fieldsOf pack bytes readSlot bad fieldsIn nodeOf fields value allZero wellFormed readLeaf program aheadAfter test walk single double turn raise climb unwind unwound getStep getProg putStep putProg lowest takeOut removeStep removeProg between mapTest pushProg popProg stackTest enqueueProg enqueueAhead dequeueProg dequeueAhead queueTest bind balanceOf
 lastOf room s tree c [] = callOn room s tree c
 lastOf room s tree c (d ∷ cs) =
     lastOf room (callOn room s tree c .state) (callOn room s tree c .tree) d cs
@@ -115,7 +115,8 @@ pub record Worked : Type 0 where
   pub ascending-root : from 1 2 12 (onZeros 2 1) (onZeros 2 2 ∷ onZeros 2 3 ∷ []) .state .root .key ≡ 2
   -- Map size 3, zero tape, put 2, 1, 4, 3, 5, remove 1: root 4, not 3.
   pub leaning-root : from 1 3 24 (onZeros 2 2) (onZeros 2 1 ∷ onZeros 2 4 ∷ onZeros 2 3 ∷ onZeros 2 5 ∷ onZeros 3 1 ∷ []) .state .root .key ≡ 4
-  -- Map size 2, zero tape, put 2, 1, 3, remove 2: root 3 with left 1 (the root node is first of those in the leaf's bucket).
+  -- Map size 2, zero tape, put 2, 1, 3, remove 2: root 3 with left 1. The root's node is at byte 416: slot 1 of bucket 4, which starts at
+  -- byte 384; slot 0 has key 1, the lowest.
   pub replaced-root : from 1 2 12 (onZeros 2 2) (onZeros 2 1 ∷ onZeros 2 3 ∷ onZeros 3 2 ∷ []) .state .root ≡ record { height = 2; key = 3; tag = 0 }
   pub replaced-left : readSlot 2 4 (take 32 (drop 416 (from 1 2 12 (onZeros 2 2) (onZeros 2 1 ∷ onZeros 2 3 ∷ onZeros 3 2 ∷ []) .tree)))
       ≡ Full (record { key = 3; value = 0; tag = 0; left = record { height = 1; key = 1; tag = 0 }; right = noLink })

@@ -1,24 +1,24 @@
 -- `unused_fields::uses` meets its contract, row by row of the table.
 use mathlib.Core.Logic.{⊎-elim}
-use Rattle.state_spec.specs.Ticket.{uses}
+use Rattle.state_spec.specs.Ticket.{fieldsUsed}
 use Rattle.unused_fields.specs.FieldLaws.{uses-rest}
 use Rattle.unused_fields.proofs.uses.Statement.{statement}
 use Rattle.unused_fields.proofs.uses.Tie as tie
 
 returns : tie.Need-returns
-unfolding uses
+unfolding fieldsUsed
 returns c = ⊎-elim (λ e. rw e) (λ e. rw e) (c .match .keys1)
 
 returns-2 : tie.Need-returns-2
-unfolding uses
+unfolding fieldsUsed
 returns-2 c = rw (c .match .keys2)
 
 returns-3 : tie.Need-returns-3
-unfolding uses
+unfolding fieldsUsed
 returns-3 c = ⊎-elim (λ e. rw e) (⊎-elim (λ e. rw e) (λ e. rw e)) (c .match .keys3)
 
 returns-4 : tie.Need-returns-4
-unfolding uses
+unfolding fieldsUsed
 returns-4 c = ⊎-elim (λ e. rw e) (⊎-elim (λ e. rw e) (λ e. rw e)) (c .match .keys4)
 
 returns-5 : tie.Need-returns-5

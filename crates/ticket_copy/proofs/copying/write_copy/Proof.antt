@@ -1,6 +1,4 @@
--- `ticket_copy::copying::write_copy` meets its contract: a piece has no more changed tickets than tickets.
-use native.Mathlib.Omega.{arith}
-use Rattle.ticket_copy_laws.specs.PieceLaws.{changed-most}
+-- `ticket_copy::copying::write_copy` meets its contract: `copy_piece` says it.
 use borrow.Author.Needs.{needs}
 use Rattle.ticket_copy.proofs.copying.write_copy.Statement.{statement}
 use Rattle.ticket_copy.proofs.copying.write_copy.Tie as tie
@@ -18,9 +16,7 @@ same-length : tie.Need-same-length
 same-length c = search needs
 
 returns : tie.Need-returns
-returns c =
-    let s = c .before .before .before .before .before .before .before .before .before .before in
-    omega (arith, c .before .before .before .before .before .copy-piece .ensures .1, changed-most (s .args .piece .now), s .pre .1)
+returns c = search needs
 
 pub write-copy-spec : {M : Type 1} → statement M
 write-copy-spec =

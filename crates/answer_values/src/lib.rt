@@ -1,11 +1,11 @@
-// The values of answers and replies.
+// The numbers that the lines of calls show.
 use call_spec::Reply;
 use operation_spec::Answer;
 ghost use mathlib.Core.Path.{_≡_};
-ghost use Rattle.walk_spec.specs.Lines.{answerValue, replyValue};
+ghost use Rattle.walk_spec.specs.Lines.{replyShown};
 
-fn answer_value(answer: Answer) -> u64
-    ensures { λ r. ⌜ r ≡ answerValue answer ⌝ }
+fn answer_shown(answer: Answer) -> u64
+    ensures { λ r. ⌜ r ≡ replyShown (Reply.Answered answer) ⌝ }
 {
     match answer {
         Answer::Found(v) => v,
@@ -20,15 +20,15 @@ fn answer_value(answer: Answer) -> u64
         Answer::Queued => 0,
         Answer::Dequeued(v) => v,
         Answer::Empty => 0,
-        Answer::Full => 10,
     }
 }
 
-pub fn reply_value(reply: Reply) -> u64
-    ensures { λ r. ⌜ r ≡ replyValue reply ⌝ }
+// The number that a call's line shows.
+pub fn reply_shown(reply: Reply) -> u64
+    ensures { λ r. ⌜ r ≡ replyShown reply ⌝ }
 {
     match reply {
-        Reply::Answered(answer) => answer_value(answer),
+        Reply::Answered(answer) => answer_shown(answer),
         Reply::Refused(number) => number as u64,
     }
 }

@@ -4,11 +4,11 @@ use operation_spec::Answer;
 use text_writer::put_text;
 ghost use Prim.Native.Nat.{_≤_};
 ghost use lib.ListN.{length};
-ghost use Rattle.walk_spec.specs.Lines.{answerWord, replyWord, Put};
+ghost use Rattle.walk_spec.specs.Lines.{replyWord, Put};
 
 fn answer_word(answer: Answer, out: &mut [u8]) -> usize
     requires { ⌜ 8 ≤ length (now out) ⌝ }
-    ensures { λ r. ⌜ Put (answerWord answer) 0 (now (out .entry)) (now (out .exit)) r ⌝ }
+    ensures { λ r. ⌜ Put (replyWord (Reply.Answered answer)) 0 (now (out .entry)) (now (out .exit)) r ⌝ }
 {
     match answer {
         Answer::Found(_) => put_text(b"found", out, 0),
@@ -23,7 +23,6 @@ fn answer_word(answer: Answer, out: &mut [u8]) -> usize
         Answer::Queued => put_text(b"queued", out, 0),
         Answer::Dequeued(_) => put_text(b"dequeued", out, 0),
         Answer::Empty => put_text(b"empty", out, 0),
-        Answer::Full => put_text(b"refused", out, 0),
     }
 }
 

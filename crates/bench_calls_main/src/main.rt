@@ -47,7 +47,6 @@ fn join_answer(sum: u64, answer: Answer) -> u64 {
         Answer::Taken(v) => join(join(sum, 10), v),
         Answer::Queued => join(join(sum, 11), 0),
         Answer::Dequeued(v) => join(join(sum, 12), v),
-        Answer::Full => join(join(sum, 0), 10),
     }
 }
 

@@ -27,7 +27,7 @@ use Rattle.slot_spec.specs.declared.Link as link
 use Rattle.slot_spec.specs.declared.Ahead as ahead
 use Rattle.state_spec.specs.declared.State.{State}
 use Rattle.operation_spec.specs.declared.Outcome as outcome
-use Rattle.operation_spec.specs.Method.{toOutcome, toAnswer}
+use Rattle.operation_spec.specs.Method.{toOutcome, toStepAnswer}
 use Rattle.slot_spec.specs.Row.{nodesFrom}
 use Rattle.node_rows.specs.Held.{Held, heldIn, nodesOf}
 use Rattle.tag_moves.specs.Moved.{TagsMoved}
@@ -198,13 +198,13 @@ module _ (j : Job) (draw : ℕ → ℕ) (f : Fetched) (h : Held) {words scratch 
           ∙ closing-none (r .mark) (O .entries) (O .root) (aheadOf j) (r .waiting) words″ tree″ leaves″))
 
       -- They all went on.
-      finish-answers : {p : Reply} → r .mark ≡ 0 → p ≡ replyOf (toAnswer (o .answer)) → EndsAs p
+      finish-answers : {p : Reply} → r .mark ≡ 0 → p ≡ replyOf (toStepAnswer (o .answer)) → EndsAs p
       unfolding afterPuts replied
       finish-answers went q =
           ended-same (kept-as (sym went)) (q ∙ ap (λ (x : Outcome ℕ). replyOf (x .answer)) made) (sym leaves-many) same-peak refl trace-is
           ∙ ap (λ (l : fetch.Left). endingWith (j .structure) (j .size) trace l most) (sym (ap (afterPuts (aheadOf j) O) (came-to ∙ goes-on (r .mark) end (done O) went)))
 
-      pub finish-ends : {p : Reply} → p ≡ answered (r .mark) (toAnswer (o .answer)) → FinishedAs j draw f h words tree trace words″ tree″ trace″ (ran p)
+      pub finish-ends : {p : Reply} → p ≡ answered (r .mark) (toStepAnswer (o .answer)) → FinishedAs j draw f h words tree trace words″ tree″ trace″ (ran p)
       finish-ends {p} q = record { holds = puts .holds; ran = refl; enough = omega arith; ends = go (ℕ-discrete (r .mark) 0) }
         where
           go : Dec (r .mark ≡ 0) → EndsAs p

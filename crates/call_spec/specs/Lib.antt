@@ -1,2 +1,3 @@
+pub mod Meanings
 pub mod Store
 pub mod Examples

@@ -8,7 +8,7 @@ use lib.ListN.{length, drop, replicate}
 use Rattle.list_spec.specs.Choice.{pick}
 use Rattle.slot_spec.specs.Tree.{treeLength}
 use Rattle.method_spec.specs.Node.{Node}
-use Rattle.method_spec.specs.Answer.{Structure, Op, Answer, found, absent, replaced, new, removed, pushed, popped, added, taken, queued, dequeued, empty, full}
+use Rattle.method_spec.specs.Answer.{Structure, Op, Answer, found, absent, replaced, new, removed, pushed, popped, added, taken, queued, dequeued, empty, full, Meaning, meaning}
 use Rattle.method_spec.specs.Rounds.{rounds, draws}
 use Rattle.leaf_spec.specs.Convert.{toLink, fromLink, toAhead, fromAhead, toNode, fromNode}
 use Rattle.bucket_call_spec.specs.Fetch.{Left}
@@ -16,6 +16,7 @@ use Rattle.bucket_call_spec.specs.Call as bucket
 use Rattle.bucket_call_spec.specs.Call.{drawOf, bucketCall}
 use Rattle.bucket_call_spec.specs.Peak.{callPeak}
 use Rattle.operation_spec.specs.declared.Answer.the-variants.{Found, Absent, Replaced, New, Removed, Pushed, Popped, Added, Taken, Queued, Dequeued, Empty}
+use Rattle.operation_spec.specs.Method.{toAnswer}
 use Rattle.state_spec.specs.declared.Place.{Place}
 use Rattle.state_spec.specs.declared.State.{State}
 use Rattle.call_spec.specs.declared.Called.{Called}
@@ -41,7 +42,7 @@ pub record Ended : Type 0 where
 abbrev pub callEndedAs : Called → (tree trace : List ℕ) → Ended
 callEndedAs r tree trace = record { state = r .state; reply = r .reply; leaves = r .leaves; peak = r .peak; tree = tree; trace = trace }
 
--- The paper's answers and, for a full store, its number.
+-- An answer as it is, and a full store's as a refusal with its number.
 unfoldable pub replyOf : Answer → Reply
 replyOf (found v) = Answered (Found v)
 replyOf absent = Answered Absent
@@ -55,7 +56,12 @@ replyOf (taken v) = Answered (Taken v)
 replyOf queued = Answered Queued
 replyOf (dequeued v) = Answered (Dequeued v)
 replyOf empty = Answered Empty
-replyOf full = Refused 10
+replyOf full = Refused (meaning full .number)
+
+-- The number, value and word of a reply: those of its answer, or of a refusal with a number.
+abbrev pub replyMeaning : Reply → Meaning
+replyMeaning (Answered a) = meaning (toAnswer a)
+replyMeaning (Refused n) = record { number = n; value = none; word = "refused" }
 
 unfoldable pub replied : ℕ → Option Answer → Reply
 replied mark none = Refused mark

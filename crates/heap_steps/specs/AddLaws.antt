@@ -16,6 +16,7 @@ use Rattle.slot_spec.specs.declared.Link as link
 use Rattle.slot_spec.specs.declared.Node as node
 use Rattle.leaf_spec.specs.Convert.{toLink, toNode}
 use Rattle.operation_spec.specs.declared.Answer.the-variants.{Added}
+use Rattle.operation_spec.specs.declared.StepAnswer.the-variants.{Answered}
 use Rattle.operation_spec.specs.Method.{nothing, toOutcome}
 use Rattle.operations.specs.Resume.{Resumed, missing, finished, resume, follow, wantedOf, outcomeOf}
 use Rattle.operations.specs.ResumeLaws.{resume-done, resume-map}
@@ -79,7 +80,7 @@ module _ (value tag entries limit : ℕ) (root : link.Link) (ws : List ℕ) (cou
 
   pub add-makes : way .depth ≤ count → {n top : node.Node} {ws′ : List ℕ} → toNode n ≡ newNode 0 value tag entries
       → RisesTo (heldIn ws count) (wayTo (way .position)) (toNode n) ws′ (toNode top) → {l : link.Link} → toLink l ≡ linkOne (toNode top)
-      → (toOutcome (record { made = way .depth + 1; root = l; entries = entries + 1; answer = Added }) (nodesOf (heldIn ws′ (way .depth + 1)))
+      → (toOutcome (record { made = way .depth + 1; root = l; entries = entries + 1; answer = Answered Added }) (nodesOf (heldIn ws′ (way .depth + 1)))
       ≡ outcomeOf (toLink root) entries (resume (addProg 0 value tag entries limit (toLink root)) (nodesOf (heldIn ws count))))
       × ((way .depth + 1 ≤ places) × (length ws′ ≡ words))
   add-makes m {n} {top} {ws′} e rises f =

@@ -18,6 +18,7 @@ use Rattle.slot_spec.specs.Row.{nodesFrom}
 use Rattle.leaf_spec.specs.Convert.{toLink, toNode}
 use Rattle.operation_spec.specs.declared.Want as want
 use Rattle.operation_spec.specs.declared.Answer.the-variants.{Taken}
+use Rattle.operation_spec.specs.declared.StepAnswer.the-variants.{Answered}
 use Rattle.operation_spec.specs.declared.Wanted.{Wanted}
 use Rattle.operation_spec.specs.declared.Wanted.the-variants.{Done, Fetch}
 use Rattle.operation_spec.specs.Method.{nothing, toWant, toWanted, toOutcome}
@@ -114,7 +115,7 @@ module _ (entries : ℕ) (root : link.Link) (ws : List ℕ) (count : ℕ) (long 
         rw (f, e) (take-only entries (toLink root) (heldIn ws count) (held-room ws long count most) k (omega (arith, deep)) (omega (arith, deep)))
 
     pub take-clears : way .depth ≡ 0 → {z : node.Node} → z ≡ getD (nodesFrom ws) (way .depth) noNode → {l : link.Link} → l ≡ noLink → {fewer : ℕ} → fewer ≡ pred entries
-        → toOutcome (record { made = 0; root = l; entries = fewer; answer = Taken (z .value) }) []
+        → toOutcome (record { made = 0; root = l; entries = fewer; answer = Answered (Taken (z .value)) }) []
         ≡ outcomeOf (toLink root) entries (resume (takeProg 0 entries (toLink root)) (nodesOf (heldIn ws count)))
     take-clears e f g fewer = rw (take-last e f, g, fewer)
 
@@ -143,7 +144,7 @@ module _ (entries : ℕ) (root : link.Link) (ws : List ℕ) (count : ℕ) (long 
       take-misses d = by-sinking ∙ rw d
 
       pub take-makes : r .wanted ≡ Done → {top : node.Node} → top ≡ getD (nodesFrom ws) 0 noNode → {l : link.Link} → toLink l ≡ linkOne (toNode top) → {fewer : ℕ} → fewer ≡ pred entries
-          → (toOutcome (record { made = r .made; root = l; entries = fewer; answer = Taken (top .value) }) (nodesOf (heldIn ws′ (r .made)))
+          → (toOutcome (record { made = r .made; root = l; entries = fewer; answer = Answered (Taken (top .value)) }) (nodesOf (heldIn ws′ (r .made)))
           ≡ outcomeOf (toLink root) entries (resume (takeProg 0 entries (toLink root)) (nodesOf (heldIn ws count))))
           × ((r .made ≤ places) × (length ws′ ≡ words))
       take-makes d t u fewer = (rw (by-sinking, d, u, fewer, t), (sinks .few, sinks .long))

@@ -8,6 +8,7 @@ use node_rows::ROW;
 use node_rows::node_at;
 use operation_spec::Answer;
 use operation_spec::Outcome;
+use operation_spec::StepAnswer;
 use operation_spec::Wanted;
 use operations::no_nodes;
 use operations::one_less;
@@ -53,12 +54,12 @@ pub fn add(
     ensures { λ r. ⌜ (toOutcome r (nodesOf (heldIn (now (made .exit)) (r .made))) ≡ outcomeOf (toLink root) entries (resume (addProg 0 value tag entries limit (toLink root)) (nodesOf (heldIn (now (held .entry)) count)))) × ((r .made ≤ places) × (length (now (made .exit)) ≡ words)) ⌝ }
 {
     if entries >= limit {
-        return no_nodes(root, entries, Answer::Full);
+        return no_nodes(root, entries, StepAnswer::Full);
     }
     let more = entries + 1;
     let way = way_to(more);
     if count < way.depth {
-        return no_nodes(root, entries, Answer::Absent);
+        return no_nodes(root, entries, StepAnswer::Answered(Answer::Absent));
     }
     let none = no_link();
     let n = Node {
@@ -73,7 +74,7 @@ pub fn add(
         made: way.depth + 1,
         root: top,
         entries: more,
-        answer: Answer::Added,
+        answer: StepAnswer::Answered(Answer::Added),
     }
 }
 
@@ -117,29 +118,29 @@ pub fn take(
     ensures { λ r. ⌜ (toOutcome r (nodesOf (heldIn (now (made .exit)) (r .made))) ≡ outcomeOf (toLink root) entries (resume (takeProg 0 entries (toLink root)) (nodesOf (heldIn (now (held .entry)) count)))) × ((r .made ≤ places) × (length (now (made .exit)) ≡ words)) ⌝ }
 {
     if entries == 0 {
-        return no_nodes(root, entries, Answer::Empty);
+        return no_nodes(root, entries, StepAnswer::Answered(Answer::Empty));
     }
     let way = way_to(entries);
     let last = way.depth;
     if count <= last {
-        return no_nodes(root, entries, Answer::Absent);
+        return no_nodes(root, entries, StepAnswer::Answered(Answer::Absent));
     }
     let fewer = one_less(entries);
     let z = node_at(held, last);
     if last == 0 {
         let none = no_link();
-        return no_nodes(none, fewer, Answer::Taken(z.value));
+        return no_nodes(none, fewer, StepAnswer::Answered(Answer::Taken(z.value)));
     }
     let r = sink(z.value, way, held, count, made);
     let wanted = r.wanted;
     if let Wanted::Fetch(_) = wanted {
-        return no_nodes(root, entries, Answer::Absent);
+        return no_nodes(root, entries, StepAnswer::Answered(Answer::Absent));
     }
     let top = node_at(held, 0);
     Outcome {
         made: r.made,
         root: link_one(top),
         entries: fewer,
-        answer: Answer::Taken(top.value),
+        answer: StepAnswer::Answered(Answer::Taken(top.value)),
     }
 }

@@ -25,6 +25,7 @@ use Rattle.state_spec.specs.Ticket.{opIn, structureOf}
 use Rattle.fitness_laws.specs.FitState.{fit-state}
 use Rattle.call_spec.specs.declared.Reply.{Reply}
 use Rattle.call_spec.specs.declared.Reply.the-variants.{Answered, Refused}
+use Rattle.call_spec.specs.Meanings.{answered-number}
 use Rattle.call_spec.specs.Store.{Ended, called, storeOf}
 use Rattle.promise_spec.specs.Peaks.{Made, none-made, made}
 use Rattle.call_peak_laws.specs.Theorems.{peak-is-largest}
@@ -35,7 +36,7 @@ use Rattle.lent_bytes_laws.specs.KeptBytes.{bytes-kept, key-low}
 use Rattle.demand_spec.specs.History.{changesNothing, early, pairsIn}
 use Rattle.demand_spec.specs.Demands.{NoneLost, Demand1}
 use Rattle.demand_laws.specs.Proved.{demand1}
-use Rattle.host_spec.specs.Result.{numberOf, valueOf, resultBytes}
+use Rattle.host_spec.specs.Result.{replyNumber, replyValue, resultBytes}
 use Rattle.host_spec.specs.Host.{HostEnded, lengthsGood, hostLeaving, endedAs, hostCalled}
 use Rattle.promise_spec.specs.HostHistory.{markIn, changesNoByte}
 use Rattle.promise_spec.specs.HostDemands.{HostStaysClosed, ResultSays, HostDemand1}
@@ -82,12 +83,12 @@ counted-shows s tree ticket tape trace late positive =
 
 -- ---- the numbers of replies
 -- A number other than 0 is a refusal's.
-pub refused-with : (r : Reply) (n : ℕ) → numberOf r ≡ n → 1 ≤ n → r ≡ Refused n
-refused-with (Answered a) n e at-least = let z : ⊥ = omega (arith, e) in absurd z
+pub refused-with : (r : Reply) (n : ℕ) → replyNumber r ≡ n → 1 ≤ n → r ≡ Refused n
+refused-with (Answered a) n e at-least = let z : ⊥ = omega (arith, e, answered-number a) in absurd z
 refused-with (Refused m) n e at-least = ap Refused e
 
 -- Answers, 8, 9 and 10 count.
-late-number : (r : Reply) → (numberOf r ≡ 0) ⊎ ((8 ≤ numberOf r) × (numberOf r ≤ 10)) → ((n : ℕ) → r ≡ Refused n → 1 ≤ n) → early r ≡ false
+late-number : (r : Reply) → (replyNumber r ≡ 0) ⊎ ((8 ≤ replyNumber r) × (replyNumber r ≤ 10)) → ((n : ℕ) → r ≡ Refused n → 1 ≤ n) → early r ≡ false
 unfolding early
 late-number (Answered a) h positive = refl
 late-number (Refused n) (inl z) positive = let y : ⊥ = omega (arith, positive n refl) in absurd y
@@ -194,7 +195,7 @@ module _ (state tree ticket tape trace result : List ℕ) (state-bytes : Bytes s
         rw same (one .none-lost tree-bytes ticket-bytes (kept-widths s kept low) n r c op asks)
 
   -- Where the call was made and returned n, its reply says it.
-  made-number : left ≡ endedAs result e → left .number ≡ numberOf (e .reply)
+  made-number : left ≡ endedAs result e → left .number ≡ replyNumber (e .reply)
   made-number q = ap (λ (h : HostEnded). h .number) q
 
   some-number : (n : ℕ) → e .reply ≡ Refused n → 1 ≤ n
@@ -215,8 +216,8 @@ module _ (state tree ticket tape trace result : List ℕ) (state-bytes : Bytes s
         none-lost = λ c op asks. none-lost c op asks verdict;
       }
     where
-      of-reply : (r : Reply) → e .reply ≡ r → (numberOf r ≤ 10) ⊎ ((numberOf r ≡ 17) ⊎ ((numberOf r ≡ 18) ⊎ (numberOf r ≡ 19)))
-      of-reply (Answered a) er = inl (omega arith)
+      of-reply : (r : Reply) → e .reply ≡ r → (replyNumber r ≤ 10) ⊎ ((replyNumber r ≡ 17) ⊎ ((replyNumber r ≡ 18) ⊎ (replyNumber r ≡ 19)))
+      of-reply (Answered a) er = inl (omega (arith, answered-number a))
       of-reply (Refused n) er = by (one .one-reply n er)
         where
           by : ((1 ≤ n) × (n ≤ 10)) ⊎ ((n ≡ 17) ⊎ (n ≡ 19)) → (n ≤ 10) ⊎ ((n ≡ 17) ⊎ ((n ≡ 18) ⊎ (n ≡ 19)))

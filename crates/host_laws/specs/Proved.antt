@@ -23,6 +23,7 @@ use Rattle.state_spec.specs.Ticket.{opIn}
 use Rattle.lent_bytes_laws.specs.StateLaws.{state-length}
 use Rattle.call_spec.specs.declared.Reply.{Reply}
 use Rattle.call_spec.specs.declared.Reply.the-variants.{Answered, Refused}
+use Rattle.call_spec.specs.Meanings.{answered-number}
 use Rattle.call_spec.specs.Store.{Ended, replyOf}
 use Rattle.readout_spec.specs.Taken.{pairOfEntry, entries}
 use Rattle.readout_spec.specs.ReadOut.{readOut}
@@ -94,8 +95,8 @@ not-longer : {A : Type 0} (xs us : List A) (a : A) → xs ≡ xs ++ (a ∷ us) �
 not-longer xs us a q = omega (arith, ap (λ ys. length ys) q, length-append xs (a ∷ us))
 
 -- ---- no call meets 2, 3 or 8
-number-sound : (r : Reply) → ((n : ℕ) → r ≡ Refused n → Neither n) → Neither (result.numberOf r)
-number-sound (Answered a) h = (λ z. omega arith, (λ z. omega arith, λ z. omega arith))
+number-sound : (r : Reply) → ((n : ℕ) → r ≡ Refused n → Neither n) → Neither (result.replyNumber r)
+number-sound (Answered a) h = rw (answered-number a) (λ z. omega arith, (λ z. omega arith, λ z. omega arith))
 number-sound (Refused n) h = h n refl
 
 outcomes-sound : (s : Kept) (cs : List HostBrought) → All Sound (history s (heard cs)) → All (λ (e : HostEnded). Neither (e .number)) (hostOutcomes s cs)
@@ -246,7 +247,7 @@ module _ (st : Structure) (k : ℕ) (positive : 1 ≤ k) (small : k ≤ 8) (stat
         record {
           op = by .op;
           asks = by .asks;
-          overflow = ap (λ (x : HostEnded). x .number) ended-so ∙ ap result.numberOf (by .overflow);
+          overflow = ap (λ (x : HostEnded). x .number) ended-so ∙ ap result.replyNumber (by .overflow);
           rest = by .rest;
           reveals = rw trace-so (by .reveals);
           contents = rw (pairs-so, state-read, ap (λ (h : HostStore). h .tree) (before-as .end)) (by .contents);
@@ -340,7 +341,7 @@ module _ (st : Structure) (k : ℕ) (positive : 1 ≤ k) (small : k ≤ 8) (stat
               then-closed = e;
               op = r .op;
               asks = subst (λ (b : Brought). opIn st (b .ticket) ≡ some (r .op)) cut (r .asks);
-              overflow = ap (λ (x : HostEnded). x .number) (ended-so c after e shut) ∙ ap result.numberOf nine;
+              overflow = ap (λ (x : HostEnded). x .number) (ended-so c after e shut) ∙ ap result.replyNumber nine;
               written = λ out room.
                   reads-as out ∙ rw (closed-state, closed-tree) (ap readAs (r .written out (rw (closed-state, closed-tree) at room)));
               nothing-left-out = rw (closed-state, closed-tree) (r .nothing-left-out);

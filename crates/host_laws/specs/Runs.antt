@@ -20,6 +20,7 @@ use Rattle.method_spec.specs.Answer.{Structure}
 use Rattle.state_spec.specs.Opening.{opened}
 use Rattle.call_spec.specs.declared.Reply.{Reply}
 use Rattle.call_spec.specs.declared.Reply.the-variants.{Answered, Refused}
+use Rattle.call_spec.specs.Meanings.{answered-number}
 use Rattle.call_spec.specs.Store.{Ended, refusing}
 use Rattle.fitness_laws.specs.FitState.{fit-state}
 use Rattle.lent_bytes_spec.specs.Numbers.{numbersOf}
@@ -59,9 +60,9 @@ pub data Reads (c : HostBrought) (e : Ended) : Type 0 where
 
 -- A call counts for a C host exactly where it counts.
 early-as : (r : Reply) → ((n : ℕ) → r ≡ Refused n → ((1 ≤ n) × (n ≤ 10)) ⊎ Later n)
-    → (ltb 0 (result.numberOf r) && (changesNothing (result.numberOf r) || eqb (result.numberOf r) 18)) ≡ early r
+    → (ltb 0 (result.replyNumber r) && (changesNothing (result.replyNumber r) || eqb (result.replyNumber r) 18)) ≡ early r
 unfolding early
-early-as (Answered a) one = refl
+early-as (Answered a) one = rw (answered-number a)
 early-as (Refused n) one = rw (lt-ltb 0 n (some (one n refl)), ne-eqb n 18 (other (one n refl))) (or-false (changesNothing n))
   where
     some : ((1 ≤ n) × (n ≤ 10)) ⊎ Later n → 0 < n

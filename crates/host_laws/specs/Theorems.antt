@@ -21,6 +21,7 @@ use Rattle.state_spec.specs.Opening.{opened}
 use Rattle.fitness_laws.specs.FitState.{fit-state}
 use Rattle.call_spec.specs.declared.Reply.{Reply}
 use Rattle.call_spec.specs.declared.Reply.the-variants.{Answered, Refused}
+use Rattle.call_spec.specs.Meanings.{answered-number}
 use Rattle.call_spec.specs.Store.{Ended, refusing, called}
 use Rattle.readout_spec.specs.ReadOut.{readOut}
 use Rattle.lent_bytes_spec.specs.Numbers.{numbersOf}
@@ -32,7 +33,7 @@ use Rattle.demand_spec.specs.Demands.{Demand1}
 use Rattle.demand_laws.specs.Checks.{Later}
 use Rattle.demand_laws.specs.Proved.{demand1}
 use Rattle.demand_laws.specs.Refusals.{same-number}
-use Rattle.host_spec.specs.Result.{numberOf}
+use Rattle.host_spec.specs.Result.{replyNumber}
 use Rattle.host_spec.specs.Host.{HostEnded, hostLeaving, lengthsGood, endedAs, hostCalled, readAs, hostReadOut}
 use Rattle.promise_spec.specs.HostHistory.{changesNoByte}
 use Rattle.host_laws.specs.LengthLaws.{good-lengths}
@@ -75,8 +76,8 @@ module _ (state tree ticket tape trace result : List ℕ) (state-bytes : Bytes s
   one = demand1 (stateIn state) tree ticket (numbersOf tape) (numbersOf trace)
 
   -- The existing call refused with such a number.
-  quiet-refusal : (n : ℕ) → 1 ≤ n → (r : Reply) → e .reply ≡ r → numberOf r ≡ n → changesNoByte n ≡ true → e ≡ refusing n (stateIn state) tree (numbersOf trace)
-  quiet-refusal n some-number (Answered a) er is quiet = let z : ⊥ = omega (arith, is, some-number) in absurd z
+  quiet-refusal : (n : ℕ) → 1 ≤ n → (r : Reply) → e .reply ≡ r → replyNumber r ≡ n → changesNoByte n ≡ true → e ≡ refusing n (stateIn state) tree (numbersOf trace)
+  quiet-refusal n some-number (Answered a) er is quiet = let z : ⊥ = omega (arith, is, answered-number a, some-number) in absurd z
   quiet-refusal n some-number (Refused m) er is quiet = go (changesNothing n) refl (eqb n 18) refl quiet
     where
       number : e .reply ≡ Refused n

@@ -8,11 +8,11 @@ ghost use mathlib.Core.Path.{_≡_};
 ghost use lib.Dec.{eqb};
 ghost use lib.ListN.{length};
 ghost use Rattle.list_spec.specs.Choice.{pick};
-ghost use Rattle.host_spec.specs.Result.{numberOf, answerValue, valueOf, resultLength, resultBytes};
+ghost use Rattle.host_spec.specs.Result.{replyNumber, replyValue, resultLength, resultBytes};
 
 // The number of a refusal, or 0.
 pub fn number_of(reply: Reply) -> u8
-    ensures { λ r. ⌜ r ≡ numberOf reply ⌝ }
+    ensures { λ r. ⌜ r ≡ replyNumber reply ⌝ }
 {
     match reply {
         Reply::Answered(_) => 0,
@@ -21,7 +21,7 @@ pub fn number_of(reply: Reply) -> u8
 }
 
 fn answer_value(answer: Answer) -> Value
-    ensures { λ r. ⌜ r ≡ answerValue answer ⌝ }
+    ensures { λ r. ⌜ r ≡ replyValue (Reply.Answered answer) ⌝ }
 {
     let none = Value { has: 0, value: 0 };
     match answer {
@@ -37,13 +37,12 @@ fn answer_value(answer: Answer) -> Value
         Answer::Queued => none,
         Answer::Dequeued(v) => Value { has: 1, value: v },
         Answer::Empty => none,
-        Answer::Full => none,
     }
 }
 
 // The value of the answer, if it has one.
 pub fn value_of(reply: Reply) -> Value
-    ensures { λ r. ⌜ r ≡ valueOf reply ⌝ }
+    ensures { λ r. ⌜ r ≡ replyValue reply ⌝ }
 {
     let none = Value { has: 0, value: 0 };
     match reply {
@@ -67,7 +66,7 @@ fn put_result(result: &mut [u8], v: Value, leaves: usize, peak: usize)
 // A call that revealed leaves fills the result bytes; else they stay.
 pub fn leave_result(result: &mut [u8], reply: Reply, leaves: usize, peak: usize)
     requires { ⌜ length (now result) ≡ resultLength ⌝ }
-    ensures { λ _. ⌜ now (result .exit) ≡ pick (eqb leaves 0) (now (result .entry)) (resultBytes (valueOf reply) leaves peak) ⌝ }
+    ensures { λ _. ⌜ now (result .exit) ≡ pick (eqb leaves 0) (now (result .entry)) (resultBytes (replyValue reply) leaves peak) ⌝ }
 {
     if leaves == 0 {
         return;

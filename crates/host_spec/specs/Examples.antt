@@ -32,7 +32,7 @@ use Rattle.readout_spec.specs.ReadOut.{readOut, lengthOf}
 use Rattle.lent_bytes_spec.specs.Numbers.{numbersIn, numbersBytes}
 use Rattle.lent_bytes_spec.specs.StateBytes.{headIn, headBytes, placeIn, placesIn, placesBytes, stateIn, stateBytes, slotsSound, fitBytes}
 use Rattle.host_spec.specs.Lengths.{treeLent, tapeLent, traceLent, fileLent}
-use Rattle.host_spec.specs.Result.{numberOf, valueOf, resultBytes}
+use Rattle.host_spec.specs.Result.{replyNumber, replyValue, resultBytes}
 use Rattle.host_spec.specs.Host.{hostOpened, lengthsGood, hostLeaving, hostCalled, hostReadOut}
 
 -- ---- lengths
@@ -52,10 +52,10 @@ lengths-worked = record { trees = refl; tapes = refl; traces = refl; files = ref
 
 -- ---- results
 pub record Results : Type 0 where
-  pub found : resultBytes (valueOf (Answered (Found 258))) 6 3 ≡ 1 ∷ 6 ∷ 3 ∷ 0 ∷ 2 ∷ 1 ∷ replicate 6 0
-  pub absent : resultBytes (valueOf (Answered Absent)) 66 64 ≡ 0 ∷ 66 ∷ 64 ∷ 0 ∷ replicate 8 0
-  pub full-store : resultBytes (valueOf (Refused 10)) 2 1 ≡ 0 ∷ 2 ∷ 1 ∷ 0 ∷ replicate 8 0
-  pub numbers : numberOf (Answered Absent) ∷ numberOf (Refused 10) ∷ [] ≡ 0 ∷ 10 ∷ []
+  pub found : resultBytes (replyValue (Answered (Found 258))) 6 3 ≡ 1 ∷ 6 ∷ 3 ∷ 0 ∷ 2 ∷ 1 ∷ replicate 6 0
+  pub absent : resultBytes (replyValue (Answered Absent)) 66 64 ≡ 0 ∷ 66 ∷ 64 ∷ 0 ∷ replicate 8 0
+  pub full-store : resultBytes (replyValue (Refused 10)) 2 1 ≡ 0 ∷ 2 ∷ 1 ∷ 0 ∷ replicate 8 0
+  pub numbers : replyNumber (Answered Absent) ∷ replyNumber (Refused 10) ∷ [] ≡ 0 ∷ 10 ∷ []
 
 results-worked : Results
 unfolding resultBytes pack bytes

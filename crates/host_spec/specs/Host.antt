@@ -13,7 +13,7 @@ use Rattle.readout_spec.specs.ReadOut as read
 use Rattle.readout_spec.specs.ReadOut.{readOut, lengthOf}
 use Rattle.lent_bytes_spec.specs.Numbers.{numberLength, numbersOf, numbersBytes}
 use Rattle.lent_bytes_spec.specs.StateBytes.{stateLength, headIn, stateIn, stateBytes, fitBytes}
-use Rattle.host_spec.specs.Result.{numberOf, valueOf, resultLength, resultBytes}
+use Rattle.host_spec.specs.Result.{replyNumber, replyValue, resultLength, resultBytes}
 
 -- ---- opening
 pub record HostOpened : Type 0 where
@@ -56,11 +56,11 @@ hostLeaving n state tree trace result = record { number = n; state = state; tree
 abbrev pub endedAs : List ℕ → Ended → HostEnded
 endedAs result e =
     record {
-      number = numberOf (e .reply);
+      number = replyNumber (e .reply);
       state = stateBytes (e .state);
       tree = e .tree;
       trace = numbersBytes (e .trace);
-      result = pick (eqb (e .leaves) 0) result (resultBytes (valueOf (e .reply)) (e .leaves) (e .peak));
+      result = pick (eqb (e .leaves) 0) result (resultBytes (replyValue (e .reply)) (e .leaves) (e .peak));
     }
 
 -- 18 lengths, 1 closed mark, 2 unfit bytes; then "each call means what the existing one means".

@@ -1,17 +1,15 @@
 -- The 12 result bytes of a call, and the number that it returns.
 use Prim.Native.Nat.{ℕ}
 use mathlib.Core.List.{List, [], _∷_}
+use mathlib.Core.Option.{Option, none, some}
 use Rattle.slot_spec.specs.Layout.{pack}
-use Rattle.operation_spec.specs.declared.Answer.{Answer}
-use Rattle.operation_spec.specs.declared.Answer.the-variants.{Found, Absent, Replaced, New, Removed, Pushed, Popped, Added, Taken, Queued, Dequeued, Empty, Full}
 use Rattle.call_spec.specs.declared.Reply.{Reply}
-use Rattle.call_spec.specs.declared.Reply.the-variants.{Answered, Refused}
+use Rattle.call_spec.specs.Store.{replyMeaning}
 use Rattle.host_spec.specs.declared.Value.{Value}
 
 -- "return the refusal number, or 0"
-abbrev pub numberOf : Reply → ℕ
-numberOf (Answered a) = 0
-numberOf (Refused n) = n
+abbrev pub replyNumber : Reply → ℕ
+replyNumber r = replyMeaning r .number
 
 abbrev pub noValue : Value
 noValue = record { has = 0; value = 0 }
@@ -19,24 +17,12 @@ noValue = record { has = 0; value = 0 }
 abbrev pub aValue : ℕ → Value
 aValue v = record { has = 1; value = v }
 
-abbrev pub answerValue : Answer → Value
-answerValue (Found v) = aValue v
-answerValue Absent = noValue
-answerValue (Replaced v) = aValue v
-answerValue New = noValue
-answerValue (Removed v) = aValue v
-answerValue Pushed = noValue
-answerValue (Popped v) = aValue v
-answerValue Added = noValue
-answerValue (Taken v) = aValue v
-answerValue Queued = noValue
-answerValue (Dequeued v) = aValue v
-answerValue Empty = noValue
-answerValue Full = noValue
+abbrev pub resultValue : Option ℕ → Value
+resultValue none = noValue
+resultValue (some v) = aValue v
 
-abbrev pub valueOf : Reply → Value
-valueOf (Answered a) = answerValue a
-valueOf (Refused n) = noValue
+abbrev pub replyValue : Reply → Value
+replyValue r = resultValue (replyMeaning r .value)
 
 -- "1 if its answer has a value, leaves revealed, largest count, a zero byte, then the value (8), each 0 where there is none"
 abbrev pub resultWidths : List ℕ

@@ -13,12 +13,13 @@ use Rattle.operation_spec.specs.declared.Want as want
 use Rattle.map_nodes.specs.declared.Sub.the-variants.{Stub}
 use Rattle.operation_spec.specs.declared.Answer.the-variants.{Absent, Removed}
 use Rattle.map_nodes.specs.declared.Sub as sub
-use Rattle.operation_spec.specs.declared.Answer as answer
+use Rattle.operation_spec.specs.declared.StepAnswer.{StepAnswer}
+use Rattle.operation_spec.specs.declared.StepAnswer.the-variants.{Answered}
 use Rattle.operation_spec.specs.declared.Wanted.{Wanted}
 use Rattle.operation_spec.specs.declared.Wanted.the-variants.{Done, Fetch}
 use Rattle.slot_spec.specs.Slot.{noLink, noNode}
 use Rattle.leaf_spec.specs.Convert.{toLink}
-use Rattle.operation_spec.specs.Method.{toAnswer}
+use Rattle.operation_spec.specs.Method.{toStepAnswer}
 use Rattle.operations.specs.Resume.{resume, unlessMissing}
 use Rattle.node_rows.specs.Held.{Held, nodesOf}
 use Rattle.map_nodes.specs.Method.{toSub}
@@ -39,10 +40,10 @@ unfinishedAt w =
       length = 0;
       at = 0;
       entries = 0;
-      answer = Absent;
+      answer = Answered Absent;
     }
 
-abbrev pub bottomAt : Bool → sub.Sub → (length at entries : ℕ) → answer.Answer → Bottom
+abbrev pub bottomAt : Bool → sub.Sub → (length at entries : ℕ) → StepAnswer → Bottom
 bottomAt rotating b length at entries a =
     record {
       wanted = Done;
@@ -72,7 +73,7 @@ pastFound Done last found entries value h =
       length = last;
       at = last + 1;
       entries = entries;
-      answer = Removed value;
+      answer = Answered (Removed value);
     }
 pastFound (Fetch w) last found entries value h = unfinishedAt w
 
@@ -82,7 +83,7 @@ module _ (key : ℕ) (root : link.Link) (h : Held) where
   wayUp r = upward (r .rotating) (pathTo key h (start (toLink root)) (r .found) (r .length) (r .length)) (toSub (r .sub)) []
 
   abbrev pub upFrom : Bottom → Prog ℕ (Outcome ℕ)
-  upFrom r = bind (wayUp r) (λ b. done (finish (r .entries) (toAnswer (r .answer)) b))
+  upFrom r = bind (wayUp r) (λ b. done (finish (r .entries) (toStepAnswer (r .answer)) b))
 
   -- What the way up asks.
   pub record Ready (r : Bottom) : Type 0 where

@@ -5,6 +5,7 @@ use map_nodes::Sub;
 use node_rows::ROW;
 use node_rows::node_at;
 use operation_spec::Answer;
+use operation_spec::StepAnswer;
 use operation_spec::Want;
 use operation_spec::Wanted;
 use slot_fields::no_link;
@@ -28,7 +29,7 @@ pub struct Bottom {
     pub length: usize,
     pub at: usize,
     pub entries: u16,
-    pub answer: Answer,
+    pub answer: StepAnswer,
 }
 
 // The node that is missing.
@@ -44,7 +45,7 @@ pub fn unfinished(want: Want) -> Bottom
         length: 0,
         at: 0,
         entries: 0,
-        answer: Answer::Absent,
+        answer: StepAnswer::Answered(Answer::Absent),
     }
 }
 
@@ -55,7 +56,7 @@ fn bottom_at(
     length: usize,
     at: usize,
     entries: u16,
-    answer: Answer,
+    answer: StepAnswer,
 ) -> Bottom
     ensures { λ r. ⌜ r ≡ bottomAt rotating sub length at entries answer ⌝ }
 {
@@ -72,7 +73,7 @@ fn bottom_at(
 }
 
 // The place where the key would be, with its link as it is.
-pub fn at_gap(want: Want, depth: usize, entries: u16, answer: Answer) -> Bottom
+pub fn at_gap(want: Want, depth: usize, entries: u16, answer: StepAnswer) -> Bottom
     ensures { λ r. ⌜ r ≡ bottomAt false (Sub.Stub (want .link)) depth depth entries answer ⌝ }
 {
     let link = want.link;
@@ -80,7 +81,7 @@ pub fn at_gap(want: Want, depth: usize, entries: u16, answer: Answer) -> Bottom
 }
 
 // The node with the key, as it is.
-pub fn at_node(n: Node, depth: usize, entries: u16, answer: Answer) -> Bottom
+pub fn at_node(n: Node, depth: usize, entries: u16, answer: StepAnswer) -> Bottom
     requires { ⌜ depth < fetches ⌝ }
     ensures { λ r. ⌜ r ≡ bottomAt false (Sub.Top n Kid.Away Kid.Away) depth (depth + 1) entries answer ⌝ }
 {
@@ -115,7 +116,7 @@ pub fn past_found(
                 length: last,
                 at: last + 1,
                 entries,
-                answer: Answer::Removed(value),
+                answer: StepAnswer::Answered(Answer::Removed(value)),
             }
         }
     }
@@ -137,17 +138,24 @@ pub fn leaf(key: u32, value: u64, tag: u16) -> Node
 // A new node where the key would be.
 pub fn added(key: u32, value: u64, tag: u16, depth: usize, entries: u16) -> Bottom
     requires { ⌜ entries < 65535 ⌝ }
-    ensures { λ r. ⌜ r ≡ bottomAt true (Sub.Top (leafOf key value tag) Kid.Away Kid.Away) depth depth (entries + 1) Answer.New ⌝ }
+    ensures { λ r. ⌜ r ≡ bottomAt true (Sub.Top (leafOf key value tag) Kid.Away Kid.Away) depth depth (entries + 1) (StepAnswer.Answered Answer.New) ⌝ }
 {
     let n = leaf(key, value, tag);
     let sub = Sub::Top(n, Kid::Away, Kid::Away);
-    bottom_at(true, sub, depth, depth, entries + 1, Answer::New)
+    bottom_at(
+        true,
+        sub,
+        depth,
+        depth,
+        entries + 1,
+        StepAnswer::Answered(Answer::New),
+    )
 }
 
 // The node with the key, with the new value.
 pub fn replaced(n: Node, value: u64, depth: usize, entries: u16) -> Bottom
     requires { ⌜ depth < fetches ⌝ }
-    ensures { λ r. ⌜ r ≡ bottomAt false (Sub.Top (valued value n) Kid.Away Kid.Away) depth (depth + 1) entries (Answer.Replaced (n .value)) ⌝ }
+    ensures { λ r. ⌜ r ≡ bottomAt false (Sub.Top (valued value n) Kid.Away Kid.Away) depth (depth + 1) entries (StepAnswer.Answered (Answer.Replaced (n .value))) ⌝ }
 {
     let mut m = n;
     m.value = value;
@@ -157,15 +165,22 @@ pub fn replaced(n: Node, value: u64, depth: usize, entries: u16) -> Bottom
         depth,
         depth + 1,
         entries,
-        Answer::Replaced(n.value),
+        StepAnswer::Answered(Answer::Replaced(n.value)),
     )
 }
 
 // The place of the node with the key: its only child's link, or an absent one, takes that.
 pub fn taken_out(child: Link, depth: usize, entries: u16, value: u64) -> Bottom
     requires { ⌜ depth < fetches ⌝ }
-    ensures { λ r. ⌜ r ≡ bottomAt true (Sub.Stub child) depth (depth + 1) entries (Answer.Removed value) ⌝ }
+    ensures { λ r. ⌜ r ≡ bottomAt true (Sub.Stub child) depth (depth + 1) entries (StepAnswer.Answered (Answer.Removed value)) ⌝ }
 {
     let sub = Sub::Stub(child);
-    bottom_at(true, sub, depth, depth + 1, entries, Answer::Removed(value))
+    bottom_at(
+        true,
+        sub,
+        depth,
+        depth + 1,
+        entries,
+        StepAnswer::Answered(Answer::Removed(value)),
+    )
 }

@@ -17,11 +17,11 @@ use Rattle.slot_spec.specs.declared.Link as link
 use Rattle.slot_spec.specs.declared.Node as node
 use Rattle.slot_spec.specs.Slot.{noNode}
 use Rattle.map_nodes.specs.declared.Sub as sub
-use Rattle.operation_spec.specs.declared.Answer as answer
+use Rattle.operation_spec.specs.declared.StepAnswer.{StepAnswer}
 use Rattle.operation_spec.specs.declared.Wanted.{Wanted}
 use Rattle.operation_spec.specs.declared.Wanted.the-variants.{Done, Fetch}
 use Rattle.leaf_spec.specs.Convert.{toLink, toNode}
-use Rattle.operation_spec.specs.Method.{toWant, toAnswer}
+use Rattle.operation_spec.specs.Method.{toWant, toStepAnswer}
 use Rattle.operations.specs.Resume.{Resumed, resume, follow, resumedAs}
 use Rattle.operations.specs.ResumeLaws.{resume-bind}
 use Rattle.node_rows.specs.Heights.{Low}
@@ -124,10 +124,10 @@ module _ {key : ℕ} {root : link.Link} {h : Held} (walks : Walks root h) {d : D
     starts-missing e g =
         record { resumes = spot e ∙ rw g; ready = λ x. let z : _≡_ {A = ℕ} 0 1 = cc in absurd (omega arith) }
 
-    module _ {rotating : Bool} {b : sub.Sub} {entries : ℕ} {a : answer.Answer} {r : Bottom} where
+    module _ {rotating : Bool} {b : sub.Sub} {entries : ℕ} {a : StepAnswer} {r : Bottom} where
       starts-at : (at : ℕ) (s : Spot ℕ) → resume (walking key (toLink root) f) (nodesOf h) ≡ resume (f s) (drop at (nodesOf h))
           → r ≡ bottomAt rotating b (d .depth) at entries a → d .depth ≤ at → at ≤ h .count → LowSub 100 (toSub b) → weight (toSub b) ≡ 1
-          → f s ≡ way rotating passes (toSub b) entries (toAnswer a) → StartsUp key root h (walking key (toLink root) f) r
+          → f s ≡ way rotating passes (toSub b) entries (toStepAnswer a) → StartsUp key root h (walking key (toLink root) f) r
       unfolding passes
       starts-at at s p g past within low bare q =
           rw g
@@ -138,7 +138,7 @@ module _ {key : ℕ} {root : link.Link} {h : Held} (walks : Walks root h) {d : D
 
       pub starts-gap : d .end ≡ Gap → r ≡ bottomAt rotating b (d .depth) (d .depth) entries a → LowSub 100 (toSub b) → weight (toSub b) ≡ 1
           → f (gap (toLink (d .want .link)) (trail h (start (toLink root)) (byKey key h) (d .depth)))
-          ≡ way rotating (trail h (start (toLink root)) (byKey key h) (d .depth)) (toSub b) entries (toAnswer a)
+          ≡ way rotating (trail h (start (toLink root)) (byKey key h) (d .depth)) (toSub b) entries (toStepAnswer a)
           → StartsUp key root h (walking key (toLink root) f) r
       unfolding passes
       starts-gap e g =
@@ -148,7 +148,7 @@ module _ {key : ℕ} {root : link.Link} {h : Held} (walks : Walks root h) {d : D
       pub starts-hit : {n : node.Node} → d .end ≡ Hit → n ≡ getD (h .nodes) (d .depth) noNode
           → r ≡ bottomAt rotating b (d .depth) (d .depth + 1) entries a → LowSub 100 (toSub b) → weight (toSub b) ≡ 1
           → f (hit (toWant (d .want)) (toNode n) (trail h (start (toLink root)) (byKey key h) (d .depth)))
-          ≡ way rotating (trail h (start (toLink root)) (byKey key h) (d .depth)) (toSub b) entries (toAnswer a)
+          ≡ way rotating (trail h (start (toLink root)) (byKey key h) (d .depth)) (toSub b) entries (toStepAnswer a)
           → StartsUp key root h (walking key (toLink root) f) r
       unfolding passes
       starts-hit {n} e is g =

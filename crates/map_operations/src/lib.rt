@@ -13,6 +13,7 @@ use map_descent::descend::next_larger;
 use node_rows::ROW;
 use node_rows::node_at;
 use operation_spec::Answer;
+use operation_spec::StepAnswer;
 use operations::one_less;
 use slot_spec::Link;
 ghost use mathlib.Core.Path.{_≡_};
@@ -35,10 +36,15 @@ pub fn get(key: u32, entries: u16, root: Link, held: &[u64; ROW], count: usize) 
     let end = d.end;
     match end {
         End::Missing => unfinished(want),
-        End::Gap => at_gap(want, depth, entries, Answer::Absent),
+        End::Gap => at_gap(want, depth, entries, StepAnswer::Answered(Answer::Absent)),
         End::Hit => {
             let n = node_at(held, depth);
-            at_node(n, depth, entries, Answer::Found(n.value))
+            at_node(
+                n,
+                depth,
+                entries,
+                StepAnswer::Answered(Answer::Found(n.value)),
+            )
         }
     }
 }
@@ -67,7 +73,7 @@ pub fn put(
             if entries < limit {
                 return added(key, value, tag, depth, entries);
             }
-            at_gap(want, depth, entries, Answer::Full)
+            at_gap(want, depth, entries, StepAnswer::Full)
         }
         End::Hit => {
             let n = node_at(held, depth);
@@ -87,7 +93,7 @@ pub fn remove(key: u32, entries: u16, root: Link, held: &[u64; ROW], count: usiz
     let end = d.end;
     match end {
         End::Missing => unfinished(want),
-        End::Gap => at_gap(want, depth, entries, Answer::Absent),
+        End::Gap => at_gap(want, depth, entries, StepAnswer::Answered(Answer::Absent)),
         End::Hit => {
             let n = node_at(held, depth);
             let left = n.left;

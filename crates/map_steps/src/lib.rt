@@ -9,6 +9,7 @@ use map_nodes::subtree::top_of;
 use node_rows::ROW;
 use operation_spec::Answer;
 use operation_spec::Outcome;
+use operation_spec::StepAnswer;
 use operation_spec::Wanted;
 use operations::no_nodes;
 use slot_spec::Link;
@@ -17,8 +18,9 @@ ghost use Prim.Native.Nat.{_≤_};
 ghost use lib.ListN.{length};
 ghost use Rattle.method_spec.specs.Map as map;
 ghost use Rattle.leaf_spec.specs.Convert.{toLink};
-ghost use Rattle.operation_spec.specs.Method.{toAnswer, toOutcome, toWanted};
-ghost use Rattle.operations.specs.Resume.{wantedOf, outcomeOf};
+ghost use Rattle.operation_spec.specs.Method.{toStepAnswer, toOutcome, toWanted};
+ghost use Rattle.operations.specs.Resume.{outcomeOf};
+ghost use Rattle.operations.specs.Resume.{wantedOf};
 ghost use Rattle.node_rows.specs.Row.{places, words};
 ghost use Rattle.node_rows.specs.Held.{heldIn, nodesOf};
 ghost use Rattle.map_descent.specs.Walk.{Walks};
@@ -27,9 +29,9 @@ ghost use Rattle.map_ascent.specs.Climb.{climbedIn};
 ghost use Rattle.map_steps.specs.Outcome.{RoomToFinish, fromBottom};
 
 // The outcome of a climb that came to its end: the nodes at hand there are done with too.
-fn finish(c: Climbed, entries: u16, answer: Answer, made: &mut [u64; ROW]) -> Outcome
+fn finish(c: Climbed, entries: u16, answer: StepAnswer, made: &mut [u64; ROW]) -> Outcome
     requires { ⌜ RoomToFinish (now made) c ⌝ }
-    ensures { λ r. ⌜ (toOutcome r (nodesOf (heldIn (now (made .exit)) (r .made))) ≡ map.finish entries (toAnswer answer) (climbedIn (now (made .entry)) c)) × ((r .made ≤ places) × (length (now (made .exit)) ≡ words)) ⌝ }
+    ensures { λ r. ⌜ (toOutcome r (nodesOf (heldIn (now (made .exit)) (r .made))) ≡ map.finish entries (toStepAnswer answer) (climbedIn (now (made .entry)) c)) × ((r .made ≤ places) × (length (now (made .exit)) ≡ words)) ⌝ }
 {
     let sub = c.sub;
     let left = kid_of(true, sub);
@@ -85,12 +87,12 @@ pub fn map_step(
 {
     let wanted = b.wanted;
     if let Wanted::Fetch(_) = wanted {
-        return no_nodes(root, entries, Answer::Absent);
+        return no_nodes(root, entries, StepAnswer::Answered(Answer::Absent));
     }
     let c = climb(b, key, root, held, count, made);
     let still = c.wanted;
     if let Wanted::Fetch(_) = still {
-        return no_nodes(root, entries, Answer::Absent);
+        return no_nodes(root, entries, StepAnswer::Answered(Answer::Absent));
     }
     let answer = b.answer;
     finish(c, b.entries, answer, made)

@@ -1,5 +1,6 @@
--- The structures, what a ticket asks of each, and the answers with the paper's number and value of each.
+-- The structures, what a ticket asks of each, and the answers with the number, value and word of each.
 use Prim.Native.Nat.{ℕ}
+use Prim.Native.String.{String}
 use mathlib.Core.Option.{Option, none, some}
 
 pub data Structure : Type 0 where
@@ -36,34 +37,24 @@ pub data Answer : Type 0 where
   empty : Answer
   full : Answer
 
--- The number that a call returns with each answer: 10 for a full store, 0 for all others.
-unfoldable pub numberOf : Answer → ℕ
-numberOf (found v) = 0
-numberOf absent = 0
-numberOf (replaced v) = 0
-numberOf new = 0
-numberOf (removed v) = 0
-numberOf pushed = 0
-numberOf (popped v) = 0
-numberOf added = 0
-numberOf (taken v) = 0
-numberOf queued = 0
-numberOf (dequeued v) = 0
-numberOf empty = 0
-numberOf full = 10
+-- "For every case of an enum answer, a definition gives this paper's number and values": the number that a call returns, 10
+-- for a full store and 0 else, and the answer's value, if it has one. The word is the walk program's.
+pub record Meaning : Type 0 where
+  pub number : ℕ
+  pub value : Option ℕ
+  pub word : String
 
--- The value of each answer that has one.
-unfoldable pub valueOf : Answer → Option ℕ
-valueOf (found v) = some v
-valueOf absent = none
-valueOf (replaced v) = some v
-valueOf new = none
-valueOf (removed v) = some v
-valueOf pushed = none
-valueOf (popped v) = some v
-valueOf added = none
-valueOf (taken v) = some v
-valueOf queued = none
-valueOf (dequeued v) = some v
-valueOf empty = none
-valueOf full = none
+abbrev pub meaning : Answer → Meaning
+meaning (found v) = record { number = 0; value = some v; word = "found" }
+meaning absent = record { number = 0; value = none; word = "absent" }
+meaning (replaced v) = record { number = 0; value = some v; word = "replaced" }
+meaning new = record { number = 0; value = none; word = "new" }
+meaning (removed v) = record { number = 0; value = some v; word = "removed" }
+meaning pushed = record { number = 0; value = none; word = "pushed" }
+meaning (popped v) = record { number = 0; value = some v; word = "popped" }
+meaning added = record { number = 0; value = none; word = "added" }
+meaning (taken v) = record { number = 0; value = some v; word = "taken" }
+meaning queued = record { number = 0; value = none; word = "queued" }
+meaning (dequeued v) = record { number = 0; value = some v; word = "dequeued" }
+meaning empty = record { number = 0; value = none; word = "empty" }
+meaning full = record { number = 10; value = none; word = "refused" }

@@ -357,6 +357,13 @@ plain-queue : plainAnswers 2 (enqueue 3 ∷ enqueue 5 ∷ enqueue 9 ∷ dequeue 
 unfolding plainAnswers plain dequeued-from
 plain-queue = refl
 
+-- What the answers of such a queue with one place mean: the second in is the number 10, the out tells the value.
+plain-queue-means : list.map answers.meaning (plainAnswers 1 (enqueue 3 ∷ enqueue 5 ∷ dequeue ∷ []) [])
+    ≡ record { number = 0; value = none; word = "queued" } ∷ record { number = 10; value = none; word = "refused" }
+    ∷ record { number = 0; value = some 3; word = "dequeued" } ∷ []
+unfolding plainAnswers plain dequeued-from
+plain-queue-means = refl
+
 -- What a plain queue of 7 and 8 holds, as pairs, where the oldest has key 4.
 queue-pairs : Entries queue (7 ∷ 8 ∷ []) (record { key = 4; value = 7 } ∷ record { key = 5; value = 8 } ∷ [])
 unfolding inRow

@@ -8,7 +8,9 @@ use Rattle.leaf_spec.specs.Convert.{toLink, toAhead}
 use Rattle.operation_spec.specs.declared.Op as op
 use Rattle.operation_spec.specs.declared.Op.the-variants.{Get, Put, Remove, Push, Pop, Add, Take, Enqueue, Dequeue}
 use Rattle.operation_spec.specs.declared.Answer as answer
-use Rattle.operation_spec.specs.declared.Answer.the-variants.{Found, Absent, Replaced, New, Removed, Pushed, Popped, Added, Taken, Queued, Dequeued, Empty, Full}
+use Rattle.operation_spec.specs.declared.Answer.the-variants.{Found, Absent, Replaced, New, Removed, Pushed, Popped, Added, Taken, Queued, Dequeued, Empty}
+use Rattle.operation_spec.specs.declared.StepAnswer.{StepAnswer}
+use Rattle.operation_spec.specs.declared.StepAnswer.the-variants.{Answered, Full}
 use Rattle.operation_spec.specs.declared.From as from
 use Rattle.operation_spec.specs.declared.From.the-variants.{Root, Side}
 use Rattle.operation_spec.specs.declared.Bound.{Bound}
@@ -73,7 +75,10 @@ toAnswer (Taken v) = method.taken v
 toAnswer Queued = method.queued
 toAnswer (Dequeued v) = method.dequeued v
 toAnswer Empty = method.empty
-toAnswer Full = method.full
+
+abbrev pub toStepAnswer : StepAnswer → Answer
+toStepAnswer (Answered a) = toAnswer a
+toStepAnswer Full = method.full
 
 -- ---- a program, what it wants next, and its outcome
 
@@ -98,7 +103,7 @@ wantedIn (want w k) = some w
 
 -- A step's outcome, with the nodes that it made.
 abbrev pub toOutcome : outcome.Outcome → List (Node ℕ) → Outcome ℕ
-toOutcome o ns = record { nodes = ns; root = toLink (o .root); entries = o .entries; answer = toAnswer (o .answer) }
+toOutcome o ns = record { nodes = ns; root = toLink (o .root); entries = o .entries; answer = toStepAnswer (o .answer) }
 
 -- No nodes, with that root link, entries and answer.
 abbrev pub nothing : Link ℕ → ℕ → Answer → Outcome ℕ

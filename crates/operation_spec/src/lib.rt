@@ -28,6 +28,11 @@ pub enum Answer {
     Queued,
     Dequeued(u64),
     Empty,
+}
+
+// What a step answers: a full store's put, push, add and enqueue have an answer that a call tells as a refusal.
+pub enum StepAnswer {
+    Answered(Answer),
     Full,
 }
 
@@ -69,5 +74,5 @@ pub struct Outcome {
     pub made: usize,
     pub root: Link,
     pub entries: u16,
-    pub answer: Answer,
+    pub answer: StepAnswer,
 }

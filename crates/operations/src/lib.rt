@@ -1,8 +1,8 @@
 // What the operations of the structures share.
-use operation_spec::Answer;
 use operation_spec::Bound;
 use operation_spec::From;
 use operation_spec::Outcome;
+use operation_spec::StepAnswer;
 use operation_spec::Want;
 use slot_spec::Link;
 ghost use mathlib.Core.Path.{_≡_};
@@ -34,7 +34,7 @@ pub fn one_less(entries: u16) -> u16
 }
 
 // A step that makes no nodes.
-pub fn no_nodes(root: Link, entries: u16, answer: Answer) -> Outcome
+pub fn no_nodes(root: Link, entries: u16, answer: StepAnswer) -> Outcome
     ensures { λ r. ⌜ r ≡ record { made = 0; root = root; entries = entries; answer = answer } ⌝ }
 {
     Outcome {

@@ -22,7 +22,7 @@ use Rattle.readout_spec.specs.ReadOut.{fileOf, writing}
 use Rattle.readout_spec.specs.ReadBack.{readBack}
 use Rattle.lent_bytes_spec.specs.Numbers.{numbersOf}
 use Rattle.lent_bytes_spec.specs.StateBytes.{stateLength, stateIn, fitBytes}
-use Rattle.host_spec.specs.Result.{valueOf, resultBytes}
+use Rattle.host_spec.specs.Result.{replyValue, resultBytes}
 use Rattle.host_spec.specs.Host.{HostEnded, lengthsGood, hostLeaving, hostCalled, hostOpened, readAs, hostReadOut}
 use Rattle.demand_spec.specs.History.{opsIn, tapesOf, pairsIn, numberOf}
 use Rattle.demand_spec.specs.Demands.{NoneLost, RoundTrip, fetching}
@@ -54,7 +54,7 @@ module _ (state tree ticket tape trace result : List ℕ) where
     pub some-leaf : 1 ≤ existing .leaves
     pub leaves-fit : existing .leaves < 256
     pub peak-fits : existing .peak < 256
-    pub filled : hostEnds .result ≡ resultBytes (valueOf (existing .reply)) (existing .leaves) (existing .peak)
+    pub filled : hostEnds .result ≡ resultBytes (replyValue (existing .reply)) (existing .leaves) (existing .peak)
 
   pub record HostDemand1 : Type 0 where
     -- 0, or one refusal 1 to 10, 17, 18 or 19.

@@ -12,7 +12,7 @@ use Rattle.call_spec.specs.declared.Reply.{Reply}
 use Rattle.call_spec.specs.Store.{Ended}
 use Rattle.lent_bytes_spec.specs.Numbers.{numbersOf}
 use Rattle.lent_bytes_spec.specs.StateBytes.{stateLength, headIn, stateBytes}
-use Rattle.host_spec.specs.Result.{numberOf, valueOf}
+use Rattle.host_spec.specs.Result.{replyNumber, replyValue}
 use Rattle.host_spec.specs.Host.{HostEnded, lengthsGood, hostLeaving, endedAs, hostCalled}
 use Rattle.demand_spec.specs.History.{Brought, Kept, callOn, leftBy, history, finally, untilClosed, changesNothing, counted, replies, traceOf}
 
@@ -89,7 +89,7 @@ hostReplyIn e = record { number = e .number; has = take 1 (e .result); value = d
 
 -- The same of a reply of the existing call.
 abbrev pub hostReplyOf : Reply → HostReply
-hostReplyOf r = record { number = numberOf r; has = bytes 1 (valueOf r .has); value = bytes 8 (valueOf r .value) }
+hostReplyOf r = record { number = replyNumber r; has = bytes 1 (replyValue r .has); value = bytes 8 (replyValue r .value) }
 
 unfoldable pub hostReplies : List HostEnded → List HostReply
 hostReplies [] = []

@@ -27,7 +27,7 @@ use Rattle.byte_states.specs.HeadLaws.{Refuses, closed, unfit, neither, refuses
 use Rattle.call_ending.specs.declared.Ran.{Ran}
 use Rattle.call_core.specs.Run.{StandsFor, leftOf, CallsAs}
 use Rattle.host_calls.specs.Left.{coreHead, Saves}
-use Rattle.host_spec.specs.Result.{numberOf, valueOf, resultBytes}
+use Rattle.host_spec.specs.Result.{replyNumber, replyValue, resultBytes}
 use Rattle.host_spec.specs.Host.{hostLeaving, lengthsGood, endedAs, hostCalled}
 
 -- ---- the refusals
@@ -149,8 +149,8 @@ module _ (state tree ticket tape trace result : List ℕ) where
           trace-left-so : length trace % numberLength ≡ 0 → trace′ ≡ numbersBytes (numbersOf trace′)
           trace-left-so even = sym (numbers-written (length trace′ / 2) trace′ trace-bytes (omega (arith, same, even)))
 
-          pub call-ends : (number : ℕ) (left filled : List ℕ) → number ≡ numberOf (r .reply) → left ≡ pick (r .ran) (stateBytes after) state
-              → filled ≡ pick (eqb (r .leaves) 0) result (resultBytes (valueOf (r .reply)) (r .leaves) (r .peak))
+          pub call-ends : (number : ℕ) (left filled : List ℕ) → number ≡ replyNumber (r .reply) → left ≡ pick (r .ran) (stateBytes after) state
+              → filled ≡ pick (eqb (r .leaves) 0) result (resultBytes (replyValue (r .reply)) (r .leaves) (r .peak))
               → hostLeaving number left tree′ trace′ filled ≡ hostCalled state tree ticket tape trace result
           unfolding hostCalled
           call-ends number left filled en el ef =

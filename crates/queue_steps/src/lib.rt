@@ -6,6 +6,7 @@ use node_rows::set_node;
 use operation_spec::Answer;
 use operation_spec::Outcome;
 use operation_spec::Spares;
+use operation_spec::StepAnswer;
 use operation_spec::Want;
 use operation_spec::Wanted;
 use operations::no_nodes;
@@ -104,7 +105,7 @@ pub fn enqueue(
     ensures { λ r. ⌜ ((ns : List (method.Node ℕ)) → toOutcome r (nodesOf (heldIn (now (made .exit)) (r .made))) ≡ outcomeOf (toLink root) entries (resume (enqueueProg 0 value (spares .first) (spares .second) entries limit (toAhead (spares .ahead)) (toLink root)) ns)) × ((r .made ≤ 1) × (length (now (made .exit)) ≡ words)) ⌝ }
 {
     if entries >= limit {
-        return no_nodes(root, entries, Answer::Full);
+        return no_nodes(root, entries, StepAnswer::Full);
     }
     let n = newest(value, spares, entries);
     set_node(made, 0, n);
@@ -113,7 +114,7 @@ pub fn enqueue(
         made: 1,
         root: root_after_in(entries, root, n),
         entries: more,
-        answer: Answer::Queued,
+        answer: StepAnswer::Answered(Answer::Queued),
     }
 }
 
@@ -162,14 +163,18 @@ pub fn dequeue(entries: u16, root: Link, held: &[u64; ROW], count: usize) -> Out
     ensures { λ r. ⌜ (toOutcome r [] ≡ outcomeOf (toLink root) entries (resume (dequeueProg 0 entries (toLink root)) (nodesOf (heldIn (now (held .entry)) count)))) × (r .made ≡ 0) ⌝ }
 {
     if entries == 0 {
-        return no_nodes(root, entries, Answer::Empty);
+        return no_nodes(root, entries, StepAnswer::Answered(Answer::Empty));
     }
     if count == 0 {
-        return no_nodes(root, entries, Answer::Absent);
+        return no_nodes(root, entries, StepAnswer::Answered(Answer::Absent));
     }
     let n = node_at(held, 0);
     let link = root_after_out(entries, n.left);
-    no_nodes(link, one_less(entries), Answer::Dequeued(n.value))
+    no_nodes(
+        link,
+        one_less(entries),
+        StepAnswer::Answered(Answer::Dequeued(n.value)),
+    )
 }
 
 // What is known ahead after an out: the tag is dropped when the queue empties, the next unused key stays.

@@ -4,6 +4,7 @@ use node_rows::node_at;
 use node_rows::set_node;
 use operation_spec::Answer;
 use operation_spec::Outcome;
+use operation_spec::StepAnswer;
 use operation_spec::Want;
 use operation_spec::Wanted;
 use operations::no_nodes;
@@ -37,7 +38,7 @@ pub fn push(
     ensures { λ r. ⌜ ((ns : List (method.Node ℕ)) → toOutcome r (nodesOf (heldIn (now (made .exit)) (r .made))) ≡ outcomeOf (toLink root) entries (resume (pushProg 0 value tag entries limit (toLink root)) ns)) × ((r .made ≤ 1) × (length (now (made .exit)) ≡ words)) ⌝ }
 {
     if entries >= limit {
-        return no_nodes(root, entries, Answer::Full);
+        return no_nodes(root, entries, StepAnswer::Full);
     }
     let more = entries + 1;
     let key = more as u32;
@@ -58,7 +59,7 @@ pub fn push(
         made: 1,
         root: top,
         entries: more,
-        answer: Answer::Pushed,
+        answer: StepAnswer::Answered(Answer::Pushed),
     }
 }
 
@@ -82,14 +83,18 @@ pub fn pop(entries: u16, root: Link, held: &[u64; ROW], count: usize) -> Outcome
     ensures { λ r. ⌜ (toOutcome r [] ≡ outcomeOf (toLink root) entries (resume (popProg entries (toLink root)) (nodesOf (heldIn (now (held .entry)) count)))) × (r .made ≡ 0) ⌝ }
 {
     if root.height == 0 {
-        return no_nodes(root, entries, Answer::Empty);
+        return no_nodes(root, entries, StepAnswer::Answered(Answer::Empty));
     }
     if count == 0 {
-        return no_nodes(root, entries, Answer::Absent);
+        return no_nodes(root, entries, StepAnswer::Answered(Answer::Absent));
     }
     let n = node_at(held, 0);
     let link = n.left;
-    no_nodes(link, one_less(entries), Answer::Popped(n.value))
+    no_nodes(
+        link,
+        one_less(entries),
+        StepAnswer::Answered(Answer::Popped(n.value)),
+    )
 }
 
 // The stack's fetch test: no right link, and a left link of height 1 to the key before, absent exactly at key 1.

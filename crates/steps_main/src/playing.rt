@@ -7,9 +7,9 @@ use fetch_tests::passes;
 use node_rows::FETCHES;
 use node_rows::ROW;
 use node_rows::set_node;
-use operation_spec::Answer;
 use operation_spec::Op;
 use operation_spec::Spares;
+use operation_spec::StepAnswer;
 use operation_spec::Wanted;
 use slot_spec::Ahead;
 use structures::step;
@@ -26,7 +26,7 @@ const LIMIT: u16 = 15;
 // What a call leaves and answers.
 pub struct Done {
     pub memory: Memory,
-    pub answer: Answer,
+    pub answer: StepAnswer,
 }
 
 // The nodes still in memory, and how many the call holds.

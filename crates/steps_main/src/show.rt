@@ -3,6 +3,7 @@ use super::memory::Memory;
 use super::memory::next_from;
 use libc::STDOUT_FILENO;
 use operation_spec::Answer;
+use operation_spec::StepAnswer;
 use slot_spec::Link;
 use slot_spec::Node;
 ghost use Prim.Native.Nat.{_≤_};
@@ -34,7 +35,7 @@ pub fn print_call(sign: u8, character: u8) {
     text(b" ");
 }
 
-pub fn print_answer(answer: Answer) {
+fn print_answered(answer: Answer) {
     match answer {
         Answer::Found(v) => valued(b"found ", v),
         Answer::Absent => text(b"absent\n"),
@@ -48,7 +49,13 @@ pub fn print_answer(answer: Answer) {
         Answer::Queued => text(b"queued\n"),
         Answer::Dequeued(v) => valued(b"dequeued ", v),
         Answer::Empty => text(b"empty\n"),
-        Answer::Full => text(b"full\n"),
+    }
+}
+
+pub fn print_answer(answer: StepAnswer) {
+    match answer {
+        StepAnswer::Answered(told) => print_answered(told),
+        StepAnswer::Full => text(b"full\n"),
     }
 }
 

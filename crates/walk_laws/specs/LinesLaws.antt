@@ -6,16 +6,16 @@ use Prim.Native.Nat.{ℕ, zero, suc, _+_, _-_, _*_, _/_, _%_, _^_, _≤_, _<_}
 use native.Mathlib.Nat.{pow-suc, zero-add}
 use native.Mathlib.Numerals.{add-one}
 use native.Mathlib.Omega.{arith}
-use borrow.Author.Tests.{lt-ltb}
+use borrow.Author.Tests.{lt-ltb, ne-eqb}
 use lib.ListN.{length, getD, take, drop, set, length-append, length-take, length-drop, take-append-drop, drop-of-length-le}
 use lib.Seq.{take-suc, take-all, take-length, drop-drop, sets-eq, length-sets}
 use Rattle.io.specs.Counts.{Counts}
 use Rattle.io.specs.Digits.{digits, glyph, Fewest}
 use Rattle.slot_laws.specs.WordLaws.{sets-append}
-use Rattle.operation_spec.specs.declared.Answer.the-variants.{Found, Absent, Replaced, New, Removed, Pushed, Popped, Added, Taken, Queued, Dequeued, Empty, Full}
+use Rattle.operation_spec.specs.declared.Answer.the-variants.{Found, Absent, Replaced, New, Removed, Pushed, Popped, Added, Taken, Queued, Dequeued, Empty}
 use Rattle.call_spec.specs.declared.Reply.{Reply}
 use Rattle.call_spec.specs.declared.Reply.the-variants.{Answered, Refused}
-use Rattle.walk_spec.specs.Lines.{blank, newline, digit, leading, decimal, numbers, replyWord, replyValue, lineOf, longestLine, mostLeaves, Put}
+use Rattle.walk_spec.specs.Lines.{blank, newline, digit, leading, decimal, numbers, replyWord, replyShown, lineOf, longestLine, mostLeaves, Put}
 
 -- ---- how long numbers are
 leading-length : (more n k : ℕ) → n < 10 ^ k → length (leading more n) ≤ k
@@ -194,8 +194,12 @@ word-length (Answered (Taken v)) = omega arith
 word-length (Answered Queued) = omega arith
 word-length (Answered (Dequeued v)) = omega arith
 word-length (Answered Empty) = omega arith
-word-length (Answered Full) = omega arith
 word-length (Refused n) = omega arith
+
+-- A refusal's line shows its number.
+pub refused-shown : (n : ℕ) → replyShown (Refused n) ≡ n
+refused-shown zero = refl
+refused-shown (suc n) = rw (ne-eqb (suc n) 0 (λ e. omega (arith, e)))
 
 -- The first numbers of a trace buffer are leaves too.
 pub first-leaves : (trace : List ℕ) (n : ℕ) → ((i : ℕ) → getD trace i 0 < 2 ^ 16) → (i : ℕ) → getD (take n trace) i 0 < 2 ^ 16
@@ -216,8 +220,8 @@ module _ (reply : Reply) {a b : List ℕ} {word : ℕ} (w : Put (replyWord reply
 
 -- The line is put part by part.
 module _ (reply : Reply) (leaves : List ℕ) {a b c d e : List ℕ} {word value end all : ℕ} where
-  pub line-put : Put (replyWord reply) 0 a b word → Put (numbers (replyValue reply ∷ [])) word b c value → Put (numbers leaves) value c d end
+  pub line-put : Put (replyWord reply) 0 a b word → Put (numbers (replyShown reply ∷ [])) word b c value → Put (numbers leaves) value c d end
       → Put (newline ∷ []) end d e all → Put (lineOf reply leaves) 0 a e all
   unfolding lineOf
   line-put w v n t =
-      rw (numbers-append (replyValue reply ∷ []) leaves, append-assoc) (put-then w (put-then v (put-then n t)))
+      rw (numbers-append (replyShown reply ∷ []) leaves, append-assoc) (put-then w (put-then v (put-then n t)))

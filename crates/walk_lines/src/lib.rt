@@ -1,5 +1,5 @@
 // The lines that the walk program prints, each with its newline. They return the line's length.
-use answer_values::reply_value;
+use answer_values::reply_shown;
 use answer_words::reply_word;
 use call_spec::Reply;
 use text_writer::put_leaves;
@@ -29,7 +29,7 @@ pub fn line(reply: Reply, n: usize, trace: &[u16], out: &mut [u8]) -> usize
     ensures { λ r. ⌜ (r ≡ length (lineOf reply (take n (now (trace .entry))))) × (now (out .exit) ≡ lineOf reply (take n (now (trace .entry))) ++ drop r (now (out .entry))) ⌝ }
 {
     let word = reply_word(reply, out);
-    let value = put_number(reply_value(reply), out, word);
+    let value = put_number(reply_shown(reply), out, word);
     let leaves = put_leaves(first(trace, n), out, value);
     put_text(b"\n", out, leaves)
 }

@@ -4,12 +4,14 @@ use Prim.Native.Char.{code}
 use Prim.Native.String.{String, [] as nothing, _∷_ as _then_}
 use mathlib.Core.Path.{_≡_}
 use mathlib.Core.List.{List, [], _∷_, _++_}
+use mathlib.Core.Option.{Option, none, some}
+use lib.Dec.{eqb}
 use lib.ListN.{length}
 use lib.Seq.{sets}
-use Rattle.operation_spec.specs.declared.Answer.{Answer}
-use Rattle.operation_spec.specs.declared.Answer.the-variants.{Found, Absent, Replaced, New, Removed, Pushed, Popped, Added, Taken, Queued, Dequeued, Empty, Full}
+use Rattle.list_spec.specs.Choice.{pick}
+use Rattle.method_spec.specs.Answer.{Meaning}
 use Rattle.call_spec.specs.declared.Reply.{Reply}
-use Rattle.call_spec.specs.declared.Reply.the-variants.{Answered, Refused}
+use Rattle.call_spec.specs.Store.{replyMeaning}
 use Rattle.state_spec.specs.Fetching.{mostRounds}
 
 -- A text's letters by their numbers.
@@ -43,49 +45,23 @@ numbers [] = []
 numbers (n ∷ ns) = (blank ∷ decimal n) ++ numbers ns
 
 -- ---- the line of a call
--- A full store's answer is its refusal, number 10.
-abbrev pub answerWord : Answer → List ℕ
-answerWord (Found v) = ascii "found"
-answerWord Absent = ascii "absent"
-answerWord (Replaced v) = ascii "replaced"
-answerWord New = ascii "new"
-answerWord (Removed v) = ascii "removed"
-answerWord Pushed = ascii "pushed"
-answerWord (Popped v) = ascii "popped"
-answerWord Added = ascii "added"
-answerWord (Taken v) = ascii "taken"
-answerWord Queued = ascii "queued"
-answerWord (Dequeued v) = ascii "dequeued"
-answerWord Empty = ascii "empty"
-answerWord Full = ascii "refused"
-
--- "value (0 if none)"
-abbrev pub answerValue : Answer → ℕ
-answerValue (Found v) = v
-answerValue Absent = 0
-answerValue (Replaced v) = v
-answerValue New = 0
-answerValue (Removed v) = v
-answerValue Pushed = 0
-answerValue (Popped v) = v
-answerValue Added = 0
-answerValue (Taken v) = v
-answerValue Queued = 0
-answerValue (Dequeued v) = v
-answerValue Empty = 0
-answerValue Full = 10
-
 abbrev pub replyWord : Reply → List ℕ
-replyWord (Answered a) = answerWord a
-replyWord (Refused n) = ascii "refused"
+replyWord r = ascii (replyMeaning r .word)
 
-abbrev pub replyValue : Reply → ℕ
-replyValue (Answered a) = answerValue a
-replyValue (Refused n) = n
+-- "value (0 if none)", or a refusal's number.
+abbrev pub valueOrZero : Option ℕ → ℕ
+valueOrZero none = 0
+valueOrZero (some v) = v
+
+abbrev pub shown : Meaning → ℕ
+shown m = pick (eqb (m .number) 0) (valueOrZero (m .value)) (m .number)
+
+abbrev pub replyShown : Reply → ℕ
+replyShown r = shown (replyMeaning r)
 
 -- "answer word, value (0 if none), leaves; or "refused", the number, leaves"
 unfoldable pub lineOf : Reply → List ℕ → List ℕ
-lineOf reply leaves = replyWord reply ++ (numbers (replyValue reply ∷ leaves) ++ (newline ∷ []))
+lineOf reply leaves = replyWord reply ++ (numbers (replyShown reply ∷ leaves) ++ (newline ∷ []))
 
 -- "an end within the first two bytes or within a call prints "short" as the last line"
 abbrev pub shortLine : List ℕ

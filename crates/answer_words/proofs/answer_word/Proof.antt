@@ -111,15 +111,6 @@ slice-aggregate-put-text-12 c = search needs
 put-text-requires-12 : tie.Need-put-text-requires-12
 put-text-requires-12 c κs = search needs
 
-enum-told-13 : tie.Need-enum-told-13
-enum-told-13 c = search needs
-
-slice-aggregate-put-text-13 : tie.Need-slice-aggregate-put-text-13
-slice-aggregate-put-text-13 c = search needs
-
-put-text-requires-13 : tie.Need-put-text-requires-13
-put-text-requires-13 c κs = search needs
-
 same-length : tie.Need-same-length
 same-length c = search needs
 
@@ -192,12 +183,6 @@ same-length-12 c = search needs
 returns-12 : tie.Need-returns-12
 returns-12 c = rw (c .before .before .before .before .before .enum-told12 .given .1) (c .before .before .put-text12 .ensures)
 
-same-length-13 : tie.Need-same-length-13
-same-length-13 c = search needs
-
-returns-13 : tie.Need-returns-13
-returns-13 c = rw (c .before .before .before .before .before .enum-told13 .given .1) (c .before .before .put-text13 .ensures)
-
 pub answer-word-spec : {M : Type 1} → statement M
 answer-word-spec =
     tie.close
@@ -238,9 +223,6 @@ answer-word-spec =
     enum-told-12
     slice-aggregate-put-text-12
     put-text-requires-12
-    enum-told-13
-    slice-aggregate-put-text-13
-    put-text-requires-13
     same-length
     returns
     same-length-2
@@ -264,6 +246,4 @@ answer-word-spec =
     same-length-11
     returns-11
     same-length-12
-    returns-12
-    same-length-13
-    returns-13)
+    returns-12)

@@ -41,8 +41,8 @@ returns-2 c =
 no-link-requires : tie.Need-no-link-requires
 no-link-requires c κs = search needs
 
-cast-t17 : tie.Need-cast-t17
-cast-t17 c = search needs
+cast-t18 : tie.Need-cast-t18
+cast-t18 c = search needs
 
 rise-requires : tie.Need-rise-requires
 rise-requires c κs = search needs
@@ -50,8 +50,8 @@ rise-requires c κs = search needs
 link-one-requires : tie.Need-link-one-requires
 link-one-requires c κs = search needs
 
-add-t20 : tie.Need-add-t20
-add-t20 c = search needs
+add-t21 : tie.Need-add-t21
+add-t21 c = search needs
 
 returns-3 : tie.Need-returns-3
 returns-3 c =
@@ -72,8 +72,8 @@ add-spec =
     no-nodes-requires-2
     returns-2
     no-link-requires
-    cast-t17
+    cast-t18
     rise-requires
     link-one-requires
-    add-t20
+    add-t21
     returns-3)

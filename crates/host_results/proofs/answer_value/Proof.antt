@@ -1,6 +1,8 @@
 -- `host_results::answer_value` meets its contract, answer by answer.
 use mathlib.Core.Path.{sym, ap}
-use Rattle.host_spec.specs.Result.{answerValue}
+use Rattle.operation_spec.specs.declared.Answer.{Answer}
+use Rattle.call_spec.specs.declared.Reply.the-variants.{Answered}
+use Rattle.host_spec.specs.Result.{replyValue}
 use borrow.Author.Needs.{needs}
 use Rattle.host_results.proofs.answer_value.Statement.{statement}
 use Rattle.host_results.proofs.answer_value.Tie as tie
@@ -55,61 +57,53 @@ enum-known-answer-6 c = search needs
 enum-told-6 : tie.Need-enum-told-6
 enum-told-6 c = search needs
 
--- src/lib.rt:38:25
-enum-told-7 : tie.Need-enum-told-7
-enum-told-7 c = search needs
-
 -- src/lib.rt:21:1
 returns : tie.Need-returns
-returns c = sym (ap answerValue (c .before .answer .given .1))
+returns c = sym (ap (λ (a : Answer). replyValue (Answered a)) (c .before .answer .given .1))
 
 -- src/lib.rt:21:1
 returns-2 : tie.Need-returns-2
-returns-2 c = sym (ap answerValue (c .enum-told .given .1))
+returns-2 c = sym (ap (λ (a : Answer). replyValue (Answered a)) (c .enum-told .given .1))
 
 -- src/lib.rt:21:1
 returns-3 : tie.Need-returns-3
-returns-3 c = sym (ap answerValue (c .before .answer2 .given .1))
+returns-3 c = sym (ap (λ (a : Answer). replyValue (Answered a)) (c .before .answer2 .given .1))
 
 -- src/lib.rt:21:1
 returns-4 : tie.Need-returns-4
-returns-4 c = sym (ap answerValue (c .enum-told2 .given .1))
+returns-4 c = sym (ap (λ (a : Answer). replyValue (Answered a)) (c .enum-told2 .given .1))
 
 -- src/lib.rt:21:1
 returns-5 : tie.Need-returns-5
-returns-5 c = sym (ap answerValue (c .before .answer3 .given .1))
+returns-5 c = sym (ap (λ (a : Answer). replyValue (Answered a)) (c .before .answer3 .given .1))
 
 -- src/lib.rt:21:1
 returns-6 : tie.Need-returns-6
-returns-6 c = sym (ap answerValue (c .enum-told3 .given .1))
+returns-6 c = sym (ap (λ (a : Answer). replyValue (Answered a)) (c .enum-told3 .given .1))
 
 -- src/lib.rt:21:1
 returns-7 : tie.Need-returns-7
-returns-7 c = sym (ap answerValue (c .before .answer4 .given .1))
+returns-7 c = sym (ap (λ (a : Answer). replyValue (Answered a)) (c .before .answer4 .given .1))
 
 -- src/lib.rt:21:1
 returns-8 : tie.Need-returns-8
-returns-8 c = sym (ap answerValue (c .enum-told4 .given .1))
+returns-8 c = sym (ap (λ (a : Answer). replyValue (Answered a)) (c .enum-told4 .given .1))
 
 -- src/lib.rt:21:1
 returns-9 : tie.Need-returns-9
-returns-9 c = sym (ap answerValue (c .before .answer5 .given .1))
+returns-9 c = sym (ap (λ (a : Answer). replyValue (Answered a)) (c .before .answer5 .given .1))
 
 -- src/lib.rt:21:1
 returns-10 : tie.Need-returns-10
-returns-10 c = sym (ap answerValue (c .enum-told5 .given .1))
+returns-10 c = sym (ap (λ (a : Answer). replyValue (Answered a)) (c .enum-told5 .given .1))
 
 -- src/lib.rt:21:1
 returns-11 : tie.Need-returns-11
-returns-11 c = sym (ap answerValue (c .before .answer6 .given .1))
+returns-11 c = sym (ap (λ (a : Answer). replyValue (Answered a)) (c .before .answer6 .given .1))
 
 -- src/lib.rt:21:1
 returns-12 : tie.Need-returns-12
-returns-12 c = sym (ap answerValue (c .enum-told6 .given .1))
-
--- src/lib.rt:21:1
-returns-13 : tie.Need-returns-13
-returns-13 c = sym (ap answerValue (c .enum-told7 .given .1))
+returns-12 c = sym (ap (λ (a : Answer). replyValue (Answered a)) (c .enum-told6 .given .1))
 
 pub answer-value-spec : {M : Type 1} → statement M
 answer-value-spec =
@@ -127,7 +121,6 @@ answer-value-spec =
     enum-told-5
     enum-known-answer-6
     enum-told-6
-    enum-told-7
     returns
     returns-2
     returns-3
@@ -139,5 +132,4 @@ answer-value-spec =
     returns-9
     returns-10
     returns-11
-    returns-12
-    returns-13)
+    returns-12)

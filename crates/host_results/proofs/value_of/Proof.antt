@@ -1,6 +1,6 @@
 -- `host_results::value_of` meets its contract.
 use mathlib.Core.Path.{sym, _∙_, ap}
-use Rattle.host_spec.specs.Result.{valueOf}
+use Rattle.host_spec.specs.Result.{replyValue}
 use borrow.Author.Needs.{needs}
 use Rattle.host_results.proofs.value_of.Statement.{statement}
 use Rattle.host_results.proofs.value_of.Tie as tie
@@ -22,11 +22,11 @@ enum-told c = search needs
 
 -- src/lib.rt:43:1
 returns : tie.Need-returns
-returns c = c .answer-value .ensures ∙ sym (ap valueOf (c .before .before .reply .given .1))
+returns c = c .answer-value .ensures ∙ sym (ap replyValue (c .before .before .reply .given .1))
 
 -- src/lib.rt:43:1
 returns-2 : tie.Need-returns-2
-returns-2 c = sym (ap valueOf (c .enum-told .given .1))
+returns-2 c = sym (ap replyValue (c .enum-told .given .1))
 
 pub value-of-spec : {M : Type 1} → statement M
 value-of-spec =

@@ -11,13 +11,13 @@ use Rattle.walk_lines.proofs.line.Tie as tie
 reply-word-requires : tie.Need-reply-word-requires
 reply-word-requires c κs = search needs
 
-reply-value-requires : tie.Need-reply-value-requires
-reply-value-requires c κs = search needs
+reply-shown-requires : tie.Need-reply-shown-requires
+reply-shown-requires c κs = search needs
 
 put-number-requires : tie.Need-put-number-requires
 put-number-requires c κs =
     let s = c .before .before .before .before .before .before .before .before in
-    value-room (s .args .reply) (c .before .before .before .before .reply-word .ensures) (s .pre .1) (c .before .reply-value .result) (omega (arith, c .before .reply-value .ok))
+    value-room (s .args .reply) (c .before .before .before .before .reply-word .ensures) (s .pre .1) (c .before .reply-shown .result) (omega (arith, c .before .reply-shown .ok))
 
 first-requires : tie.Need-first-requires
 first-requires c κs = search needs
@@ -33,7 +33,7 @@ room c =
     let s = w .before .before .before .before in
     let few : length (take (s .args .n) (s .args .trace .now)) ≤ 66 = rw length-take (omega arith) in
     rw (c .before .first .ensures)
-    (leaves-room (s .args .reply) (w .reply-word .ensures) (s .pre .1) (v .reply-value .result) (omega (arith, v .reply-value .ok)) (take (s .args .n) (s .args .trace .now)) (n .put-number .ensures) few
+    (leaves-room (s .args .reply) (w .reply-word .ensures) (s .pre .1) (v .reply-shown .result) (omega (arith, v .reply-shown .ok)) (take (s .args .n) (s .args .trace .now)) (n .put-number .ensures) few
     (first-leaves (s .args .trace .now) (s .args .n) (λ i. omega (arith, w .before .before .before .shared-slice-known .given i))))
 
 put-leaves-requires : tie.Need-put-leaves-requires
@@ -57,7 +57,7 @@ whole c =
     let v = n .before .before in
     let w = v .before .before .before in
     let s = w .before .before .before .before in
-    line-put (s .args .reply) (l .before .before .first .result .now) (w .reply-word .ensures) (rw (v .reply-value .ensures) at (n .put-number .ensures)) (l .put-leaves .ensures) (c .put-text .ensures)
+    line-put (s .args .reply) (l .before .before .first .result .now) (w .reply-word .ensures) (rw (v .reply-shown .ensures) at (n .put-number .ensures)) (l .put-leaves .ensures) (c .put-text .ensures)
 
 same-length : tie.Need-same-length
 same-length c = put-length (whole (c .before .before))
@@ -78,7 +78,7 @@ line-spec =
     tie.close
     (tie.spec
     reply-word-requires
-    reply-value-requires
+    reply-shown-requires
     put-number-requires
     first-requires
     put-leaves-requires

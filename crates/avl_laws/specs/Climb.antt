@@ -14,7 +14,7 @@ use Rattle.balance_spec.specs.Tree.{Tree, node, height, Balanced}
 use Rattle.method_spec.specs.Node.{Node, child, withChild}
 use Rattle.method_spec.specs.Prog.{done}
 use Rattle.method_spec.specs.Plain.{Pair}
-use Rattle.method_spec.specs.Map.{Step, Sub, stub, Built, mapTest, linkOf, kids, nodesAt, seat, tall, turn, placed, rest as restAt, nearOn, othersOf, raise, climb, unwind}
+use Rattle.method_spec.specs.Map.{Step, Sub, stub, Built, mapTest, linkOf, kids, nodesAt, seat, tall, turn, withSubtree, rest as restAt, nearOn, othersOf, raise, climb, unwind}
 use Rattle.run_laws.specs.Safe.{Safe, ends}
 use Rattle.run_laws.specs.BalanceLaws.{tall-heights}
 use Rattle.run_laws.specs.SafeLaws.{safe-map, safe-then, safe-pick}
@@ -73,17 +73,17 @@ module _ {T : Type 0} where
 module _ {T : Type 0} {Post : Built T → List (Node T) → List (Node T) → Type 0} where
   -- One level up, by the side s and the other.
   raise-cases : (p : Step T) (b : Sub T) (s : Bool) {held ns : List (Node T)}
-      → (tall s (placed p b) ≡ true → Safe mapTest Post (turn p s (placed p b) (nearOn p b s) (othersOf p b s)) held ns)
-      → (tall (not s) (placed p b) ≡ true
-      → Safe mapTest Post (turn p (not s) (placed p b) (nearOn p b (not s)) (othersOf p b (not s))) held ns)
-      → (tall s (placed p b) ≡ false → tall (not s) (placed p b) ≡ false
+      → (tall s (withSubtree p b) ≡ true → Safe mapTest Post (turn p s (withSubtree p b) (nearOn p b s) (othersOf p b s)) held ns)
+      → (tall (not s) (withSubtree p b) ≡ true
+      → Safe mapTest Post (turn p (not s) (withSubtree p b) (nearOn p b (not s)) (othersOf p b (not s))) held ns)
+      → (tall s (withSubtree p b) ≡ false → tall (not s) (withSubtree p b) ≡ false
       → Safe mapTest Post (done (restAt p b)) held ns)
       → Safe mapTest Post (raise p b) held ns
   unfolding raise
   raise-cases p b true f g h =
-      safe-pick (tall true (placed p b)) f (λ t. safe-pick (tall false (placed p b)) g (h t))
+      safe-pick (tall true (withSubtree p b)) f (λ t. safe-pick (tall false (withSubtree p b)) g (h t))
   raise-cases p b false f g h =
-      safe-pick (tall true (placed p b)) g (λ t. safe-pick (tall false (placed p b)) f (λ u. h u t))
+      safe-pick (tall true (withSubtree p b)) g (λ t. safe-pick (tall false (withSubtree p b)) f (λ u. h u t))
 
 module _ {T : Type 0} where
   unwind-root : {b : Sub T} {out : List (Node T)} → unwind [] b out ≡ record { sub = b; out = out }
@@ -99,7 +99,7 @@ module _ {T : Type 0} (nil : T) where
   -- ---- a level as it is at hand
 
   placed-node : (f : Frame T) (v : View T)
-      → placed (stepOf nil f) (subOf nil v) ≡ joinNode nil (f .way) v (f .entry) (away (f .other))
+      → withSubtree (stepOf nil f) (subOf nil v) ≡ joinNode nil (f .way) v (f .entry) (away (f .other))
   unfolding whole
   placed-node f v = go (f .way)
     where
@@ -119,12 +119,12 @@ module _ {T : Type 0} (nil : T) where
   tall-far false a e b = rw (tall-heights true (joinNode nil false a e b), link-height nil (whole a), link-height nil (whole b))
 
   placed-way : (f : Frame T) (v : View T)
-      → tall (f .way) (placed (stepOf nil f) (subOf nil v)) ≡ ltb (suc (height (f .other))) (height (whole v))
+      → tall (f .way) (withSubtree (stepOf nil f) (subOf nil v)) ≡ ltb (suc (height (f .other))) (height (whole v))
   unfolding whole
   placed-way f v = rw (placed-node f v) (tall-near (f .way) v (f .entry) (away (f .other)))
 
   placed-other : (f : Frame T) (v : View T)
-      → tall (not (f .way)) (placed (stepOf nil f) (subOf nil v)) ≡ ltb (suc (height (whole v))) (height (f .other))
+      → tall (not (f .way)) (withSubtree (stepOf nil f) (subOf nil v)) ≡ ltb (suc (height (whole v))) (height (f .other))
   unfolding whole
   placed-other f v = rw (placed-node f v) (tall-far (f .way) v (f .entry) (away (f .other)))
 

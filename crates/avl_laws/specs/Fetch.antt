@@ -11,7 +11,7 @@ use Rattle.list_laws.specs.PermLaws.{perm-refl}
 use Rattle.balance_spec.specs.Tree.{Tree, leaf, node, height, Balanced}
 use Rattle.method_spec.specs.Node.{Node}
 use Rattle.method_spec.specs.Prog.{Want, Prog, want, bind}
-use Rattle.method_spec.specs.Map.{mapTest, between, kid, opened}
+use Rattle.method_spec.specs.Map.{mapTest, between, kid, fetchedTop}
 use Rattle.run_laws.specs.Safe.{Safe, meets}
 use Rattle.run_laws.specs.BalanceLaws.{tall-heights}
 use Rattle.avl_laws.specs.Search.{Entry, Above, Below, pairs, Search, linkTree, nodeAt, nodesOf}
@@ -104,7 +104,7 @@ module _ {T A : Type 0} {Post : A → List (Node T) → List (Node T) → Type 0
       → ((a : View T) (c : Entry T) (b : View T) (h m : List (Node T)) → Opened nil w s x a c b
       → Stock nil tag (join s a c b) rest more h m
       → Safe mapTest Post (k (joinNode nil s a c b)) h m)
-      → Safe mapTest Post (bind (opened w (topNode nil x)) k) held ns
+      → Safe mapTest Post (bind (fetchedTop w (topNode nil x)) k) held ns
   unfolding bind subOf topNode below further fetched unfetched tags whole height Balanced Search pairs
   safe-opened true w (have l c r) k {held = held} {ns = ns} link bal search tall stock next =
       next l c r held ns

@@ -11,7 +11,7 @@ use Rattle.method_spec.specs.Outcome.{Outcome}
 use Rattle.method_spec.specs.Call.{capacity, program, aheadAfter, spareTags}
 use Rattle.round_spec.specs.Round.{join}
 use Rattle.leaf_spec.specs.Leaf.{leafFormat}
-use Rattle.bucket_call_spec.specs.Fetch.{Going, Left, Round, on, shut, closing, idleRound, fetchRounds}
+use Rattle.bucket_call_spec.specs.Fetch.{Going, CallLeft, Round, on, shut, closing, idleRound, fetchRounds}
 
 -- A draw: the remainder of the tape's number by 2^k.
 abbrev pub drawOf : (size : ℕ) → List ℕ → ℕ → ℕ
@@ -35,7 +35,7 @@ putRounds k draw (suc n) d o g = next (idleRound k (draw d) (done o) g) (λ g. p
     next (on g p) f = f g
 
 -- What is known ahead is, with the step, as after it.
-unfoldable pub afterPuts : Ahead ℕ → Outcome ℕ → Round (Outcome ℕ) → Left
+unfoldable pub afterPuts : Ahead ℕ → Outcome ℕ → Round (Outcome ℕ) → CallLeft
 afterPuts a o (shut m g) = closing m (o .entries) (o .root) a g
 afterPuts a o (on g p) =
     record {
@@ -56,7 +56,7 @@ stepped o g =
 
 -- After the fetch rounds. A program that still wants a node was longer than they are: the fetch tests rule that out for a
 -- store that fits; the definition calls it damage. What is known ahead is `a` after the step, and before it as it was.
-unfoldable pub afterFetches : Structure → (size rounds : ℕ) → (draw : ℕ → ℕ) → Store → Ahead ℕ → Round (Outcome ℕ) → Left
+unfoldable pub afterFetches : Structure → (size rounds : ℕ) → (draw : ℕ → ℕ) → Store → Ahead ℕ → Round (Outcome ℕ) → CallLeft
 afterFetches s k F draw st a (shut m g) = closing m (st .entries) (st .root) (st .ahead) g
 afterFetches s k F draw st a (on g (want w c)) = closing 8 (st .entries) (st .root) (st .ahead) g
 afterFetches s k F draw st a (on g (done o)) = afterPuts a o (putRounds k draw F (putDraw s F 0) o (stepped o g))
@@ -79,6 +79,6 @@ abbrev pub aheadThen : {s : Structure} → (size rounds : ℕ) → Op s → (dra
 aheadThen k F op draw st = aheadAfter 0 op (spareTags F draw) (capacity k) (st .entries) (st .ahead)
 
 -- One call with F fetch and F put rounds. Fetch round i uses draw i; the draws of the put rounds come after the spare ones.
-unfoldable pub bucketCall : {s : Structure} → (size rounds : ℕ) → Op s → (draw : ℕ → ℕ) → Store → Left
+unfoldable pub bucketCall : {s : Structure} → (size rounds : ℕ) → Op s → (draw : ℕ → ℕ) → Store → CallLeft
 bucketCall {s} k F op draw st =
     afterFetches s k F draw st (aheadThen k F op draw st) (fetchedBy k F op draw st)

@@ -15,7 +15,7 @@ use Rattle.method_spec.specs.Map.{walk, balanceOf, single, double, turn, raise,
 use Rattle.method_spec.specs.Stack.{pushProg, popProg, stackTest}
 use Rattle.method_spec.specs.Call.{program, aheadAfter, test}
 use Rattle.leaf_spec.specs.Leaf.{readLeaf}
-use Rattle.bucket_call_spec.specs.Fetch.{Left, movedLink, movedNode, closing, atClose, idleRound, tookRound, wantRound, fetchRound, fetchRounds}
+use Rattle.bucket_call_spec.specs.Fetch.{CallLeft, movedLink, movedNode, closing, atClose, idleRound, tookRound, wantRound, fetchRound, fetchRounds}
 use Rattle.bucket_call_spec.specs.Call.{Store, drawOf, putRounds, afterPuts, afterFetches, bucketCall}
 
 abbrev pub empty : Store
@@ -28,13 +28,13 @@ empty =
       tree = replicate 896 0;
     }
 
-abbrev pub leftBy : Left → Store
+abbrev pub leftBy : CallLeft → Store
 leftBy l = record { entries = l .entries; root = l .root; ahead = l .ahead; waiting = l .waiting; tree = l .tree }
 
-abbrev pub first : Left
+abbrev pub first : CallLeft
 first = bucketCall {s = stack} 2 1 (push 50) (drawOf 2 (1 ∷ 2 ∷ 3 ∷ [])) empty
 
-abbrev second : Left
+abbrev second : CallLeft
 second = bucketCall {s = stack} 2 1 pop (drawOf 2 (0 ∷ 1 ∷ 1 ∷ [])) (leftBy first)
 
 pub push-reveals : first .leaves ≡ 1 ∷ 3 ∷ []
@@ -50,12 +50,12 @@ unfolding bucketCall afterFetches afterPuts putRounds fetchRounds fetchRound wan
 pop-reveals = refl
 
 -- A fresh map of size 1 (F = 3): put 9 with tape 1 0 1, 0, 0 0 0, then put 9 with 1 1 0, 1, 1 0 1. The first put's node has tag 0.
-abbrev putNine : Left
+abbrev putNine : CallLeft
 putNine =
     bucketCall {s = map} 1 3 (put 9 7) (drawOf 1 (1 ∷ 0 ∷ 1 ∷ 0 ∷ 0 ∷ 0 ∷ 0 ∷ []))
     (record { entries = 0; root = empty .root; ahead = empty .ahead; waiting = []; tree = replicate 384 0 })
 
-abbrev putAgain : Left
+abbrev putAgain : CallLeft
 putAgain = bucketCall {s = map} 1 3 (put 9 8) (drawOf 1 (1 ∷ 1 ∷ 0 ∷ 1 ∷ 1 ∷ 0 ∷ 1 ∷ [])) (leftBy putNine)
 
 -- The second answers the old value, and reveals the node's tag and then its own draws: all rounds are made.

@@ -26,7 +26,7 @@ pub record Going : Type 0 where
   pub leaves : List ℕ
 
 -- What a call leaves. The mark is 0, or 8 (damage) or 9 (overflow) where it closed the store; then there is no answer.
-pub record Left : Type 0 where
+pub record CallLeft : Type 0 where
   pub mark : ℕ
   pub entries : ℕ
   pub root : Link ℕ
@@ -61,7 +61,7 @@ abbrev pub movedNodes : List Held → List (Node ℕ)
 movedNodes hs = map (λ (h : Held). movedNode hs (h .node)) hs
 
 -- ---- closing during the fetch rounds: the held nodes join those waiting, with only tags moved
-unfoldable pub closing : ℕ → ℕ → Link ℕ → Ahead ℕ → Going → Left
+unfoldable pub closing : ℕ → ℕ → Link ℕ → Ahead ℕ → Going → CallLeft
 closing mark entries l a g =
     record {
       mark = mark;

@@ -9,8 +9,8 @@ use Rattle.method_spec.specs.Prog.{done}
 use Rattle.method_spec.specs.Plain.{Pair}
 use Rattle.method_spec.specs.Outcome.{Outcome}
 use Rattle.method_spec.specs.Call.{Memory}
-use Rattle.round_spec.specs.Round.{limit}
-use Rattle.round_spec.specs.Whole.{contents, Kept, Ascending}
+use Rattle.round_spec.specs.Round.{stashLimit}
+use Rattle.round_spec.specs.Whole.{contents, KeptStore, Ascending}
 use Rattle.leaf_spec.specs.Leaf.{leafFormat, ProperLeaf}
 use Rattle.bucket_call_spec.specs.Fetch.{Going, Round, on, shut}
 use Rattle.bucket_call_spec.specs.Call.{Store}
@@ -28,8 +28,8 @@ pub record Simulates (k : ℕ) (st : Store) (m : Memory ℕ) : Type 0 where
   pub ahead : st .ahead ≡ m .ahead
   pub known : AheadFits k (st .ahead)
   pub there : Perm (m .nodes) (contents leafFormat k (st .tree) ++ st .waiting)
-  pub kept : Kept leafFormat ProperLeaf k (st .tree) (st .waiting) []
-  pub few : length (st .waiting) ≤ limit
+  pub kept : KeptStore leafFormat ProperLeaf k (st .tree) (st .waiting) []
+  pub few : length (st .waiting) ≤ stashLimit
   pub ascends : Ascending leafFormat (st .waiting)
 
 -- What a call that met overflow left, by where its fetch rounds came to: the pairs as before it where a fetch round closed the store, as

@@ -19,7 +19,7 @@ use Rattle.slot_spec.specs.declared.Reading.{Reading}
 use Rattle.slot_spec.specs.declared.Reading.the-variants.{Full, Empty, Bad}
 use Rattle.slot_laws.specs.SlotLaws.{Words, slot-bytes, slot-length, all-zero-append, all-zero-slot, or-zero}
 use Rattle.round_laws.specs.NodeLaws.{read-ranged}
-use Rattle.round_spec.specs.Round.{limit}
+use Rattle.round_spec.specs.Round.{stashLimit}
 use Rattle.word_round_laws.specs.Words.{wordCount}
 use Rattle.word_round_laws.specs.ReadingLaws.{full-words}
 use Rattle.state_spec.specs.declared.Place.{Place}
@@ -130,7 +130,7 @@ pub sound-none : (slots : List ℕ) → slotsSound 0 slots ≡ true
 unfolding slotsSound
 sound-none slots = refl
 
-module _ (h : StateHead) (slots : List ℕ) (few : h .waiting ≤ limit) where
+module _ (h : StateHead) (slots : List ℕ) (few : h .waiting ≤ stashLimit) where
   abbrev s : State
   s = stateOf h slots
 

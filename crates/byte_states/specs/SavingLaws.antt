@@ -18,7 +18,7 @@ use Rattle.leaf_spec.specs.Convert.{fromNode}
 use Rattle.list_laws.specs.DistinctLaws.{all-getD}
 use Rattle.state_spec.specs.declared.Place.{Place}
 use Rattle.state_spec.specs.Fit.{places, noPlace}
-use Rattle.call_spec.specs.Store.{placed}
+use Rattle.call_spec.specs.Store.{waitingPlaces}
 use Rattle.stash_laws.specs.Waiting.{wordsFor, nodeIn, InWidths, waitingIn, Holds}
 use Rattle.stash_laws.specs.WaitingLaws.{waiting-length}
 use Rattle.stash.specs.SaveLaws.{any-default, placed-count, holds-node, holds-none}
@@ -42,28 +42,28 @@ module _ (n : ℕ) (words : List ℕ) (h : Holds n words) where
       let b : slotBytes x ≡ encode m = ap slotBytes w ∙ slot-encoded m r in
       b ∙ ap encode (sym (ap (λ (xs : List ℕ). nodeOf (fieldsIn xs)) b ∙ ap nodeOf (fields-encoded m r) ∙ node-fields m))
 
-  pub saved-node : (j : ℕ) (x : Slot) → j < n → x ≡ getD (slotsOf words) j zeroSlot → slotBytes x ≡ placeBytes (getD (placed nodes) j noPlace)
+  pub saved-node : (j : ℕ) (x : Slot) → j < n → x ≡ getD (slotsOf words) j zeroSlot → slotBytes x ≡ placeBytes (getD (waitingPlaces nodes) j noPlace)
   saved-node j x low e = slot-encodes j x low e ∙ ap placeBytes (holds-node n words h j x (nodeOf (fieldsIn (slotBytes x))) low e refl)
 
-  pub saved-none : (j : ℕ) → n ≤ j → j < places → slotBytes zeroSlot ≡ placeBytes (getD (placed nodes) j noPlace)
+  pub saved-none : (j : ℕ) → n ≤ j → j < places → slotBytes zeroSlot ≡ placeBytes (getD (waitingPlaces nodes) j noPlace)
   unfolding slotBytes bytes
   saved-none j high low = ap placeBytes (holds-none n words h j high low)
 
   -- One slot more is saved.
   module _ (slots after : List ℕ) (j : ℕ) (x : Slot) (low : j < places) (sized : length slots ≡ slotLength * places) where
     abbrev first : List Place
-    first = take j (placed nodes)
+    first = take j (waitingPlaces nodes)
 
     front : length (placesBytes first) ≡ slotLength * j
-    front = places-bytes-length first ∙ ap (λ (m : ℕ). slotLength * m) (length-take-le j (placed nodes) (omega (arith, low, placed-count n words h)))
+    front = places-bytes-length first ∙ ap (λ (m : ℕ). slotLength * m) (length-take-le j (waitingPlaces nodes) (omega (arith, low, placed-count n words h)))
 
-    next : placesBytes (take (j + 1) (placed nodes)) ≡ placesBytes first ++ placeBytes (getD (placed nodes) j noPlace)
+    next : placesBytes (take (j + 1) (waitingPlaces nodes)) ≡ placesBytes first ++ placeBytes (getD (waitingPlaces nodes) j noPlace)
     unfolding placesBytes
     next =
-        rw (add-one j, take-suc (placed nodes) j noPlace (omega (arith, low, placed-count n words h)), places-bytes-append first (getD (placed nodes) j noPlace ∷ []), append-nil (placeBytes (getD (placed nodes) j noPlace)))
+        rw (add-one j, take-suc (waitingPlaces nodes) j noPlace (omega (arith, low, placed-count n words h)), places-bytes-append first (getD (waitingPlaces nodes) j noPlace ∷ []), append-nil (placeBytes (getD (waitingPlaces nodes) j noPlace)))
 
-    pub saved-so : slotBytes x ≡ placeBytes (getD (placed nodes) j noPlace) → after ≡ placesBytes first ++ drop (slotLength * j) slots → length after ≡ slotLength * places
-        → sets after (slotLength * j) (slotBytes x) ≡ placesBytes (take (j + 1) (placed nodes)) ++ drop (slotLength * (j + 1)) slots
+    pub saved-so : slotBytes x ≡ placeBytes (getD (waitingPlaces nodes) j noPlace) → after ≡ placesBytes first ++ drop (slotLength * j) slots → length after ≡ slotLength * places
+        → sets after (slotLength * j) (slotBytes x) ≡ placesBytes (take (j + 1) (waitingPlaces nodes)) ++ drop (slotLength * (j + 1)) slots
     saved-so e so long =
         let l : length (slotBytes x) ≡ slotLength = slot-length x in
         let end : slotLength * j + length (slotBytes x) ≡ length (placesBytes first) + slotLength = omega (arith, l, front) in
@@ -77,9 +77,9 @@ module _ (n : ℕ) (words : List ℕ) (h : Holds n words) where
         sets-eq (slotBytes x) after (slotLength * j) (omega (arith, l, long, low)) in
         let parts : take (slotLength * j) after ++ slotBytes x ++ drop (slotLength * j + length (slotBytes x)) after ≡ placesBytes first ++ slotBytes x ++ rest =
         ap₂ (λ (xs ys : List ℕ). xs ++ slotBytes x ++ ys) a b in
-        let whole : placesBytes first ++ slotBytes x ≡ placesBytes (take (j + 1) (placed nodes)) = ap (λ (y : List ℕ). placesBytes first ++ y) e ∙ sym next in
+        let whole : placesBytes first ++ slotBytes x ≡ placesBytes (take (j + 1) (waitingPlaces nodes)) = ap (λ (y : List ℕ). placesBytes first ++ y) e ∙ sym next in
         cut ∙ parts ∙ ap (λ (xs : List ℕ). xs ++ rest) whole
 
-  pub saved-start : (slots : List ℕ) → slots ≡ placesBytes (take 0 (placed nodes)) ++ drop (slotLength * 0) slots
+  pub saved-start : (slots : List ℕ) → slots ≡ placesBytes (take 0 (waitingPlaces nodes)) ++ drop (slotLength * 0) slots
   unfolding placesBytes
   saved-start slots = refl

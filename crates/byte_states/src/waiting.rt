@@ -16,10 +16,10 @@ ghost use lib.ListN.{length, getD, take, drop};
 ghost use Rattle.slot_spec.specs.Tree.{slotLength};
 ghost use Rattle.slot_spec.specs.Slot.{allZero, slotBytes};
 ghost use Rattle.state_spec.specs.Fit.{places, noPlace};
-ghost use Rattle.round_spec.specs.Round.{limit};
+ghost use Rattle.round_spec.specs.Round.{stashLimit};
 ghost use Rattle.word_round_laws.specs.Words.{wordCount};
 ghost use Rattle.stash_laws.specs.Waiting.{waitingIn, Holds};
-ghost use Rattle.call_spec.specs.Store.{placed};
+ghost use Rattle.call_spec.specs.Store.{waitingPlaces};
 ghost use Rattle.lent_bytes_spec.specs.StateBytes.{placeBytes, placesBytes};
 ghost use Rattle.byte_states.specs.Loading.{SlotLoaded, WaitingLoaded, PlacesLoaded};
 
@@ -44,7 +44,7 @@ fn load_slot(slots: &[u8], i: usize, size: usize, least: u64, w: &mut [u64; WORD
 
 // The used slots, one after another; whether they fit.
 fn load_waiting(h: StateHead, slots: &[u8], w: &mut [u64; WORDS]) -> bool
-    requires { ⌜ (length (now w) ≡ wordCount) × ((h .waiting ≤ limit) × ((length (now slots) ≡ slotLength * places) × (h .size ≤ 16))) ⌝ }
+    requires { ⌜ (length (now w) ≡ wordCount) × ((h .waiting ≤ stashLimit) × ((length (now slots) ≡ slotLength * places) × (h .size ≤ 16))) ⌝ }
     ensures { λ r. ⌜ WaitingLoaded h (now (slots .entry)) (now (w .exit)) r ⌝ }
 {
     let mut least: u64 = 0;
@@ -82,7 +82,7 @@ fn is_blank(slots: &[u8]) -> bool
 
 // The slots of a state with that head: whether they fit; if so, the waiting nodes are in words.
 pub fn load_places(h: StateHead, slots: &[u8], w: &mut [u64; WORDS]) -> bool
-    requires { ⌜ (length (now w) ≡ wordCount) × ((h .waiting ≤ limit) × ((length (now slots) ≡ slotLength * places) × (h .size ≤ 16))) ⌝ }
+    requires { ⌜ (length (now w) ≡ wordCount) × ((h .waiting ≤ stashLimit) × ((length (now slots) ≡ slotLength * places) × (h .size ≤ 16))) ⌝ }
     ensures { λ r. ⌜ PlacesLoaded h (now (slots .entry)) (now (w .exit)) r ⌝ }
 {
     if !load_waiting(h, slots, w) {
@@ -95,7 +95,7 @@ pub fn load_places(h: StateHead, slots: &[u8], w: &mut [u64; WORDS]) -> bool
 // Slot j as it is saved, where n nodes wait in the words.
 fn saved_slot(w: &[u64; WORDS], n: usize, j: usize) -> Slot
     requires { ⌜ Holds n (now w) × (j < places) ⌝ }
-    ensures { λ r. ⌜ slotBytes r ≡ placeBytes (getD (placed (waitingIn n (now (w .entry)))) j noPlace) ⌝ }
+    ensures { λ r. ⌜ slotBytes r ≡ placeBytes (getD (waitingPlaces (waitingIn n (now (w .entry)))) j noPlace) ⌝ }
 {
     if j < n {
         return get(w, j);
@@ -111,7 +111,7 @@ fn saved_slot(w: &[u64; WORDS], n: usize, j: usize) -> Slot
 // The n nodes that wait are saved into the first `end` slots; those after them stay.
 pub fn save_places(slots: &mut [u8], w: &[u64; WORDS], n: usize, end: usize)
     requires { ⌜ Holds n (now w) × ((end ≤ places) × (length (now slots) ≡ slotLength * places)) ⌝ }
-    ensures { λ _. ⌜ now (slots .exit) ≡ placesBytes (take end (placed (waitingIn n (now (w .entry))))) ++ drop (slotLength * end) (now (slots .entry)) ⌝ }
+    ensures { λ _. ⌜ now (slots .exit) ≡ placesBytes (take end (waitingPlaces (waitingIn n (now (w .entry))))) ++ drop (slotLength * end) (now (slots .entry)) ⌝ }
 {
     let mut j = 0;
     while j < end {

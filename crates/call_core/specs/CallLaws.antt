@@ -32,7 +32,7 @@ use Rattle.state_spec.specs.Ticket.{ticketLength, opIn, structureOf as numbered
 use Rattle.state_spec.specs.Fetching.{roundsOf, spareOf}
 use Rattle.leaf_spec.specs.Convert.{toLink, toAhead, toNode}
 use Rattle.operation_spec.specs.declared.Op.{Op}
-use Rattle.operation_spec.specs.Method.{toOp, structureOf}
+use Rattle.operation_spec.specs.Method.{toOp, structureAsked}
 use Rattle.tickets.specs.declared.Asked.the-variants.{Call, Unknown}
 use Rattle.tickets.specs.Asked.{fromOp, fromAsked, asked}
 use Rattle.call_spec.specs.Store.{refusing, storeOf, byRounds, checks, firstMet, decided, called}
@@ -72,7 +72,7 @@ asks-for none op e = let z : _≡_ {A = ℕ} 0 1 = cc in absurd (omega arith)
 asks-for (some a) op e = let d : fromOp a ≡ op = cc in record { asks = a; is = refl; same = d }
 
 -- The operation there and back.
-structure-back : {s : Structure} (a : method.Op s) → s ≡ structureOf (fromOp a)
+structure-back : {s : Structure} (a : method.Op s) → s ≡ structureAsked (fromOp a)
 unfolding fromOp
 structure-back (get k) = refl
 structure-back (put k v) = refl
@@ -250,8 +250,8 @@ module _ {s : State} {op : Op} {F : ℕ} {tree ticket tape trace : List ℕ} (ok
   ask : AsksFor here (opIn here ticket) op
   ask = asks-for (opIn here ticket) op (ok .asks)
 
-  structure-is : here ≡ structureOf op
-  structure-is = structure-back (ask .asks) ∙ ap structureOf (ask .same)
+  structure-is : here ≡ structureAsked op
+  structure-is = structure-back (ask .asks) ∙ ap structureAsked (ask .same)
 
   -- The rounds can begin.
   pub can-run : Runs job n words tree tape trace
@@ -266,7 +266,7 @@ module _ {s : State} {op : Op} {F : ℕ} {tree ticket tape trace : List ℕ} (ok
               limit-is = refl;
               first-is = refl;
               second-is = refl;
-              puts-are = ap (λ (x : Structure). F + spare x) structure-is ∙ sym (add-zero (F + spare (structureOf op)));
+              puts-are = ap (λ (x : Structure). F + spare x) structure-is ∙ sym (add-zero (F + spare (structureAsked op)));
               op-fits =
                   subst (λ (x : Op). OpFits (toOp x)) (ask .same) (fits-back (ask .asks) (op-fits here ticket (ok .ticket-bytes) (ask .asks) (ask .is)));
               key-left = key-left (toOp op) (s .ahead .key) (ok .ahead-widths .0) (ok .keys);

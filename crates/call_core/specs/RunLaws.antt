@@ -13,7 +13,7 @@ use Rattle.round_spec.specs.Round.{join}
 use Rattle.leaf_spec.specs.Leaf.{leafFormat}
 use Rattle.word_round_laws.specs.Words.{wordCount}
 use Rattle.bucket_call_spec.specs.Fetch as fetch
-use Rattle.bucket_call_spec.specs.Fetch.{Left, Going, Round, on, shut, closing, fetchRounds}
+use Rattle.bucket_call_spec.specs.Fetch.{CallLeft, Going, Round, on, shut, closing, fetchRounds}
 use Rattle.bucket_call_spec.specs.Call.{Store, drawOf, stepped, begun, programBy, fetchedBy, bucketCall}
 use Rattle.bucket_call_spec.specs.Peak.{roundsFrom, peakOf, putsAfter, callPeak}
 use Rattle.peak_laws.specs.PeakLaws.{peak-append, peak-none}
@@ -44,7 +44,7 @@ use Rattle.call_core.specs.Run.{jobFor, Runs}
 use Rattle.call_ending.specs.EndingLaws.{joined-length, numbers-first}
 
 -- What follows the leaves in the trace buffer is all that an end takes from it.
-ending-on : (structure size : ℕ) (trace trace′ : List ℕ) (l : Left) (peak : ℕ) → drop (length (l .leaves)) trace′ ≡ drop (length (l .leaves)) trace
+ending-on : (structure size : ℕ) (trace trace′ : List ℕ) (l : CallLeft) (peak : ℕ) → drop (length (l .leaves)) trace′ ≡ drop (length (l .leaves)) trace
     → endingWith structure size trace′ l peak ≡ endingWith structure size trace l peak
 ending-on structure size trace trace′ l peak e = rw e
 

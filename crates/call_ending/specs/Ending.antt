@@ -15,7 +15,7 @@ use Rattle.leaf_spec.specs.Convert.{fromLink, toLink, fromAhead, toAhead}
 use Rattle.leaf_spec.specs.Entries.{KeyLeft}
 use Rattle.leaf_spec.specs.Leaf.{leafFormat, ProperLeaf}
 use Rattle.word_round_laws.specs.Words.{wordCount}
-use Rattle.bucket_call_spec.specs.Fetch.{Left, Going, Round, closing}
+use Rattle.bucket_call_spec.specs.Fetch.{CallLeft, Going, Round, closing}
 use Rattle.bucket_call_spec.specs.Call.{Store, afterPuts, putRounds, stepped, bucketCall}
 use Rattle.bucket_call_spec.specs.Peak.{roundsFrom, peakOf, callPeak}
 use Rattle.operation_spec.specs.Method.{toOp, aheadFor, outcomeIn}
@@ -44,7 +44,7 @@ leftBy structure size r words tree trace =
     }
 
 -- The end of a call of a store of that structure and size, of what it leaves: `ending` of call_spec.
-abbrev pub endingWith : (structure size : ℕ) → List ℕ → Left → (peak : ℕ) → Ended
+abbrev pub endingWith : (structure size : ℕ) → List ℕ → CallLeft → (peak : ℕ) → Ended
 endingWith structure size trace l peak =
     record {
       state = saved structure size (l .mark) (l .entries) (fromLink (l .root)) (fromAhead (l .ahead)) (l .waiting);
@@ -88,7 +88,7 @@ pub record ShutAs (j : Job) (f : Fetched) (h : Held) (froms words words′ : Lis
       ≡ endingWith (j .structure) (j .size) trace (closing (f .mark) (j .entries) (toLink (j .root)) (toAhead (j .spares .ahead)) (goingBy h froms f words tree trace)) (f .peak)
 
 -- The call is finished as the definition says it: after the step the put rounds.
-abbrev pub finishedBy : Job → (ℕ → ℕ) → Fetched → Held → (words tree trace : List ℕ) → Left
+abbrev pub finishedBy : Job → (ℕ → ℕ) → Fetched → Held → (words tree trace : List ℕ) → CallLeft
 finishedBy j draw f h words tree trace =
     afterPuts (aheadOf j) (outcomeOf j h)
     (putRounds (j .size) draw (j .rounds) (j .puts) (outcomeOf j h)

@@ -192,7 +192,7 @@ module _ (j : Job) (draw : ℕ → ℕ) (f : Fetched) (h : Held) {words scratch 
       unfolding afterPuts replied
       finish-shuts marked q =
           ended-same (kept-as refl) q (sym leaves-many) same-peak refl trace-is
-          ∙ ap (λ (l : fetch.Left). endingWith (j .structure) (j .size) trace l most)
+          ∙ ap (λ (l : fetch.CallLeft). endingWith (j .structure) (j .size) trace l most)
           (sym
           (ap (afterPuts (aheadOf j) O) (came-to ∙ stops-here (r .mark) end (done O) marked)
           ∙ closing-none (r .mark) (O .entries) (O .root) (aheadOf j) (r .waiting) words″ tree″ leaves″))
@@ -202,7 +202,7 @@ module _ (j : Job) (draw : ℕ → ℕ) (f : Fetched) (h : Held) {words scratch 
       unfolding afterPuts replied
       finish-answers went q =
           ended-same (kept-as (sym went)) (q ∙ ap (λ (x : Outcome ℕ). replyOf (x .answer)) made) (sym leaves-many) same-peak refl trace-is
-          ∙ ap (λ (l : fetch.Left). endingWith (j .structure) (j .size) trace l most) (sym (ap (afterPuts (aheadOf j) O) (came-to ∙ goes-on (r .mark) end (done O) went)))
+          ∙ ap (λ (l : fetch.CallLeft). endingWith (j .structure) (j .size) trace l most) (sym (ap (afterPuts (aheadOf j) O) (came-to ∙ goes-on (r .mark) end (done O) went)))
 
       pub finish-ends : {p : Reply} → p ≡ answered (r .mark) (toStepAnswer (o .answer)) → FinishedAs j draw f h words tree trace words″ tree″ trace″ (ran p)
       finish-ends {p} q = record { holds = puts .holds; ran = refl; enough = omega arith; ends = go (ℕ-discrete (r .mark) 0) }

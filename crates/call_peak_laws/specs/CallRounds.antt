@@ -12,7 +12,7 @@ use Rattle.method_spec.specs.Prog.{done, want}
 use Rattle.method_spec.specs.Answer.{Structure, Op}
 use Rattle.method_spec.specs.Rounds.{putDraw}
 use Rattle.method_spec.specs.Outcome.{Outcome}
-use Rattle.bucket_call_spec.specs.Fetch.{Held, Going, Left, movedNode, movedNodes, total, Round, on, shut, closing}
+use Rattle.bucket_call_spec.specs.Fetch.{Held, Going, CallLeft, movedNode, movedNodes, total, Round, on, shut, closing}
 use Rattle.round_laws.specs.Lists.{join-perm}
 use Rattle.leaf_spec.specs.Leaf.{leafFormat}
 use Rattle.bucket_call_spec.specs.Call.{Store, putRounds, afterPuts, stepped, afterFetches, begun, programBy, fetchedBy, aheadThen, bucketCall}
@@ -21,12 +21,12 @@ use Rattle.peak_laws.specs.PeakLaws.{peak-append}
 use Rattle.call_peak_laws.specs.Listed.{ByMark, Within, leavesIn, within-max, fetches-listed, puts-listed}
 
 -- What holds of the rounds of a call that left that.
-pub record Rounds (l : Left) (rs : List (Round (Outcome ℕ))) : Type 0 where
+pub record Rounds (l : CallLeft) (rs : List (Round (Outcome ℕ))) : Type 0 where
   pub one-each : length rs ≡ length (l .leaves)
   pub by-mark : ByMark (l .mark) (peakOf rs) (length (l .waiting))
 
 -- A fetch round was the last.
-no-puts : {l : Left} (rs : List (Round (Outcome ℕ))) → length rs ≡ length (l .leaves) → ByMark (l .mark) (peakOf rs) (length (l .waiting)) → Rounds l (rs ++ [])
+no-puts : {l : CallLeft} (rs : List (Round (Outcome ℕ))) → length rs ≡ length (l .leaves) → ByMark (l .mark) (peakOf rs) (length (l .waiting)) → Rounds l (rs ++ [])
 no-puts rs one by = record { one-each = rw (append-nil rs) one; by-mark = rw (append-nil rs) by }
 
 -- A store that is closed lets all its nodes wait.

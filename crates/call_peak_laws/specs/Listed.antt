@@ -15,7 +15,7 @@ use Rattle.method_spec.specs.Prog.{Want, Prog, done, want}
 use Rattle.method_spec.specs.Answer.{Structure}
 use Rattle.method_spec.specs.Outcome.{Outcome}
 use Rattle.method_spec.specs.Call.{test}
-use Rattle.round_spec.specs.Round.{Hand, readHalf, limit}
+use Rattle.round_spec.specs.Round.{Hand, readHalf, stashLimit}
 use Rattle.leaf_spec.specs.Leaf.{leafFormat}
 use Rattle.none_lost_laws.specs.Sound.{one-more}
 use Rattle.none_lost_laws.specs.Fetching.{fetches-shut, fetches-on}
@@ -28,12 +28,12 @@ use Rattle.peak_laws.specs.PeakLaws.{peak-append, peak-none, peak-damage, peak-
 -- ---- definitions
 -- Above the limit exactly with the mark 9, and then the number that is left waiting and held.
 abbrev pub ByMark : (mark peak left : ℕ) → Type 0
-ByMark m n t = ((m ≡ 9) × ((limit < n) × (n ≡ t))) ⊎ ((m ≡ 9 → ⊥) × (n ≤ limit))
+ByMark m n t = ((m ≡ 9) × ((stashLimit < n) × (n ≡ t))) ⊎ ((m ≡ 9 → ⊥) × (n ≤ stashLimit))
 
 module _ {A : Type 0} where
   -- The same of what rounds come to.
   abbrev pub Within : Round A → ℕ → Type 0
-  Within (on g p) n = n ≤ limit
+  Within (on g p) n = n ≤ stashLimit
   Within (shut m g) n = ByMark m n (total g)
 
   abbrev pub leavesIn : Round A → List ℕ
@@ -54,7 +54,7 @@ module _ {A : Type 0} where
   -- ---- one round
   -- What a round from g came to: it went on, with a program as `Next` says, or found damage, or overflowed. It revealed one leaf.
   pub data Came (g : Going) (Next : Prog ℕ A → Type 0) : Round A → Type 0 where
-    went : (h : Going) (q : Prog ℕ A) → Next q → length (h .leaves) ≡ suc (length (g .leaves)) → peakAt (on h q) ≤ limit → Came g Next (on h q)
+    went : (h : Going) (q : Prog ℕ A) → Next q → length (h .leaves) ≡ suc (length (g .leaves)) → peakAt (on h q) ≤ stashLimit → Came g Next (on h q)
     stopped : (m : ℕ) (h : Going) → length (h .leaves) ≡ suc (length (g .leaves)) → ByMark m (peakAt {A = A} (shut m h)) (total h) → Came g Next (shut m h)
 
   module _ {g : Going} {Next : Prog ℕ A → Type 0} where
@@ -66,8 +66,8 @@ module _ {A : Type 0} where
     close-came h p next one = go (tooMany h) refl (peak-close h p)
       where
         go : (b : Bool) → tooMany h ≡ b → peakAt (pick b (shut 9 h) (on h p)) ≡ total h → Came g Next (pick b (shut 9 h) (on h p))
-        go true e counted = stopped 9 h one (inl (refl, (omega (arith, ltb-true limit (total h) e), counted)))
-        go false e counted = went h p next one (omega (arith, ltb-false limit (total h) e))
+        go true e counted = stopped 9 h one (inl (refl, (omega (arith, ltb-true stashLimit (total h) e), counted)))
+        go false e counted = went h p next one (omega (arith, ltb-false stashLimit (total h) e))
 
   idle-came : (k leaf : ℕ) (p : Prog ℕ A) (g : Going) → Came g (λ q. q ≡ p) (idleRound k leaf p g)
   unfolding idleRound
@@ -118,13 +118,13 @@ module _ {A : Type 0} where
   unfolding lastOf
   lists-shut one by = record { last = refl; shown = omega arith; within = by }
 
-  pub within-max : (x : Round A) (low n : ℕ) {most : ℕ} → low ≤ limit → most ≡ max low n → Within x n → Within x most
+  pub within-max : (x : Round A) (low n : ℕ) {most : ℕ} → low ≤ stashLimit → most ≡ max low n → Within x n → Within x most
   within-max (on g p) low n few e h = omega arith
   within-max (shut m g) low n few e (inl h) = inl (h .0, (omega (arith, h .1 .0), omega (arith, h .1 .0, h .1 .1)))
   within-max (shut m g) low n few e (inr h) = inr (h .0, omega (arith, h .1))
 
   lists-on : {g : Going} {p : Prog ℕ A} {h : Going} {q : Prog ℕ A} {rs : List (Round A)} {x : Round A} → length (h .leaves) ≡ suc (length (g .leaves))
-      → peakAt (on h q) ≤ limit → Lists h q rs x → Lists g p (on h q ∷ rs) x
+      → peakAt (on h q) ≤ stashLimit → Lists h q rs x → Lists g p (on h q ∷ rs) x
   unfolding lastOf
   lists-on {h = h} {q = q} {rs = rs} {x = x} one low l =
       record { last = l .last; shown = omega (arith, l .shown); within = within-max x (peakAt (on h q)) (peakOf rs) low (peak-append (on h q ∷ []) rs) (l .within) }

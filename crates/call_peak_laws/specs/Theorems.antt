@@ -13,8 +13,8 @@ use Rattle.list_spec.specs.Largest.{largest}
 use Rattle.list_laws.specs.LargestLaws.{largest-all, largest-among}
 use Rattle.method_spec.specs.Answer.{Structure, Op}
 use Rattle.method_spec.specs.Rounds.{rounds}
-use Rattle.round_spec.specs.Round.{limit}
-use Rattle.bucket_call_spec.specs.Fetch.{Left}
+use Rattle.round_spec.specs.Round.{stashLimit}
+use Rattle.bucket_call_spec.specs.Fetch.{CallLeft}
 use Rattle.bucket_call_spec.specs.Call.{drawOf}
 use Rattle.bucket_call_spec.specs.Peak.{countsOf}
 use Rattle.state_spec.specs.declared.State.{State}
@@ -38,12 +38,12 @@ largest-is [] = record { none-larger = largest-all 0 [] (omega arith); is-one = 
 largest-is (n ∷ ns) = record { none-larger = largest-all (largest (n ∷ ns)) (n ∷ ns) (omega arith); is-one = inr (largest-among n ns) }
 
 -- A call's reply is 9 exactly where it left that mark.
-nine-reply : (l : Left) → Ends l → l .mark ≡ 9 → replied (l .mark) (l .answer) ≡ Refused 9
+nine-reply : (l : CallLeft) → Ends l → l .mark ≡ 9 → replied (l .mark) (l .answer) ≡ Refused 9
 unfolding replied
 nine-reply l (closes c e) m = rw (m, e)
 nine-reply l (answers a z e) m = let x : ⊥ = omega arith in absurd x
 
-nine-mark : (l : Left) → Ends l → replied (l .mark) (l .answer) ≡ Refused 9 → l .mark ≡ 9
+nine-mark : (l : CallLeft) → Ends l → replied (l .mark) (l .answer) ≡ Refused 9 → l .mark ≡ 9
 unfolding replied
 nine-mark l (closes c e) r = same-number (ap (replied (l .mark)) (sym e) ∙ r)
 nine-mark l (answers a z e) r = let n = full-number a (ap (replied (l .mark)) (sym e) ∙ r) in let x : ⊥ = omega arith in absurd x
@@ -55,7 +55,7 @@ module _ (s : State) (tree ticket tape trace : List ℕ) where
   abbrev st : Structure
   st = structureOf (s .structure)
 
-  abbrev leftOf : Op st → Left
+  abbrev leftOf : Op st → CallLeft
   leftOf op = leftBy st s tree ticket tape trace op
 
   abbrev peakOn : Op st → ℕ
@@ -105,31 +105,31 @@ module _ (s : State) (tree ticket tape trace : List ℕ) where
           cc
 
   -- At most 64 except with 9.
-  pub within-limit : (e .reply ≡ Refused 9 → ⊥) → e .peak ≤ limit
+  pub within-limit : (e .reply ≡ Refused 9 → ⊥) → e .peak ≤ stashLimit
   within-limit h = go (how-decided s tree ticket tape trace)
     where
-      by : (op : Op st) → e ≡ ending s trace (leftOf op) (peakOn op) → ByMark (leftOf op .mark) (peakOn op) (length (leftOf op .waiting)) → e .peak ≤ limit
+      by : (op : Op st) → e ≡ ending s trace (leftOf op) (peakOn op) → ByMark (leftOf op .mark) (peakOn op) (length (leftOf op .waiting)) → e .peak ≤ stashLimit
       by op q (inl x) = absurd (h (ap (λ (y : Ended). y .reply) q ∙ nine-reply (leftOf op) (ends op) (x .0)))
       by op q (inr x) = omega (arith, ap (λ (y : Ended). y .peak) q, x .1)
 
-      go : Decided s tree ticket tape trace e → e .peak ≤ limit
+      go : Decided s tree ticket tape trace e → e .peak ≤ stashLimit
       go (refused n first q) = omega (arith, ap (λ (x : Ended). x .peak) q)
       go (rounded op first asks q) = by op q (call-rounds (s .size) (rounds st (s .size)) op (drawOf (s .size) tape) (storeOf s tree) .by-mark)
 
-  at-overflow : e .reply ≡ Refused 9 → (limit < e .peak) × (e .peak ≡ e .state .count)
+  at-overflow : e .reply ≡ Refused 9 → (stashLimit < e .peak) × (e .peak ≡ e .state .count)
   at-overflow h = go (how-decided s tree ticket tape trace)
     where
       by : (op : Op st) → e ≡ ending s trace (leftOf op) (peakOn op) → ByMark (leftOf op .mark) (peakOn op) (length (leftOf op .waiting))
-          → (limit < e .peak) × (e .peak ≡ e .state .count)
+          → (stashLimit < e .peak) × (e .peak ≡ e .state .count)
       by op q (inl x) = rw q (x .1)
       by op q (inr x) = absurd (x .0 (nine-mark (leftOf op) (ends op) (ap (λ (y : Ended). y .reply) (sym q) ∙ h)))
 
-      go : Decided s tree ticket tape trace e → (limit < e .peak) × (e .peak ≡ e .state .count)
+      go : Decided s tree ticket tape trace e → (stashLimit < e .peak) × (e .peak ≡ e .state .count)
       go (refused n first q) = absurd (not-nine (first ∙ ap some (same-number (ap (λ (x : Ended). x .reply) (sym q) ∙ h))))
       go (rounded op first asks q) = by op q (call-rounds (s .size) (rounds st (s .size)) op (drawOf (s .size) tape) (storeOf s tree) .by-mark)
 
   -- With 9 it is above 64.
-  pub above-limit : e .reply ≡ Refused 9 → limit < e .peak
+  pub above-limit : e .reply ≡ Refused 9 → stashLimit < e .peak
   above-limit h = at-overflow h .0
 
   -- And it is the number of nodes that wait in the closed state.

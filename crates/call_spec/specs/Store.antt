@@ -11,7 +11,7 @@ use Rattle.method_spec.specs.Node.{Node}
 use Rattle.method_spec.specs.Answer.{Structure, Op, Answer, found, absent, replaced, new, removed, pushed, popped, added, taken, queued, dequeued, empty, full, Meaning, meaning}
 use Rattle.method_spec.specs.Rounds.{rounds, draws}
 use Rattle.leaf_spec.specs.Convert.{toLink, fromLink, toAhead, fromAhead, toNode, fromNode}
-use Rattle.bucket_call_spec.specs.Fetch.{Left}
+use Rattle.bucket_call_spec.specs.Fetch.{CallLeft}
 use Rattle.bucket_call_spec.specs.Call as bucket
 use Rattle.bucket_call_spec.specs.Call.{drawOf, bucketCall}
 use Rattle.bucket_call_spec.specs.Peak.{callPeak}
@@ -26,8 +26,8 @@ use Rattle.state_spec.specs.Fit.{fits, used, places, noPlace}
 use Rattle.state_spec.specs.Ticket.{ticketLength, opIn, structureOf, outOfKeys, strayFields}
 
 -- ---- states
-abbrev pub placed : List (Node ℕ) → List Place
-placed ns = map (λ (n : Node ℕ). record { full = true; node = fromNode n }) ns ++ replicate (places - length ns) noPlace
+abbrev pub waitingPlaces : List (Node ℕ) → List Place
+waitingPlaces ns = map (λ (n : Node ℕ). record { full = true; node = fromNode n }) ns ++ replicate (places - length ns) noPlace
 
 -- ---- a call
 pub record Ended : Type 0 where
@@ -78,7 +78,7 @@ storeOf s tree =
       tree = tree;
     }
 
-abbrev pub stateLeft : State → Left → State
+abbrev pub stateLeft : State → CallLeft → State
 stateLeft s l =
     record {
       mark = l .mark;
@@ -88,14 +88,14 @@ stateLeft s l =
       root = fromLink (l .root);
       ahead = fromAhead (l .ahead);
       count = length (l .waiting);
-      places = placed (l .waiting);
+      places = waitingPlaces (l .waiting);
     }
 
 -- A refusal 1 to 7, 17 or 19 changes nothing and reveals no leaf; no round closes.
 abbrev pub refusing : ℕ → State → List ℕ → List ℕ → Ended
 refusing n s tree trace = record { state = s; reply = Refused n; leaves = 0; peak = 0; tree = tree; trace = trace }
 
-abbrev pub ending : State → List ℕ → Left → (peak : ℕ) → Ended
+abbrev pub ending : State → List ℕ → CallLeft → (peak : ℕ) → Ended
 ending s trace l peak =
     record {
       state = stateLeft s l;

@@ -12,7 +12,7 @@ use borrow.Author.Tests.{eqb-true, eqb-false, ltb-false, le-leb, not-true, not-f
 use Rattle.slot_spec.specs.Tree.{treeLength}
 use Rattle.method_spec.specs.Answer.{Structure, Op}
 use Rattle.method_spec.specs.Rounds.{rounds, draws}
-use Rattle.bucket_call_spec.specs.Fetch.{Left}
+use Rattle.bucket_call_spec.specs.Fetch.{CallLeft}
 use Rattle.bucket_call_spec.specs.Call.{drawOf, bucketCall}
 use Rattle.bucket_call_spec.specs.Peak.{callPeak}
 use Rattle.state_spec.specs.declared.State.{State}
@@ -38,7 +38,7 @@ ill-changes n (inr (inr h)) = rw h
 
 module _ (st : Structure) (s : State) (tree ticket tape trace : List ℕ) where
   -- What the rounds of the call of that ticket leave.
-  abbrev pub leftBy : Op st → Left
+  abbrev pub leftBy : Op st → CallLeft
   leftBy op = bucketCall (s .size) (rounds st (s .size)) op (drawOf (s .size) tape) (storeOf s tree)
 
   -- Their peak.

@@ -13,10 +13,10 @@ use Rattle.method_spec.specs.Answer.{Structure}
 use Rattle.method_spec.specs.Origin.{tapeOf}
 use Rattle.state_spec.specs.Ticket.{structureOf}
 use Rattle.call_spec.specs.Store.{Ended, refusing}
-use Rattle.demand_spec.specs.History.{Brought, Kept, callOn, leftBy, early, counted, tapesOf}
+use Rattle.demand_spec.specs.History.{Brought, StateAndTree, callOn, leftBy, early, counted, tapesOf}
 use Rattle.demand_laws.specs.Checks.{Verdict, closed, unfit, other-tree, ill-brought, counts, ill-changes, verdict}
 
-module _ (s : Kept) (b : Brought) where
+module _ (s : StateAndTree) (b : Brought) where
   abbrev st : Structure
   st = structureOf (s .state .structure)
 
@@ -58,7 +58,7 @@ module _ (s : Kept) (b : Brought) where
       go (ill-brought n h q) = absurd (refused n q (ill-changes n h))
       go (counts fit sized op asks keyed long q) = long
 
-pub counted-tapes : (st : Structure) (k : ℕ) (s : Kept) → structureOf (s .state .structure) ≡ st → s .state .size ≡ k → (bs : List Brought)
+pub counted-tapes : (st : Structure) (k : ℕ) (s : StateAndTree) → structureOf (s .state .structure) ≡ st → s .state .size ≡ k → (bs : List Brought)
     → All (λ b. draws st k ≤ length (b .tape)) (counted s bs)
 unfolding counted
 counted-tapes st k s is-st is-k [] = all-nil (λ (b : Brought). draws st k ≤ length (b .tape))

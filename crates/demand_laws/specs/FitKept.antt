@@ -18,7 +18,7 @@ use Rattle.method_spec.specs.Call.{capacity, Memory}
 use Rattle.heap_laws.specs.HeapFacts.{heap-root}
 use Rattle.method_laws.specs.MapRepresents.{holds-shaped}
 use Rattle.method_laws.specs.Represented.{Held, held-fits}
-use Rattle.round_spec.specs.Round.{limit}
+use Rattle.round_spec.specs.Round.{stashLimit}
 use Rattle.leaf_spec.specs.Convert.{fromLink, fromAhead}
 use Rattle.bucket_call_spec.specs.Call.{Store}
 use Rattle.leaf_spec.specs.Leaf.{ProperLeaf}
@@ -28,7 +28,7 @@ use Rattle.simulation_laws.specs.CallSim.{simulates-fits}
 use Rattle.simulation_laws.specs.Root.{root-empty, root-top, root-oldest}
 use Rattle.state_spec.specs.declared.Place.{Place}
 use Rattle.state_spec.specs.Fit.{inRange, largestStructure, largestSize, allOf, placeGood, zeroPlace, noPlace, rootGood, aheadGood, places, placesFit, headFits, fits}
-use Rattle.demand_spec.specs.History.{numberOf}
+use Rattle.demand_spec.specs.History.{structureNumber}
 use Rattle.demand_laws.specs.OpenStates.{stateOf, holding, used-places, unused-places}
 
 -- ---- the waiting nodes
@@ -46,31 +46,31 @@ zero-places (suc n) = zero-places n
 
 -- ---- the root
 
-pub root-good : (st : Structure) (limit : ℕ) (t : Contents st) (m : Memory ℕ) → Held 0 st limit t m
-    → rootGood (numberOf st) (m .entries) (m .ahead .key) (fromLink (m .root)) ≡ true
+pub root-good : (st : Structure) (stashLimit : ℕ) (t : Contents st) (m : Memory ℕ) → Held 0 st stashLimit t m
+    → rootGood (structureNumber st) (m .entries) (m .ahead .key) (fromLink (m .root)) ≡ true
 unfolding rootGood
-root-good st limit t m held = go (decLe 1 (m .entries))
+root-good st stashLimit t m held = go (decLe 1 (m .entries))
   where
-    some-entries : (st : Structure) (t : Contents st) → Held 0 st limit t m → (m .entries ≡ 0 → ⊥)
-        → pick (eqb (numberOf st) 1) (shaped (m .entries) (m .root .height))
+    some-entries : (st : Structure) (t : Contents st) → Held 0 st stashLimit t m → (m .entries ≡ 0 → ⊥)
+        → pick (eqb (structureNumber st) 1) (shaped (m .entries) (m .root .height))
         (eqb (m .root .height) 1
-        && pick (eqb (numberOf st) 4) (eqb (m .root .key + m .entries) (m .ahead .key)) (eqb (m .root .key) (pick (eqb (numberOf st) 2) (m .entries) 1))) ≡ true
+        && pick (eqb (structureNumber st) 4) (eqb (m .root .key + m .entries) (m .ahead .key)) (eqb (m .root .key) (pick (eqb (structureNumber st) 2) (m .entries) 1))) ≡ true
     some-entries the-map t held h = holds-shaped (held .0)
     some-entries the-stack t held h =
-        let top = root-top 0 limit t m held h in
+        let top = root-top 0 stashLimit t m held h in
         rw (eq-eqb (m .root .height) 1 (top .0), eq-eqb (m .root .key) (m .entries) (top .1))
     some-entries the-heap t held h =
         let top = heap-root 0 (held .0) h in
         rw (eq-eqb (m .root .height) 1 (top .0), eq-eqb (m .root .key) 1 (top .1))
     some-entries the-queue t held h =
-        let oldest = root-oldest 0 limit t m held h in
+        let oldest = root-oldest 0 stashLimit t m held h in
         rw (eq-eqb (m .root .height) 1 (oldest .0), eq-eqb (m .root .key + m .entries) (m .ahead .key) (oldest .1))
 
-    go : Dec (1 ≤ m .entries) → rootGood (numberOf st) (m .entries) (m .ahead .key) (fromLink (m .root)) ≡ true
+    go : Dec (1 ≤ m .entries) → rootGood (structureNumber st) (m .entries) (m .ahead .key) (fromLink (m .root)) ≡ true
     go (yes h) = rw (ne-eqb (m .entries) 0 (λ e. omega arith)) (some-entries st t held (λ e. omega arith))
     go (no h) =
         let none : m .entries ≡ 0 = omega arith in
-        rw (none, root-empty 0 st limit t m held none)
+        rw (none, root-empty 0 st stashLimit t m held none)
 
 -- ---- what is known ahead
 
@@ -78,13 +78,13 @@ none-known : (n k entries : ℕ) (a : Ahead ℕ) → eqb n 4 ≡ false → a ≡
 unfolding aheadGood
 none-known n k entries a other e = rw (other, e)
 
-pub ahead-good : (st : Structure) (k limit : ℕ) (t : Contents st) (m : Memory ℕ) → Held 0 st limit t m → AheadFits k (m .ahead)
-    → aheadGood (numberOf st) k (m .entries) (fromAhead (m .ahead)) ≡ true
+pub ahead-good : (st : Structure) (k stashLimit : ℕ) (t : Contents st) (m : Memory ℕ) → Held 0 st stashLimit t m → AheadFits k (m .ahead)
+    → aheadGood (structureNumber st) k (m .entries) (fromAhead (m .ahead)) ≡ true
 unfolding aheadGood
-ahead-good the-map k limit t m held known = none-known 1 k (m .entries) (m .ahead) refl (held .1)
-ahead-good the-stack k limit t m held known = none-known 2 k (m .entries) (m .ahead) refl (held .1)
-ahead-good the-heap k limit t m held known = none-known 3 k (m .entries) (m .ahead) refl (held .1)
-ahead-good the-queue k limit t m held known = go (decLe 1 (m .entries))
+ahead-good the-map k stashLimit t m held known = none-known 1 k (m .entries) (m .ahead) refl (held .1)
+ahead-good the-stack k stashLimit t m held known = none-known 2 k (m .entries) (m .ahead) refl (held .1)
+ahead-good the-heap k stashLimit t m held known = none-known 3 k (m .entries) (m .ahead) refl (held .1)
+ahead-good the-queue k stashLimit t m held known = go (decLe 1 (m .entries))
   where
     go : Dec (1 ≤ m .entries) → pick (eqb (m .entries) 0) (eqb (m .ahead .tag) 0) (ltb (m .ahead .tag) (2 ^ k)) ≡ true
     go (yes h) = rw (ne-eqb (m .entries) 0 (λ e. omega arith)) (lt-ltb (m .ahead .tag) (2 ^ k) (known .tag))
@@ -94,7 +94,7 @@ ahead-good the-queue k limit t m held known = go (decLe 1 (m .entries))
 
 -- ---- the state
 
-pub structure-fits : (st : Structure) → inRange (numberOf st) largestStructure ≡ true
+pub structure-fits : (st : Structure) → inRange (structureNumber st) largestStructure ≡ true
 structure-fits the-map = refl
 structure-fits the-stack = refl
 structure-fits the-heap = refl
@@ -122,13 +122,13 @@ module _ (st : Structure) (k : ℕ) (positive : 1 ≤ k) (small : k ≤ 8) (s : 
   root-tag : ltb (s .root .tag) (2 ^ k) ≡ true
   root-tag = lt-ltb (s .root .tag) (2 ^ k) (rw (sim .root) (held-root k (omega arith) st t m held (rw (← sim .ahead) (sim .known)) (simulates-fits sim) .tag))
 
-  root-fits : rootGood (numberOf st) (s .entries) (s .ahead .key) (fromLink (s .root)) ≡ true
+  root-fits : rootGood (structureNumber st) (s .entries) (s .ahead .key) (fromLink (s .root)) ≡ true
   root-fits = rw (sim .entries, sim .root, sim .ahead) (root-good st (capacity k) t m held)
 
-  ahead-fits : aheadGood (numberOf st) k (s .entries) (fromAhead (s .ahead)) ≡ true
+  ahead-fits : aheadGood (structureNumber st) k (s .entries) (fromAhead (s .ahead)) ≡ true
   ahead-fits = rw (sim .entries, sim .ahead) (ahead-good st k (capacity k) t m held (rw (← sim .ahead) (sim .known)))
 
   pub state-fits : fits (stateOf st k s) ≡ true
   unfolding fits headFits
   state-fits =
-      rw (structure-fits st, in-range k largestSize positive small, entries-fit, le-leb (length (s .waiting)) limit (sim .few), root-tag, root-fits, ahead-fits) places-fit
+      rw (structure-fits st, in-range k largestSize positive small, entries-fit, le-leb (length (s .waiting)) stashLimit (sim .few), root-tag, root-fits, ahead-fits) places-fit

@@ -7,18 +7,18 @@ use mathlib.Core.Logic.{inl, inr}
 use mathlib.Core.List.{List, [], _∷_, _++_}
 use lib.ListN.{length, take, drop}
 use Rattle.method_spec.specs.Answer.{Answer, found, absent, replaced, new, removed, pushed, popped, added, taken, queued, dequeued, empty, full}
-use Rattle.bucket_call_spec.specs.Fetch.{Left}
+use Rattle.bucket_call_spec.specs.Fetch.{CallLeft}
 use Rattle.call_spec.specs.Store.{stateLeft, refusing, ending, replied, replyOf}
-use Rattle.demand_spec.specs.History.{Brought, Kept, callOn, history, finally, changesNothing, early, counted, replies, traceOf}
+use Rattle.demand_spec.specs.History.{Brought, StateAndTree, callOn, history, finally, changesNothing, early, counted, replies, traceOf}
 use Rattle.demand_laws.specs.Marks.{Ends, closes, answers}
 use Rattle.demand_laws.specs.Refusals.{refused-closed}
 
 -- ---- a first call that is refused so that it changes nothing
 
-abbrev pub Refuses : Kept → Brought → ℕ → Type 0
+abbrev pub Refuses : StateAndTree → Brought → ℕ → Type 0
 Refuses s b n = callOn s b ≡ refusing n (s .state) (s .tree) (b .trace)
 
-module _ (s : Kept) (b : Brought) (bs : List Brought) (n : ℕ) (early-number : changesNothing n ≡ true) (e : Refuses s b n) where
+module _ (s : StateAndTree) (b : Brought) (bs : List Brought) (n : ℕ) (early-number : changesNothing n ≡ true) (e : Refuses s b n) where
   pub early-finally : finally s (b ∷ bs) ≡ finally s bs
   unfolding finally
   early-finally = rw e
@@ -58,7 +58,7 @@ answer-late empty = refl
 answer-late full = refl
 
 -- The rounds' reply is an answer, or 8, 9 or 10.
-pub rounds-late : (l : Left) → Ends l → early (replied (l .mark) (l .answer)) ≡ false
+pub rounds-late : (l : CallLeft) → Ends l → early (replied (l .mark) (l .answer)) ≡ false
 unfolding replied early
 rounds-late l (closes (inl m) e) = rw (m, e)
 rounds-late l (closes (inr m) e) = rw (m, e)
@@ -69,10 +69,10 @@ first-part [] ys = refl
 first-part {A} (x ∷ xs) ys = ap {B = List A} (λ zs. x ∷ zs) (first-part xs ys)
 
 -- The store after a call whose rounds left that.
-abbrev pub next : Kept → Brought → Left → Kept
+abbrev pub next : StateAndTree → Brought → CallLeft → StateAndTree
 next s b l = record { state = stateLeft (s .state) l; tree = l .tree }
 
-module _ (s : Kept) (b : Brought) (bs : List Brought) (l : Left) (ends : Ends l) {peak : ℕ} (e : callOn s b ≡ ending (s .state) (b .trace) l peak) where
+module _ (s : StateAndTree) (b : Brought) (bs : List Brought) (l : CallLeft) (ends : Ends l) {peak : ℕ} (e : callOn s b ≡ ending (s .state) (b .trace) l peak) where
   pub late-finally : finally s (b ∷ bs) ≡ finally (next s b l) bs
   unfolding finally
   late-finally = rw e
@@ -95,7 +95,7 @@ module _ (s : Kept) (b : Brought) (bs : List Brought) (l : Left) (ends : Ends l)
 
 -- ---- a closed store
 
-module _ (s : Kept) (shut : s .state .mark ≡ 0 → ⊥) where
+module _ (s : StateAndTree) (shut : s .state .mark ≡ 0 → ⊥) where
   pub closed-call : (b : Brought) → Refuses s b 1
   closed-call b = refused-closed (s .state) (s .tree) (b .ticket) (b .tape) (b .trace) shut
 

@@ -17,7 +17,7 @@ use Rattle.method_spec.specs.Plain.{Contents, plain}
 use Rattle.method_spec.specs.Rounds.{rounds}
 use Rattle.method_spec.specs.Call.{capacity, Memory, Called, call}
 use Rattle.method_laws.specs.Represented.{Held}
-use Rattle.bucket_call_spec.specs.Fetch.{Left}
+use Rattle.bucket_call_spec.specs.Fetch.{CallLeft}
 use Rattle.bucket_call_spec.specs.Call.{Store, drawOf, fetchedBy, bucketCall}
 use Rattle.leaf_spec.specs.Entries.{OpFits, KeyLeft}
 use Rattle.simulation_laws.specs.ProperCall.{call-held}
@@ -29,7 +29,7 @@ use Rattle.simulation_laws.specs.BucketRun.{BucketRan, last, andThen, bucketRun
 use Rattle.state_spec.specs.Ticket.{opIn}
 use Rattle.call_spec.specs.declared.Reply.{Reply}
 use Rattle.call_spec.specs.Store.{Ended, ending, replied}
-use Rattle.demand_spec.specs.History.{Brought, Kept, callOn, history, finally, counted, replies, traceOf, opsIn, tapesOf}
+use Rattle.demand_spec.specs.History.{Brought, StateAndTree, callOn, history, finally, counted, replies, traceOf, opsIn, tapesOf}
 use Rattle.demand_laws.specs.Marks.{Ends, call-ends}
 use Rattle.demand_laws.specs.Checks.{IllBrought, ill-changes}
 use Rattle.demand_laws.specs.OpenStates.{stateOf, keptOf}
@@ -39,7 +39,7 @@ use Rattle.demand_laws.specs.ListSteps.{leaving, peaking, Step, refused,
 
 -- ---- runs over buckets
 
-module _ {st : Structure} (k F : ℕ) (draw : ℕ → ℕ → ℕ) (c : ℕ) (op : Op st) (ops : List (Op st)) (s : Store) (l : Left)
+module _ {st : Structure} (k F : ℕ) (draw : ℕ → ℕ → ℕ) (c : ℕ) (op : Op st) (ops : List (Op st)) (s : Store) (l : CallLeft)
     (e : bucketCall k F op (draw c) s ≡ l) where
   run-goes : l .mark ≡ 0 → bucketRun k F draw c (op ∷ ops) s ≡ andThen l (bucketRun k F draw (suc c) ops (relation.leftBy l))
   unfolding bucketRun
@@ -51,7 +51,7 @@ module _ {st : Structure} (k F : ℕ) (draw : ℕ → ℕ → ℕ) (c : ℕ) (op
 
 module _ (st : Structure) (k : ℕ) where
   -- The outcomes of calls and the store at their end, against a run over buckets: 9 stands for the mark of a call without an answer.
-  pub record Runs (r : BucketRan) (es : List Ended) (end : Kept) : Type 0 where
+  pub record Runs (r : BucketRan) (es : List Ended) (end : StateAndTree) : Type 0 where
     pub mark : end .state .mark ≡ r .mark
     pub answers : replies es ≡ list.map (replied 9) (r .answers)
     pub leaves : traceOf es ≡ r .leaves
@@ -59,11 +59,11 @@ module _ (st : Structure) (k : ℕ) where
     pub sound : All Sound es
 
   -- A closed store runs no more.
-  closed-runs : (s : Kept) → (s .state .mark ≡ 0 → ⊥) → (bs : List Brought) (st : Store)
+  closed-runs : (s : StateAndTree) → (s .state .mark ≡ 0 → ⊥) → (bs : List Brought) (st : Store)
       → Runs (record { mark = s .state .mark; answers = []; leaves = []; store = st }) (history s bs) (finally s bs)
   closed-runs s shut bs st =
       record {
-        mark = ap (λ (x : Kept). x .state .mark) (closed-finally s shut bs);
+        mark = ap (λ (x : StateAndTree). x .state .mark) (closed-finally s shut bs);
         answers = closed-replies s shut bs;
         leaves = closed-trace s shut bs;
         store = λ m. absurd (shut m);
@@ -107,7 +107,7 @@ module _ (st : Structure) (k : ℕ) where
         }
 
   module _ (s : Store) (b : Brought) (bs : List Brought) where
-    abbrev here : Kept
+    abbrev here : StateAndTree
     here = keptOf st k s
 
     -- A refused call adds nothing.
@@ -133,7 +133,7 @@ module _ (st : Structure) (k : ℕ) where
 
     module _ (op : Op st) (asks : opIn st (b .ticket) ≡ some op) (fits : OpFits op) (keyed : KeyLeft op (s .ahead .key))
         (e : callOn here b ≡ ending (stateOf st k s) (b .trace) (leaving st k s b op) (peaking st k s b op)) where
-      abbrev left : Left
+      abbrev left : CallLeft
       left = leaving st k s b op
 
       ends : Ends left
@@ -190,11 +190,11 @@ module _ (st : Structure) (k : ℕ) where
       -- After a call that left the store open the others go on.
       after-match : left .mark ≡ 0 → ListRuns (relation.leftBy left) bs → ListRuns s (b ∷ bs)
       after-match m later =
-          list-of others (ap (λ (x : Kept). counted x bs) same) (later .0)
+          list-of others (ap (λ (x : StateAndTree). counted x bs) same) (later .0)
           (λ draw c drawn. (
             rw (run-goes k (rounds st k) draw c op (opsIn st others) s left (same-call draw c others drawn) m)
                 (then-runs (inl m)
-                (subst⁻¹ (λ (x : Kept). Runs (bucketRun k (rounds st k) draw (suc c) (opsIn st others) (relation.leftBy left)) (history x bs) (finally x bs)) same
+                (subst⁻¹ (λ (x : StateAndTree). Runs (bucketRun k (rounds st k) draw (suc c) (opsIn st others) (relation.leftBy left)) (history x bs) (finally x bs)) same
                 (later .1 draw (suc c) (λ i. others-drawn draw c drawn i) .0))),
             (
               keyed,

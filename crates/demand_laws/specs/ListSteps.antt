@@ -11,7 +11,7 @@ use Rattle.method_spec.specs.Plain.{Contents}
 use Rattle.method_spec.specs.Rounds.{rounds}
 use Rattle.method_spec.specs.Call.{capacity, Memory}
 use Rattle.method_laws.specs.Represented.{Held}
-use Rattle.bucket_call_spec.specs.Fetch.{Left}
+use Rattle.bucket_call_spec.specs.Fetch.{CallLeft}
 use Rattle.bucket_call_spec.specs.Call.{Store, drawOf, bucketCall}
 use Rattle.bucket_call_spec.specs.Peak.{callPeak}
 use Rattle.leaf_spec.specs.Entries.{OpFits, KeyLeft}
@@ -19,14 +19,14 @@ use Rattle.bucket_call_spec.specs.Simulates.{Simulates}
 use Rattle.simulation_laws.specs.Relation as relation
 use Rattle.state_spec.specs.Ticket.{opIn, structureOf}
 use Rattle.call_spec.specs.Store.{ending}
-use Rattle.demand_spec.specs.History.{Brought, callOn, numberOf}
+use Rattle.demand_spec.specs.History.{Brought, callOn, structureNumber}
 use Rattle.demand_laws.specs.Checks.{IllBrought, Verdict, closed, unfit, other-tree, ill-brought, counts, verdict}
 use Rattle.demand_laws.specs.OpenStates.{stateOf, keptOf, store-back}
 use Rattle.demand_laws.specs.FitKept.{state-fits}
 use Rattle.demand_laws.specs.HistorySteps.{Refuses, next}
 use Rattle.fitness_laws.specs.Tickets.{op-fits, key-left}
 
-pub structure-back : (st : Structure) → structureOf (numberOf st) ≡ st
+pub structure-back : (st : Structure) → structureOf (structureNumber st) ≡ st
 structure-back map = refl
 structure-back stack = refl
 structure-back heap = refl
@@ -34,7 +34,7 @@ structure-back queue = refl
 
 module _ (st : Structure) (k : ℕ) where
   -- What the rounds leave, of a store and a call that counts.
-  abbrev pub leaving : Store → Brought → Op st → Left
+  abbrev pub leaving : Store → Brought → Op st → CallLeft
   leaving s b op = bucketCall k (rounds st k) op (drawOf k (b .tape)) s
 
   -- Their peak.
@@ -47,7 +47,7 @@ module _ (st : Structure) (k : ℕ) where
         → callOn (keptOf st k s) b ≡ ending (stateOf st k s) (b .trace) (leaving s b op) (peaking s b op) → Step s b
 
   -- A call whose mark is 0 leaves the open state of the store that it leaves.
-  pub left-open : (s : Store) (b : Brought) (l : Left) → l .mark ≡ 0
+  pub left-open : (s : Store) (b : Brought) (l : CallLeft) → l .mark ≡ 0
       → next (keptOf st k s) b l ≡ keptOf st k (relation.leftBy l)
   left-open s b l e =
       ap (λ (m : ℕ). next (keptOf st k s) b (record {

@@ -14,7 +14,7 @@ use Rattle.method_spec.specs.Outcome.{Outcome}
 use Rattle.method_spec.specs.Call.{capacity, program, spareTags, test}
 use Rattle.round_spec.specs.Round.{Hand, readHalf}
 use Rattle.leaf_spec.specs.Leaf.{leafFormat}
-use Rattle.bucket_call_spec.specs.Fetch.{Going, Left, Round, on, shut, closing, heldKeys, wishFor, tooMany, atClose, idleRound, tookRound, wantRound, fetchRound, fetchRounds}
+use Rattle.bucket_call_spec.specs.Fetch.{Going, CallLeft, Round, on, shut, closing, heldKeys, wishFor, tooMany, atClose, idleRound, tookRound, wantRound, fetchRound, fetchRounds}
 use Rattle.bucket_call_spec.specs.Call.{Store, putRounds, afterPuts, afterFetches, stepped, aheadThen, bucketCall}
 
 -- A mark that closes a store: damage or overflow.
@@ -96,7 +96,7 @@ puts-marked k draw (suc n) d o g =
 -- ---- a call
 
 -- What a call leaves: it closed the store, or it has an answer.
-pub data Ends (l : Left) : Type 0 where
+pub data Ends (l : CallLeft) : Type 0 where
   closes : Closing (l .mark) → l .answer ≡ none → Ends l
   answers : (a : Answer) → l .mark ≡ 0 → l .answer ≡ some a → Ends l
 

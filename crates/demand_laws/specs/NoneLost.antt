@@ -16,7 +16,7 @@ use Rattle.method_spec.specs.Node.{Node}
 use Rattle.method_spec.specs.Answer.{Structure, Op}
 use Rattle.method_spec.specs.Plain.{Pair}
 use Rattle.leaf_spec.specs.Leaf.{leafFormat}
-use Rattle.bucket_call_spec.specs.Fetch.{Left}
+use Rattle.bucket_call_spec.specs.Fetch.{CallLeft}
 use Rattle.bucket_call_spec.specs.Call.{drawOf}
 use Rattle.round_spec.specs.Whole.{contents}
 use Rattle.none_lost_laws.specs.Ends.{entriesLeft, Keeps}
@@ -39,7 +39,7 @@ use Rattle.demand_laws.specs.OpenStates.{placed-back}
 use Rattle.demand_spec.specs.Demands.{NoneLost}
 
 -- The pairs of the state that a call leaves are those of the nodes that it left waiting and in the tree.
-pub pairs-left : (s : State) (l : Left) → pairsIn (stateLeft s l) (l .tree) ≡ entriesLeft (s .size) l
+pub pairs-left : (s : State) (l : CallLeft) → pairsIn (stateLeft s l) (l .tree) ≡ entriesLeft (s .size) l
 pairs-left s l =
     ap (λ (ws : List (Node ℕ)). map pairOf (contents leafFormat (s .size) (l .tree) ++ ws)) (placed-back (l .waiting))
 

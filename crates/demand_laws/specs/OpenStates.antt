@@ -11,23 +11,23 @@ use Rattle.bucket_call_spec.specs.Call.{Store}
 use Rattle.state_spec.specs.declared.Place.{Place}
 use Rattle.state_spec.specs.declared.State.{State}
 use Rattle.state_spec.specs.Fit.{places, noPlace, placesFrom, used, unused}
-use Rattle.call_spec.specs.Store.{placed, storeOf}
-use Rattle.demand_spec.specs.History.{Kept, numberOf}
+use Rattle.call_spec.specs.Store.{waitingPlaces, storeOf}
+use Rattle.demand_spec.specs.History.{StateAndTree, structureNumber}
 
 abbrev pub stateOf : Structure → ℕ → Store → State
 stateOf st k s =
     record {
       mark = 0;
-      structure = numberOf st;
+      structure = structureNumber st;
       size = k;
       entries = s .entries;
       root = fromLink (s .root);
       ahead = fromAhead (s .ahead);
       count = length (s .waiting);
-      places = placed (s .waiting);
+      places = waitingPlaces (s .waiting);
     }
 
-abbrev pub keptOf : Structure → ℕ → Store → Kept
+abbrev pub keptOf : Structure → ℕ → Store → StateAndTree
 keptOf st k s = record { state = stateOf st k s; tree = s .tree }
 
 -- ---- places
@@ -59,12 +59,12 @@ abbrev pub holding : Node ℕ → Place
 holding n = record { full = true; node = fromNode n }
 
 -- Placed nodes are read back.
-placed-first : (ns : List (Node ℕ)) → placesFrom (length ns) 0 (placed ns) ≡ map holding ns
+placed-first : (ns : List (Node ℕ)) → placesFrom (length ns) 0 (waitingPlaces ns) ≡ map holding ns
 placed-first ns =
-    subst (λ (n : ℕ). placesFrom n 0 (placed ns) ≡ map holding ns) (length-map ns holding)
+    subst (λ (n : ℕ). placesFrom n 0 (waitingPlaces ns) ≡ map holding ns) (length-map ns holding)
     (places-first (map holding ns) (replicate (places - length ns) noPlace))
 
-pub placed-back : (ns : List (Node ℕ)) → map (λ (p : Place). toNode (p .node)) (placesFrom (length ns) 0 (placed ns)) ≡ ns
+pub placed-back : (ns : List (Node ℕ)) → map (λ (p : Place). toNode (p .node)) (placesFrom (length ns) 0 (waitingPlaces ns)) ≡ ns
 placed-back ns =
     rw (placed-first ns) (map-map (λ (p : Place). toNode (p .node)) holding ns ∙ map-id ns)
 
@@ -75,7 +75,7 @@ module _ (st : Structure) (k : ℕ) (s : Store) where
   pub unused-places : unused (stateOf st k s) ≡ replicate (places - length (s .waiting)) noPlace
   unused-places =
       let n : ℕ = places - length (s .waiting) in
-      subst (λ (i : ℕ). placesFrom n i (placed (s .waiting)) ≡ replicate n noPlace) (length-map (s .waiting) holding)
+      subst (λ (i : ℕ). placesFrom n i (waitingPlaces (s .waiting)) ≡ replicate n noPlace) (length-map (s .waiting) holding)
       (places-after n (map holding (s .waiting)) (replicate n noPlace) ∙ places-same n noPlace)
 
   -- The store of the state is the store.

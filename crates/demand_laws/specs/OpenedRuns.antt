@@ -27,7 +27,7 @@ use Rattle.simulation_laws.specs.BucketRun.{BucketRan}
 use Rattle.simulation_laws.specs.ListSim.{tapeRun, TapeKeys, answers-plain, leaves-named, RunMatches, RunSimulates, tapes-simulate}
 use Rattle.state_spec.specs.Fit.{fits}
 use Rattle.call_spec.specs.Store.{replied, replyOf, storeOf}
-use Rattle.demand_spec.specs.History.{Brought, Kept, history, finally, counted, replies, traceOf, opsIn, tapesOf}
+use Rattle.demand_spec.specs.History.{Brought, StateAndTree, history, finally, counted, replies, traceOf, opsIn, tapesOf}
 use Rattle.demand_spec.specs.Demands.{openedStore, method, Follows, namesFor, leafAt}
 use Rattle.demand_laws.specs.OpenStates.{keptOf, store-back}
 use Rattle.demand_laws.specs.FitKept.{state-fits}
@@ -48,7 +48,7 @@ drawn-tapes st k cs i =
 
 module _ (st : Structure) (k : ℕ) (positive : 1 ≤ k) (small : k ≤ 8) (tree : List ℕ) (sized : length tree ≡ treeLength k)
     (bs : List Brought) (bytes : All (λ b. Bytes (b .ticket)) bs) where
-  abbrev start : Kept
+  abbrev start : StateAndTree
   start = openedStore st k tree
 
   abbrev ops : List (Op st)
@@ -64,7 +64,7 @@ module _ (st : Structure) (k : ℕ) (positive : 1 ≤ k) (small : k ≤ 8) (tree
   pub opened-runs : Asking st k (counted start bs) × (Runs st k ran (history start bs) (finally start bs) × TapeKeys k tapes ops)
   opened-runs =
       subst⁻¹
-      (λ (s : Kept). Asking st k (counted s bs)
+      (λ (s : StateAndTree). Asking st k (counted s bs)
       × (Runs st k (tapeRun k (tapesOf (counted s bs)) (opsIn st (counted s bs))) (history s bs) (finally s bs)
       × TapeKeys k (tapesOf (counted s bs)) (opsIn st (counted s bs))))
       (opened-empty st k positive small tree sized)
@@ -114,9 +114,9 @@ module _ (st : Structure) (k : ℕ) (positive : 1 ≤ k) (small : k ≤ 8) (tree
           trace = runs .leaves ∙ matches .leaves;
           kept =
               subst⁻¹ (λ (s : Store). Simulates k s (method st k start bs .memory))
-              (ap (λ (s : Kept). storeOf (s .state) (s .tree)) left-store ∙ store-back st k (ran .store)) (matches .simulates);
+              (ap (λ (s : StateAndTree). storeOf (s .state) (s .tree)) left-store ∙ store-back st k (ran .store)) (matches .simulates);
           fit =
-              subst⁻¹ (λ (s : Kept). fits (s .state) ≡ true) left-store
+              subst⁻¹ (λ (s : StateAndTree). fits (s .state) ≡ true) left-store
               (state-fits st k positive small (ran .store) (method st k start bs .memory) (matches .simulates) _ method-held);
         }
 

@@ -15,7 +15,7 @@ use Rattle.method_spec.specs.Origin.{DrawOnTape}
 use Rattle.method_laws.specs.Theorems.{named-once, named-draws, tickets-only}
 use Rattle.state_spec.specs.declared.State.{State}
 use Rattle.state_spec.specs.Ticket.{structureOf}
-use Rattle.demand_spec.specs.History.{Brought, Kept, history, finally, counted, traceOf, opsIn, tapesOf}
+use Rattle.demand_spec.specs.History.{Brought, StateAndTree, history, finally, counted, traceOf, opsIn, tapesOf}
 use Rattle.demand_spec.specs.Demands.{Demand1, openedStore, before, Demand2, Demand3, namesFor, leafAt}
 use Rattle.demand_laws.specs.Refusals.{one-reply, unchanged, stays-closed}
 use Rattle.demand_laws.specs.NoneLost.{none-lost}
@@ -84,10 +84,10 @@ module _ (st : Structure) (k : ℕ) (positive : 1 ≤ k) (small : k ≤ 8) (tree
         none-twice = named-once k (opsIn st (counted start₁ bs));
       }
     where
-      start₁ : Kept
+      start₁ : StateAndTree
       start₁ = openedStore st k tree
 
-      start₂ : Kept
+      start₂ : StateAndTree
       start₂ = openedStore st k tree′
 
       -- A name is a draw of a counted call, and such a call has a tape for all its draws.
@@ -97,7 +97,7 @@ module _ (st : Structure) (k : ℕ) (positive : 1 ≤ k) (small : k ≤ 8) (tree
           let each = opened-runs st k positive small tree sized bs bytes .0 .each in
           let many : length (tapesOf (counted start₁ bs)) ≡ length (counted start₁ bs) = length-map (counted start₁ bs) (λ (b : Brought). b .tape) in
           let fresh = opened-empty st k positive small tree sized in
-          let tapes = counted-tapes st k start₁ (ap (λ (s : Kept). structureOf (s .state .structure)) fresh ∙ structure-back st) (ap (λ (s : Kept). s .state .size) fresh) bs in
+          let tapes = counted-tapes st k start₁ (ap (λ (s : StateAndTree). structureOf (s .state .structure)) fresh ∙ structure-back st) (ap (λ (s : StateAndTree). s .state .size) fresh) bs in
           let long = tape-long (draws st k) (counted start₁ bs) tapes (o .call) (from .numbered) (omega (arith, from .of-the-list)) in
           record { numbered = from .numbered; of-the-list = omega (arith, from .of-the-list); used = from .used; on-tape = omega (arith, from .used) }
 

@@ -8,7 +8,7 @@ use native.Mathlib.Omega.{arith}
 use borrow.Author.Tests.{ne-eqb}
 use Rattle.method_spec.specs.Answer.{Answer, found, absent, replaced, new, removed, pushed, popped, added, taken, queued, dequeued, empty, full}
 use Rattle.method_spec.specs.Rounds.{rounds}
-use Rattle.bucket_call_spec.specs.Fetch.{Left}
+use Rattle.bucket_call_spec.specs.Fetch.{CallLeft}
 use Rattle.bucket_call_spec.specs.Call.{drawOf}
 use Rattle.state_spec.specs.declared.State.{State}
 use Rattle.state_spec.specs.Ticket.{structureOf}
@@ -43,7 +43,7 @@ full-number empty e = cc
 full-number full e = cc
 
 -- The number of a call that counts: 8 or 9, which is the mark then, or 10.
-pub counted-number : (l : Left) → Ends l → (n : ℕ) → replied (l .mark) (l .answer) ≡ Refused n → (Closing n × (l .mark ≡ n)) ⊎ (n ≡ 10)
+pub counted-number : (l : CallLeft) → Ends l → (n : ℕ) → replied (l .mark) (l .answer) ≡ Refused n → (Closing n × (l .mark ≡ n)) ⊎ (n ≡ 10)
 unfolding replied
 counted-number l (closes c e) n q = go c (same-number (ap (replied (l .mark)) (sym e) ∙ q))
   where
@@ -75,7 +75,7 @@ module _ (s : State) (tree ticket tape trace : List ℕ) where
       go (ill-brought m (inl h) e) = early-says m n (inl (omega arith, h .1)) e r
       go (ill-brought m (inr h) e) = early-says m n (inr h) e r
       go (counts fit sized op h keyed long e) =
-          let l : Left = leftBy (structureOf (s .structure)) s tree ticket tape trace op in
+          let l : CallLeft = leftBy (structureOf (s .structure)) s tree ticket tape trace op in
           which (counted-number l (call-ends (s .size) (rounds (structureOf (s .structure)) (s .size)) op (drawOf (s .size) tape) (storeOf s tree)) n
           (ap (λ (x : Ended). x .reply) (sym e) ∙ r))
         where

@@ -7,10 +7,10 @@ use native.Mathlib.Omega.{arith}
 use lib.ListN.{getD}
 use Rattle.list_spec.specs.Distinct.{All}
 use Rattle.list_laws.specs.DistinctLaws.{all-nil, all-cons}
-use Rattle.bucket_call_spec.specs.Fetch.{Left}
+use Rattle.bucket_call_spec.specs.Fetch.{CallLeft}
 use Rattle.call_spec.specs.declared.Reply.the-variants.{Refused}
 use Rattle.call_spec.specs.Store.{Ended, refusing, ending, replied}
-use Rattle.demand_spec.specs.History.{Brought, Kept, history}
+use Rattle.demand_spec.specs.History.{Brought, StateAndTree, history}
 use Rattle.demand_laws.specs.Marks.{Closing, Ends, closes, answers}
 use Rattle.demand_laws.specs.Checks.{IllBrought}
 use Rattle.demand_laws.specs.Refusals.{same-number, counted-number}
@@ -25,17 +25,17 @@ Sound e = (n : ℕ) → e .reply ≡ Refused n → Neither n
 -- ---- one call
 
 -- Refused with 1, or for what the call brings.
-pub early-sound : (n : ℕ) → (n ≡ 1) ⊎ IllBrought n → (s : Kept) (b : Brought) → Sound (refusing n (s .state) (s .tree) (b .trace))
+pub early-sound : (n : ℕ) → (n ≡ 1) ⊎ IllBrought n → (s : StateAndTree) (b : Brought) → Sound (refusing n (s .state) (s .tree) (b .trace))
 early-sound n (inl h) s b m r = let e = same-number r in omega arith
 early-sound n (inr (inl h)) s b m r = let e = same-number r in omega arith
 early-sound n (inr (inr (inl h))) s b m r = let e = same-number r in omega arith
 early-sound n (inr (inr (inr h))) s b m r = let e = same-number r in omega arith
 
 -- The rounds left the store open, or met overflow.
-abbrev pub Undamaged : Left → Type 0
+abbrev pub Undamaged : CallLeft → Type 0
 Undamaged l = (l .mark ≡ 0) ⊎ (l .mark ≡ 9)
 
-pub late-sound : (s : Kept) (b : Brought) (l : Left) (peak : ℕ) → Ends l → Undamaged l → Sound (ending (s .state) (b .trace) l peak)
+pub late-sound : (s : StateAndTree) (b : Brought) (l : CallLeft) (peak : ℕ) → Ends l → Undamaged l → Sound (ending (s .state) (b .trace) l peak)
 late-sound s b l peak ends mark n r = go mark (counted-number l ends n r)
   where
     go : Undamaged l → (Closing n × (l .mark ≡ n)) ⊎ (n ≡ 10) → Neither n
@@ -45,7 +45,7 @@ late-sound s b l peak ends mark n r = go mark (counted-number l ends n r)
     go (inr m) (inr x) = omega arith
 
 -- The answer alone says its reply, with 9 where there is none.
-pub reply-of-answer : (l : Left) → Ends l → Undamaged l → replied (l .mark) (l .answer) ≡ replied 9 (l .answer)
+pub reply-of-answer : (l : CallLeft) → Ends l → Undamaged l → replied (l .mark) (l .answer) ≡ replied 9 (l .answer)
 unfolding replied
 reply-of-answer l (answers a x e) m = rw e
 reply-of-answer l (closes c e) (inr m) = rw m
@@ -54,7 +54,7 @@ reply-of-answer l (closes (inr x) e) (inl m) = let z : ⊥ = omega arith in absu
 
 -- ---- a list
 
-pub closed-sound : (s : Kept) → (s .state .mark ≡ 0 → ⊥) → (bs : List Brought) → All Sound (history s bs)
+pub closed-sound : (s : StateAndTree) → (s .state .mark ≡ 0 → ⊥) → (bs : List Brought) → All Sound (history s bs)
 unfolding history
 closed-sound s shut [] = all-nil Sound
 closed-sound s shut (b ∷ bs) =

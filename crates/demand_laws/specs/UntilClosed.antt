@@ -22,7 +22,7 @@ use Rattle.method_spec.specs.Outcome.{Outcome}
 use Rattle.method_spec.specs.Rounds.{rounds}
 use Rattle.method_spec.specs.Call.{capacity, Memory, Called, call}
 use Rattle.method_laws.specs.Represented.{Held}
-use Rattle.bucket_call_spec.specs.Fetch.{Left, Round}
+use Rattle.bucket_call_spec.specs.Fetch.{CallLeft, Round}
 use Rattle.bucket_call_spec.specs.Call.{Store, drawOf, fetchedBy}
 use Rattle.leaf_spec.specs.Entries.{OpFits, KeyLeft}
 use Rattle.simulation_laws.specs.Entries.{held-entries, entries-perm}
@@ -34,7 +34,7 @@ use Rattle.simulation_laws.specs.CallSim.{simulate}
 use Rattle.state_spec.specs.Ticket.{opIn}
 use Rattle.call_spec.specs.declared.Reply.the-variants.{Refused}
 use Rattle.call_spec.specs.Store.{Ended, ending as roundsEnd, replied}
-use Rattle.demand_spec.specs.History.{Brought, Kept, callOn, leftBy, finally, untilClosed, traceOf, pairsIn}
+use Rattle.demand_spec.specs.History.{Brought, StateAndTree, callOn, leftBy, finally, untilClosed, traceOf, pairsIn}
 use Rattle.demand_laws.specs.Refusals.{stays-closed}
 use Rattle.demand_laws.specs.HistorySteps.{first-part, closed-finally}
 use Rattle.demand_spec.specs.Demands.{openedStore, method, before, asked, left, ClosedBy, Ending, stays-open, closes}
@@ -46,16 +46,16 @@ use Rattle.demand_laws.specs.OpenedRuns.{method-held, matches, left-stor
 
 -- ---- lists of calls
 
-finally-append : (s : Kept) (xs ys : List Brought) → finally s (xs ++ ys) ≡ finally (finally s xs) ys
+finally-append : (s : StateAndTree) (xs ys : List Brought) → finally s (xs ++ ys) ≡ finally (finally s xs) ys
 unfolding finally
 finally-append s [] ys = refl
 finally-append s (x ∷ xs) ys = finally-append (leftBy (callOn s x)) xs ys
 
 -- A call that met 9 set the mark, and the store stays as that call left it.
-closing-mark : (s : Kept) (b : Brought) → callOn s b .reply ≡ Refused 9 → callOn s b .state .mark ≡ 9
+closing-mark : (s : StateAndTree) (b : Brought) → callOn s b .reply ≡ Refused 9 → callOn s b .state .mark ≡ 9
 closing-mark s b r = stays-closed (s .state) (s .tree) (b .ticket) (b .tape) (b .trace) 9 r (inr refl) .0
 
-pub closed-at : (s : Kept) (xs : List Brought) (b : Brought) (after : List Brought) → callOn (finally s xs) b .reply ≡ Refused 9
+pub closed-at : (s : StateAndTree) (xs : List Brought) (b : Brought) (after : List Brought) → callOn (finally s xs) b .reply ≡ Refused 9
     → finally s (xs ++ (b ∷ after)) ≡ leftBy (callOn (finally s xs) b)
 unfolding finally
 closed-at s xs b after r =
@@ -63,7 +63,7 @@ closed-at s xs b after r =
     finally-append s xs (b ∷ after) ∙ closed-finally (leftBy (callOn (finally s xs) b)) (λ z. omega arith) after
 
 -- The calls before the one that closed an open store left it open.
-until-open : (s : Kept) (bs : List Brought) → s .state .mark ≡ 0 → finally s (untilClosed s bs) .state .mark ≡ 0
+until-open : (s : StateAndTree) (bs : List Brought) → s .state .mark ≡ 0 → finally s (untilClosed s bs) .state .mark ≡ 0
 unfolding untilClosed finally
 until-open s [] m = m
 until-open s (b ∷ bs) m = go (eqb (callOn s b .state .mark) 0) refl (until-open (leftBy (callOn s b)) bs)
@@ -75,16 +75,16 @@ until-open s (b ∷ bs) m = go (eqb (callOn s b .state .mark) 0) refl (until-ope
     go false e later = m
 
 -- The first calls of a list are all of them, or the next one closed the store.
-data Split (s : Kept) (bs xs : List Brought) : Type 0 where
+data Split (s : StateAndTree) (bs xs : List Brought) : Type 0 where
   whole : xs ≡ bs → Split s bs xs
   next : (b : Brought) (after : List Brought) → bs ≡ xs ++ (b ∷ after) → (callOn (finally s xs) b .state .mark ≡ 0 → ⊥) → Split s bs xs
 
-split-cons : (s : Kept) (b : Brought) {bs xs : List Brought} → Split (leftBy (callOn s b)) bs xs → Split s (b ∷ bs) (b ∷ xs)
+split-cons : (s : StateAndTree) (b : Brought) {bs xs : List Brought} → Split (leftBy (callOn s b)) bs xs → Split s (b ∷ bs) (b ∷ xs)
 unfolding finally
 split-cons s b (whole e) = whole (ap (λ (ys : List Brought). b ∷ ys) e)
 split-cons s b (next c after e shut) = next c after (ap (λ (ys : List Brought). b ∷ ys) e) shut
 
-split : (s : Kept) (bs : List Brought) → Split s bs (untilClosed s bs)
+split : (s : StateAndTree) (bs : List Brought) → Split s bs (untilClosed s bs)
 unfolding untilClosed finally
 split s [] = whole refl
 split s (b ∷ bs) = go (eqb (callOn s b .state .mark) 0) refl (split-cons s b (split (leftBy (callOn s b)) bs))
@@ -103,11 +103,11 @@ remains-of p q (as-before g h) = as-before g (p h)
 remains-of p q (as-after g o h) = as-after g o (q h)
 
 module _ (st : Structure) (k : ℕ) (s : Store) (m : Memory ℕ) (b : Brought) where
-  abbrev here : Kept
+  abbrev here : StateAndTree
   here = keptOf st k s
 
   -- What the rounds leave, what the method's call does, and where the fetch rounds come to.
-  abbrev l : Op st → Left
+  abbrev l : Op st → CallLeft
   l op = leaving st k s b op
 
   abbrev r : Op st → Called ℕ
@@ -170,14 +170,14 @@ module _ (st : Structure) (k : ℕ) (s : Store) (m : Memory ℕ) (b : Brought) w
 
 module _ (st : Structure) (k : ℕ) (positive : 1 ≤ k) (small : k ≤ 8) (tree : List ℕ) (sized : length tree ≡ treeLength k)
     (bs : List Brought) (bytes : All (λ b. Bytes (b .ticket)) bs) where
-  abbrev start : Kept
+  abbrev start : StateAndTree
   start = openedStore st k tree
 
   abbrev first : List Brought
   first = before st k tree bs
 
   pub before-open : finally start first .state .mark ≡ 0
-  before-open = until-open start bs (ap (λ (s : Kept). s .state .mark) (opened-empty st k positive small tree sized))
+  before-open = until-open start bs (ap (λ (s : StateAndTree). s .state .mark) (opened-empty st k positive small tree sized))
 
   pub before-bytes : All (λ b. Bytes (b .ticket)) first
   before-bytes = go (split start bs)
@@ -193,7 +193,7 @@ module _ (st : Structure) (k : ℕ) (positive : 1 ≤ k) (small : k ≤ 8) (tree
   holds = plainContents (capacity k) (asked st k tree bs) (nothing st)
 
   -- What holds of each store that keeps that memory holds of the store left.
-  pub of-left : (P : Kept → Type 0) → ((s : Store) → Simulates k s memory → P (keptOf st k s)) → P (left st k tree bs)
+  pub of-left : (P : StateAndTree → Type 0) → ((s : Store) → Simulates k s memory → P (keptOf st k s)) → P (left st k tree bs)
   of-left P h =
       subst⁻¹ P (left-store st k positive small tree sized first before-bytes before-open)
       (h _ (matches st k positive small tree sized first before-bytes before-open .simulates))

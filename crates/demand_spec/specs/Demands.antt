@@ -38,7 +38,7 @@ use Rattle.call_spec.specs.declared.Reply.the-variants.{Refused}
 use Rattle.call_spec.specs.Store.{Ended, called, refusing, storeOf, replyOf}
 use Rattle.state_spec.specs.Widths.{Widths}
 use Rattle.leaf_spec.specs.Entries.{pairOf}
-use Rattle.demand_spec.specs.History.{Brought, Kept, callOn, history, finally, untilClosed, changesNothing, counted, replies, traceOf, opsIn, tapesOf, pairsIn, numberOf}
+use Rattle.demand_spec.specs.History.{Brought, StateAndTree, callOn, history, finally, untilClosed, changesNothing, counted, replies, traceOf, opsIn, tapesOf, pairsIn, structureNumber}
 
 -- ---- demand 1: any state, tree, ticket, tape and trace buffer
 module _ (s : State) (tree ticket tape trace : List ℕ) where
@@ -106,11 +106,11 @@ pub record RoundTrip (k : ℕ) : Type 0 where
   pub none-other : (b : ℕ) (bytes : List ℕ) (n : slot.Node) → Bytes bytes → length bytes ≡ slotLength → readSlot k b bytes ≡ Full n → bytes ≡ encode n
 
 -- The store that a good opening of a tree leaves.
-abbrev pub openedStore : Structure → ℕ → List ℕ → Kept
+abbrev pub openedStore : Structure → ℕ → List ℕ → StateAndTree
 openedStore st k tree =
-    record { state = opened (numberOf st) k tree .state; tree = opened (numberOf st) k tree .tree }
+    record { state = opened (structureNumber st) k tree .state; tree = opened (structureNumber st) k tree .tree }
 
-module _ (st : Structure) (k : ℕ) (s : Kept) (bs : List Brought) where
+module _ (st : Structure) (k : ℕ) (s : StateAndTree) (bs : List Brought) where
   -- The method at leaves, run on the tickets and the tapes of the calls that count.
   abbrev pub method : Ran ℕ
   method = leafRun (rounds st k) k (tapesOf (counted s bs)) (opsIn st (counted s bs))
@@ -124,7 +124,7 @@ module _ (st : Structure) (k : ℕ) (s : Kept) (bs : List Brought) where
 -- A call closed a store that keeps the memory m and the contents t: it met 9, revealed the first part of what the method's call reveals,
 -- and left, as pairs of a key and a value, t where a fetch round closed the store, and t after the plain machine's call where a put round
 -- did: see `Remains`.
-pub record ClosedBy (st : Structure) (k : ℕ) (s : Kept) (m : Memory ℕ) (t : Contents st) (b : Brought) : Type 0 where
+pub record ClosedBy (st : Structure) (k : ℕ) (s : StateAndTree) (m : Memory ℕ) (t : Contents st) (b : Brought) : Type 0 where
   pub op : Op st
   pub asks : opIn st (b .ticket) ≡ some op
   pub overflow : callOn s b .reply ≡ Refused 9
@@ -134,7 +134,7 @@ pub record ClosedBy (st : Structure) (k : ℕ) (s : Kept) (m : Memory ℕ) (t : 
       (fetching (s .state) (s .tree) (b .ticket) (b .tape) (b .trace) st op)
 
 module _ (st : Structure) (k : ℕ) (tree : List ℕ) (bs : List Brought) where
-  abbrev pub start : Kept
+  abbrev pub start : StateAndTree
   start = openedStore st k tree
 
   -- The calls before the one that closed the store, the tickets of those that count, and the store that they left.
@@ -144,7 +144,7 @@ module _ (st : Structure) (k : ℕ) (tree : List ℕ) (bs : List Brought) where
   abbrev pub asked : List (Op st)
   asked = opsIn st (counted start before)
 
-  abbrev pub left : Kept
+  abbrev pub left : StateAndTree
   left = finally start before
 
   -- How the list ends: no call closed the store, or the one after those before it did. The calls after that one are refused with 1 (demand 1).
@@ -166,10 +166,10 @@ module _ (st : Structure) (k : ℕ) (tree : List ℕ) (bs : List Brought) where
 -- Two whole lists, neither closed at the end, with equally many counted calls: the traces are equal exactly when at each place the
 -- leaves of the draws named for the two lists are equal.
 module _ (st : Structure) (k : ℕ) where
-  abbrev pub namesFor : Kept → List Brought → List Origin
+  abbrev pub namesFor : StateAndTree → List Brought → List Origin
   namesFor s bs = names (rounds st k) k (opsIn st (counted s bs))
 
-  abbrev pub leafAt : Kept → List Brought → ℕ → ℕ
+  abbrev pub leafAt : StateAndTree → List Brought → ℕ → ℕ
   leafAt s bs place = leafOf k (tapesOf (counted s bs)) (getD (namesFor s bs) place noDraw)
 
   pub record Demand3 (tree tree′ : List ℕ) (bs cs : List Brought) : Type 0 where

@@ -25,7 +25,7 @@ use Rattle.state_spec.specs.Fit.{allOf, rootGood, aheadGood, fits, headFits, pl
 use Rattle.state_spec.specs.Ticket.{opIn, fieldsUsed, strayFields}
 use Rattle.state_spec.specs.Opening.{opened}
 use Rattle.call_spec.specs.Store.{called, checks, firstMet, decided, refusing, replied, replyOf}
-use Rattle.demand_spec.specs.History.{Brought, Kept, callOn, leftBy, untilClosed, early, counted}
+use Rattle.demand_spec.specs.History.{Brought, StateAndTree, callOn, leftBy, untilClosed, early, counted}
 use Rattle.demand_spec.specs.Demands.{openedStore}
 
 -- A ticket of that kind, key and value, with a tape of three numbers and room for two leaves; without a key.
@@ -54,18 +54,18 @@ pushAtThree = bringing 4 60 3 3 3
 
 -- A fresh stack of size 2; the same after another hand set the flag of the first slot of bucket 7, on leaf 3's path alone, to 7; and
 -- what a call that met that slot left.
-abbrev fresh : Kept
+abbrev fresh : StateAndTree
 fresh = openedStore stack 2 (replicate 896 0)
 
-abbrev damaged : Kept
+abbrev damaged : StateAndTree
 damaged = record { state = fresh .state; tree = set (fresh .tree) 768 7 }
 
-abbrev closed : Kept
+abbrev closed : StateAndTree
 closed = leftBy (callOn damaged pushAtThree)
 
 -- A queue of size 2 that has no entries, and no key left: an in with three numbers, one that has a key besides, a stack's pop with both
 -- fields, an out with three numbers, an out with four.
-abbrev keysGone : Kept
+abbrev keysGone : StateAndTree
 keysGone =
     record {
       state = record {

@@ -27,27 +27,27 @@ pub record Brought : Type 0 where
   pub trace : List ℕ
 
 -- A store that somebody holds: its state and its tree.
-pub record Kept : Type 0 where
+pub record StateAndTree : Type 0 where
   pub state : State
   pub tree : List ℕ
 
-abbrev pub callOn : Kept → Brought → Ended
+abbrev pub callOn : StateAndTree → Brought → Ended
 callOn s b = called (s .state) (s .tree) (b .ticket) (b .tape) (b .trace)
 
-abbrev pub leftBy : Ended → Kept
+abbrev pub leftBy : Ended → StateAndTree
 leftBy e = record { state = e .state; tree = e .tree }
 
 -- Each call gets the state and tree that the last one left: the outcomes in order, and the store at the end.
-unfoldable pub history : Kept → List Brought → List Ended
+unfoldable pub history : StateAndTree → List Brought → List Ended
 history s [] = []
 history s (b ∷ bs) = callOn s b ∷ history (leftBy (callOn s b)) bs
 
-unfoldable pub finally : Kept → List Brought → Kept
+unfoldable pub finally : StateAndTree → List Brought → StateAndTree
 finally s [] = s
 finally s (b ∷ bs) = finally (leftBy (callOn s b)) bs
 
 -- The calls before the one that closed the store: all of them, where none did.
-unfoldable pub untilClosed : Kept → List Brought → List Brought
+unfoldable pub untilClosed : StateAndTree → List Brought → List Brought
 untilClosed s [] = []
 untilClosed s (b ∷ bs) = pick (eqb (callOn s b .state .mark) 0) (b ∷ untilClosed (leftBy (callOn s b)) bs) []
 
@@ -61,7 +61,7 @@ early (Answered a) = false
 early (Refused n) = changesNothing n
 
 -- "The calls that count are those not refused with 1 to 7", 17 or 19: what they brought.
-unfoldable pub counted : Kept → List Brought → List Brought
+unfoldable pub counted : StateAndTree → List Brought → List Brought
 counted s [] = []
 counted s (b ∷ bs) =
     pick (early (callOn s b .reply)) (counted (leftBy (callOn s b)) bs) (b ∷ counted (leftBy (callOn s b)) bs)
@@ -90,8 +90,8 @@ pairsIn s tree =
     map pairOf (contents leafFormat (s .size) tree ++ map (λ (p : Place). toNode (p .node)) (used s))
 
 -- The structure's number: 1 map, 2 stack, 3 heap, 4 queue.
-abbrev pub numberOf : Structure → ℕ
-numberOf the-map = 1
-numberOf the-stack = 2
-numberOf the-heap = 3
-numberOf the-queue = 4
+abbrev pub structureNumber : Structure → ℕ
+structureNumber the-map = 1
+structureNumber the-stack = 2
+structureNumber the-heap = 3
+structureNumber the-queue = 4

@@ -53,16 +53,16 @@ map-set f (x ∷ l) zero a = refl
 map-set {B = B} f (x ∷ l) (suc i) a = ap (λ (m : List B). f x ∷ m) (map-set f l i a)
 
 -- What some slots fill of the path, which held nothing before.
-abbrev pub placed : ℕ → ℕ → List Slot → Filling Slot
-placed k t xs = fill wordsFormat k (path k t) (empties (path k t)) xs
+abbrev pub filledWith : ℕ → ℕ → List Slot → Filling Slot
+filledWith k t xs = fill wordsFormat k (path k t) (empties (path k t)) xs
 
 -- Some slots were placed: how many each bucket holds is counted, what they hold is written, and those that are left are the first.
 pub record Placing (k t : ℕ) (tree : List ℕ) (xs : List Slot) (now used waiting : List ℕ) (kept : ℕ) : Type 0 where
   pub sized : length waiting ≡ wordCount
   pub used-sized : length used ≡ levels
-  pub counts : take (k + 1) used ≡ map length (placed k t xs .contents)
-  pub filled : now ≡ written wordsFormat tree (path k t) (placed k t xs .contents)
-  pub left : take kept (slotsOf waiting) ≡ placed k t xs .left
+  pub counts : take (k + 1) used ≡ map length (filledWith k t xs .contents)
+  pub filled : now ≡ written wordsFormat tree (path k t) (filledWith k t xs .contents)
+  pub left : take kept (slotsOf waiting) ≡ filledWith k t xs .left
 
 empty-counts : (bs : List ℕ) → map length (empties {E = Slot} bs) ≡ replicate (length bs) 0
 empty-counts [] = refl
@@ -91,7 +91,7 @@ module _ (k t : ℕ) (tree : List ℕ) (xs : List Slot) (now used waiting : List
     (size : k ≤ 15) (leaf : t < 2 ^ k) (tag : wordsFormat .tag x < 2 ^ k) (is : length tree ≡ treeLength k)
     (p : Placing k t tree xs now used waiting kept) (found : level ≡ roomFrom (meeting t (wordsFormat .tag x)) (take (k + 1) used)) where
   abbrev cs : List (List Slot)
-  cs = placed k t xs .contents
+  cs = filledWith k t xs .contents
 
   path-length : length (path k t) ≡ k + 1
   path-length = halvings-length k (leafBucket k t) ∙ omega arith
@@ -125,7 +125,7 @@ module _ (k t : ℕ) (tree : List ℕ) (xs : List Slot) (now used waiting : List
   placing-stored tree′ h q =
       let pl = path-length in
       let f = fill-one-home wordsFormat k (path k t) (empties (path k t)) empties-length xs x (rw is-home (omega arith)) in
-      let g : placed k t (xs ++ x ∷ []) ≡ record { contents = added wordsFormat cs level x; left = placed k t xs .left } = f ∙ rw is-home in
+      let g : filledWith k t (xs ++ x ∷ []) ≡ record { contents = added wordsFormat cs level x; left = filledWith k t xs .left } = f ∙ rw is-home in
       let u = used-there h in
       let r = has-room h in
       let w : 2 ^ (k + 1) ≡ 2 * 2 ^ k = rw (add-one k) (omega arith) in
@@ -223,7 +223,7 @@ pub placing-length : (k t : ℕ) (tree : List ℕ) (xs : List Slot) (now used wa
 placing-length k t tree xs now used waiting kept is leaf p =
     let w : 2 ^ (k + 1) ≡ 2 * 2 ^ k = rw (add-one k) (omega arith) in
     let o = pow-pos k in
-    ap length (p .filled) ∙ written-length k (leafBucket k t) (placed k t xs .contents) tree (omega arith) ∙ is
+    ap length (p .filled) ∙ written-length k (leafBucket k t) (filledWith k t xs .contents) tree (omega arith) ∙ is
 
 -- ---- the path is filled
 pub path-filled : (k t : ℕ) (tree : List ℕ) (xs : List Slot) (now used waiting : List ℕ) (m kept : ℕ) → kept ≤ m

@@ -19,7 +19,7 @@ use Rattle.slot_spec.specs.declared.Link.{Link}
 use Rattle.slot_spec.specs.declared.Ahead.{Ahead}
 use Rattle.method_spec.specs.Answer.{Structure, map, stack, heap, queue}
 use Rattle.leaf_spec.specs.Convert.{toLink}
-use Rattle.round_spec.specs.Round.{limit}
+use Rattle.round_spec.specs.Round.{stashLimit}
 use Rattle.state_spec.specs.declared.Place.{Place}
 use Rattle.state_spec.specs.declared.State.{State}
 use Rattle.state_spec.specs.Fit.{largestStructure, largestSize, zeroLink, allOf, placeGood, keysIn, rootGood, aheadGood, placesFrom, used, fits}
@@ -126,7 +126,7 @@ pub record FitState (s : State) : Type 0 where
   pub structure : (1 ≤ s .structure) × (s .structure ≤ largestStructure)
   pub size : (1 ≤ s .size) × (s .size ≤ largestSize)
   pub entries : s .entries < 2 ^ s .size
-  pub few : s .count ≤ limit
+  pub few : s .count ≤ stashLimit
   pub well-formed : All (λ (p : Place). wellFormed (s .size) (p .node) ≡ true) (used s)
   pub order : ascending (keysIn (used s)) ≡ true
   pub root-tag : s .root .tag < 2 ^ s .size

@@ -13,7 +13,7 @@ use Rattle.method_spec.specs.Node.{Link, Node, withChild, withValue, linkTo}
 use Rattle.method_spec.specs.Prog.{From, Want, Prog, done, want, bind, start}
 use Rattle.method_spec.specs.Answer.{Answer, replaced, full}
 use Rattle.method_spec.specs.Outcome.{Outcome}
-use Rattle.method_spec.specs.Map.{Step, Sub, top, Spot, gap, hit, linkOf, listed, topOf, kids, nodesAt, seat, stepAt, below, placed, rest, walk, unwind, unwound, finish, putStep, putProg}
+use Rattle.method_spec.specs.Map.{Step, Sub, top, Spot, gap, hit, linkOf, listed, topOf, kids, nodesAt, seat, stepAt, below, withSubtree, rest, walk, unwind, unwound, finish, putStep, putProg}
 use Rattle.bucket_call_spec.specs.Fetch.{Held}
 use Rattle.word_round_laws.specs.JoinLaws.{among-append}
 use Rattle.none_lost_laws.specs.Sound.{nodesIn}
@@ -42,7 +42,7 @@ unwind-link : (path : List (Step ℕ)) (b : Sub ℕ) (out : List (Node ℕ)) →
 unfolding unwind topLink
 unwind-link [] b out = refl
 unwind-link (p ∷ path) b out =
-    unwind-link path (rest p b .sub) (out ++ rest p b .out) ∙ ap (topLink path) (seat-link (p .way) (placed p b) (topOf b) none)
+    unwind-link path (rest p b .sub) (out ++ rest p b .out) ∙ ap (topLink path) (seat-link (p .way) (withSubtree p b) (topOf b) none)
 
 unwind-nodes : (path : List (Step ℕ)) (b : Sub ℕ) (out : List (Node ℕ))
     → (let u = unwind path b out in u .out ++ nodesAt (u .sub)) ≡ (out ++ nodesAt b) ++ relinked path (linkOf b)
@@ -51,14 +51,14 @@ unwind-nodes [] b out = sym (append-nil (out ++ nodesAt b))
 unwind-nodes (p ∷ path) b out =
     unwind-nodes path (rest p b .sub) (out ++ rest p b .out)
     ∙ rw (
-      seat-link (p .way) (placed p b) (topOf b) none,
-      seat-nodes (p .way) (placed p b) (topOf b),
-      append-assoc out (kids b) (listed (topOf b) ++ (placed p b ∷ [])),
-      append-assoc out (kids b ++ listed (topOf b)) (placed p b ∷ relinked path (linkTo (placed p b))),
-      append-assoc (kids b) (listed (topOf b)) (placed p b ∷ relinked path (linkTo (placed p b))),
-      append-assoc out (kids b ++ (listed (topOf b) ++ (placed p b ∷ []))) (relinked path (linkTo (placed p b))),
-      append-assoc (kids b) (listed (topOf b) ++ (placed p b ∷ [])) (relinked path (linkTo (placed p b))),
-      append-assoc (listed (topOf b)) (placed p b ∷ []) (relinked path (linkTo (placed p b))),
+      seat-link (p .way) (withSubtree p b) (topOf b) none,
+      seat-nodes (p .way) (withSubtree p b) (topOf b),
+      append-assoc out (kids b) (listed (topOf b) ++ (withSubtree p b ∷ [])),
+      append-assoc out (kids b ++ listed (topOf b)) (withSubtree p b ∷ relinked path (linkTo (withSubtree p b))),
+      append-assoc (kids b) (listed (topOf b)) (withSubtree p b ∷ relinked path (linkTo (withSubtree p b))),
+      append-assoc out (kids b ++ (listed (topOf b) ++ (withSubtree p b ∷ []))) (relinked path (linkTo (withSubtree p b))),
+      append-assoc (kids b) (listed (topOf b) ++ (withSubtree p b ∷ [])) (relinked path (linkTo (withSubtree p b))),
+      append-assoc (listed (topOf b)) (withSubtree p b ∷ []) (relinked path (linkTo (withSubtree p b))),
     )
 
 -- ---- the outcomes

@@ -3,13 +3,13 @@ use operation_spec::Want;
 use slot_spec::Link;
 use slot_spec::Node;
 ghost use mathlib.Core.Path.{_≡_};
-ghost use Rattle.method_spec.specs.Heap.{linkGood, heapTest};
+ghost use Rattle.method_spec.specs.Heap.{heapLinkGood, heapTest};
 ghost use Rattle.leaf_spec.specs.Convert.{toLink, toNode};
 ghost use Rattle.operation_spec.specs.Method.{toWant};
 
 // The link to a position: of height 1 with that key, or absent beyond the entries.
 fn link_good(entries: u16, position: u64, link: Link) -> bool
-    ensures { λ r. ⌜ r ≡ linkGood entries position (toLink link) ⌝ }
+    ensures { λ r. ⌜ r ≡ heapLinkGood entries position (toLink link) ⌝ }
 {
     let end = (entries as u64) + 1;
     if position < end {

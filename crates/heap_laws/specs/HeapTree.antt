@@ -9,7 +9,7 @@ use Rattle.list_spec.specs.Perm.{Perm}
 use Rattle.balance_spec.specs.Tree.{Tree, leaf, node}
 use Rattle.method_spec.specs.Node.{Node, child, Cell}
 use Rattle.method_spec.specs.Prog.{Want}
-use Rattle.method_spec.specs.Heap.{childPosition, Pass, Reached, linkGood, heapTest}
+use Rattle.method_spec.specs.Heap.{childPosition, Pass, Reached, heapLinkGood, heapTest}
 use Rattle.run_laws.specs.Fetches.{tags}
 use Rattle.method_spec.specs.HeapShape.{CompleteTree, bare, heapLink, heapNode, heapNodes}
 
@@ -70,7 +70,7 @@ module _ {T : Type 0} (nil : T) where
 
   -- ---- the fetch test
 
-  link-passes : (n i : ℕ) (t : Tree (Cell T)) → CompleteTree n i (bare t) → linkGood n i (heapLink nil i t) ≡ true
+  link-passes : (n i : ℕ) (t : Tree (Cell T)) → CompleteTree n i (bare t) → heapLinkGood n i (heapLink nil i t) ≡ true
   unfolding heapLink bare
   link-passes n i leaf beyond = rw (lt-leb i n beyond)
   link-passes n i (node l c r) h = rw (le-leb i n (h .0), eq-eqb i i refl)

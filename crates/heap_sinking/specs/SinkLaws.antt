@@ -25,7 +25,7 @@ use Rattle.heap_sinking.specs.declared.Sinking.{Sinking}
 use Rattle.heap_spans.specs.Spans.{belowFirst, fetched, nodeIn, passIn, passesFrom, passesOf}
 use Rattle.heap_spans.specs.SpanLaws.{node-value, passes-none, passes-next, passed-length, first-counted}
 use Rattle.heap_children.specs.Children.{ChildrenTo, lowerFrom, LowerOf}
-use Rattle.heap_sinking.specs.Sinking.{sinksIn, Placed, sinkFrom, turned, PassTo, Ready, TurnTo, sinkAll, SinksTo, Sinks}
+use Rattle.heap_sinking.specs.Sinking.{sinksIn, Placed, sinkFrom, turned, PassTo, SinkReady, TurnTo, sinkAll, SinksTo, Sinks}
 
 -- ---- whether it sinks
 module _ (nodes : List node.Node) (v : ℕ) (low : Span) (way : List Bool) where
@@ -137,7 +137,7 @@ valued nodes way n c val e f g = e ∙ ap (withValue val) (f ∙ ap (above true 
 
 -- ---- one turn
 module _ (h : Held) (way : List Bool) (v : ℕ) (span : Span) (next dn : ℕ) (ws : List ℕ) (fits : h .count ≤ length (h .nodes)) (most : h .count ≤ places)
-    (ready : Ready (h .count) (length way) span next dn) {c : Children}
+    (ready : SinkReady (h .count) (length way) span next dn) {c : Children}
     (kids : ChildrenTo (nodeIn (h .nodes) way (span .at)) (turnAt way (span .at)) (belowFirst span) (h .count) next c) where
   level : (fuel : ℕ)
       → sinkFrom (h .nodes) way v (suc fuel) ws dn span (drop next (nodesOf h))

@@ -56,7 +56,7 @@ module _ (nodes : List node.Node) (way : List Bool) (v : ℕ) where
     pub few : r .made ≤ count + 1 + (c .left .length + c .right .length)
 
 -- The number is at the first node of a span: of the fetched nodes that are taken all but the last position's are done with or at hand.
-pub record Ready (count depth : ℕ) (span : Span) (next done : ℕ) : Type 0 where
+pub record SinkReady (count depth : ℕ) (span : Span) (next done : ℕ) : Type 0 where
   pub some : 0 < span .length
   pub inside : span .at + span .length ≤ count
   pub counted : done + span .length + 1 ≡ next
@@ -68,7 +68,7 @@ module _ (h : Held) (way : List Bool) (v : ℕ) where
     pub resumes : (fuel : ℕ)
         → sinkFrom (h .nodes) way v (suc fuel) ws done span (drop next (nodesOf h)) ≡ turned (h .nodes) way v fuel ws′ r (drop (r .next) (nodesOf h))
     pub long : length ws′ ≡ words
-    pub ready : r .going ≡ true → Ready (h .count) (length way) (r .span) (r .next) (r .made)
+    pub ready : r .going ≡ true → SinkReady (h .count) (length way) (r .span) (r .next) (r .made)
     pub few : r .made ≤ places
 
   -- All of it.
@@ -84,4 +84,4 @@ module _ (h : Held) (way : List Bool) (v : ℕ) where
   pub record Sinks (fuel : ℕ) (span : Span) (next done : ℕ) (ws : List ℕ) : Type 0 where
     pub resumes : sinkFrom (h .nodes) way v fuel ws done span (drop next (nodesOf h)) ≡ sinkAll
     pub long : length ws ≡ words
-    pub ready : Ready (h .count) (length way) span next done
+    pub ready : SinkReady (h .count) (length way) span next done

@@ -27,7 +27,7 @@ ghost use Rattle.node_rows.specs.Row.{places, words};
 ghost use Rattle.node_rows.specs.Held.{heldIn};
 ghost use Rattle.heap_descent.specs.Way.{Leads};
 ghost use Rattle.heap_spans.specs.Spans.{passesOf};
-ghost use Rattle.heap_sinking.specs.Sinking.{sinksIn, Placed, PassTo, Ready, TurnTo, SinksTo};
+ghost use Rattle.heap_sinking.specs.Sinking.{sinksIn, Placed, PassTo, SinkReady, TurnTo, SinksTo};
 
 // Where the number is after a turn: whether it goes on, at the first node of a span, how many fetched nodes are taken, and
 // how many nodes are done with; or the node that is missing.
@@ -103,7 +103,7 @@ fn turn(
     count: usize,
     made: &mut [u64; ROW],
 ) -> Sinking
-    requires { ⌜ (length (now held) ≡ words) × (length (now made) ≡ words) × Leads way × (count ≤ places) × Ready count (way .depth) span next done ⌝ }
+    requires { ⌜ (length (now held) ≡ words) × (length (now made) ≡ words) × Leads way × (count ≤ places) × SinkReady count (way .depth) span next done ⌝ }
     ensures { λ r. ⌜ TurnTo (heldIn (now (held .entry)) count) (wayTo (way .position)) value span next done (now (made .entry)) (now (made .exit)) r ⌝ }
 {
     let at = span.at;

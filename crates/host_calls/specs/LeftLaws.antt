@@ -17,7 +17,7 @@ use Rattle.state_spec.specs.Fit.{places, largestSize}
 use Rattle.state_spec.specs.Fetching.{roundsOf, drawsOf}
 use Rattle.state_laws.specs.FitLaws.{fit-parts}
 use Rattle.method_spec.specs.Node.{Node}
-use Rattle.call_spec.specs.Store.{Ended, placed, called}
+use Rattle.call_spec.specs.Store.{Ended, waitingPlaces, called}
 use Rattle.tape_laws.specs.CutLaws.{onTrace, called-cut, leaves-within}
 use Rattle.stash_laws.specs.Waiting.{waitingIn}
 use Rattle.stash_laws.specs.WaitingLaws.{waiting-length}
@@ -145,24 +145,24 @@ module _ {h : StateHead} {r : Ran} {state words : List ℕ} (ok : Saves h r stat
   few = saved-few ok
 
   -- The slots after those that were saved are empty already.
-  all-saved : placesBytes (take end (placed nodes)) ++ drop (slotLength * end) slots ≡ placesBytes (placed nodes)
+  all-saved : placesBytes (take end (waitingPlaces nodes)) ++ drop (slotLength * end) slots ≡ placesBytes (waitingPlaces nodes)
   all-saved =
       let ps = placesIn places slots in
       let written : placesBytes ps ≡ slots = slots-written places slots (bytes-drop headLength state bytes) slots-long (ok .sound) in
-      ap (λ (xs : List ℕ). placesBytes (take end (placed nodes)) ++ drop (slotLength * end) xs) (sym written)
-      ∙ ap (λ (xs : List ℕ). placesBytes (take end (placed nodes)) ++ xs) (places-bytes-drop end ps)
-      ∙ sym (places-bytes-append (take end (placed nodes)) (drop end ps))
+      ap (λ (xs : List ℕ). placesBytes (take end (waitingPlaces nodes)) ++ drop (slotLength * end) xs) (sym written)
+      ∙ ap (λ (xs : List ℕ). placesBytes (take end (waitingPlaces nodes)) ++ xs) (places-bytes-drop end ps)
+      ∙ sym (places-bytes-append (take end (waitingPlaces nodes)) (drop end ps))
       ∙ ap placesBytes (nothing-left (r .waiting) words (ok .holds) (stateOf h slots) (ok .fit) (places-length places slots) end (omega arith) (omega arith) few)
 
   -- Slots, then the head.
   pub state-saved : (to : ℕ) (head : StateHead) (part left : List ℕ) → to ≡ end → head ≡ headLeft h r
-      → part ≡ placesBytes (take to (placed nodes)) ++ drop (slotLength * to) (take (length state - headLength) slots)
+      → part ≡ placesBytes (take to (waitingPlaces nodes)) ++ drop (slotLength * to) (take (length state - headLength) slots)
       → left ≡ headBytes head ++ drop headLength (take headLength state ++ (part ++ drop (length state - headLength) slots))
       → left ≡ stateBytes (saved (h .structure) (h .size) (r .mark) (r .entries) (r .root) (r .ahead) nodes)
   unfolding stateBytes
   state-saved to head part left et eh ep el =
       let is-head : head ≡ headFor (saved (h .structure) (h .size) (r .mark) (r .entries) (r .root) (r .ahead) nodes) = eh ∙ rw (waiting-length (ok .holds)) in
-      let is-part : part ≡ placesBytes (placed nodes) =
-      ep ∙ ap (λ (xs : List ℕ). placesBytes (take to (placed nodes)) ++ drop (slotLength * to) xs) (slots-whole state (ok .sized))
-      ∙ ap (λ (n : ℕ). placesBytes (take n (placed nodes)) ++ drop (slotLength * n) slots) et ∙ all-saved in
+      let is-part : part ≡ placesBytes (waitingPlaces nodes) =
+      ep ∙ ap (λ (xs : List ℕ). placesBytes (take to (waitingPlaces nodes)) ++ drop (slotLength * to) xs) (slots-whole state (ok .sized))
+      ∙ ap (λ (n : ℕ). placesBytes (take n (waitingPlaces nodes)) ++ drop (slotLength * n) slots) et ∙ all-saved in
       slots-then-head state (ok .sized) head part left el ∙ ap₂ (λ (xs ys : List ℕ). xs ++ ys) (ap headBytes is-head) is-part

@@ -37,7 +37,7 @@ use Rattle.demand_spec.specs.History.{changesNothing, early, pairsIn}
 use Rattle.demand_spec.specs.Demands.{NoneLost, Demand1}
 use Rattle.demand_laws.specs.Proved.{demand1}
 use Rattle.host_spec.specs.Result.{replyNumber, replyValue, resultBytes}
-use Rattle.host_spec.specs.Host.{HostEnded, lengthsGood, hostLeaving, endedAs, hostCalled}
+use Rattle.host_spec.specs.Host.{HostEnded, lengthsGood, hostLeaving, hostEndedAs, hostCalled}
 use Rattle.promise_spec.specs.HostHistory.{markIn, changesNoByte}
 use Rattle.promise_spec.specs.HostDemands.{HostStaysClosed, ResultSays, HostDemand1}
 use Rattle.host_laws.specs.LengthLaws.{good-lengths}
@@ -112,7 +112,7 @@ module _ (state tree ticket tape trace result : List ℕ) (state-bytes : Bytes s
   -- 18, 1 and 2 come before the existing call.
   data HostVerdict (h : HostEnded) : Type 0 where
     not-made : (n : ℕ) → (n ≡ 18) ⊎ ((n ≡ 1) ⊎ (n ≡ 2)) → h ≡ hostLeaving n state tree trace result → HostVerdict h
-    made-on : length state ≡ stateLength → fitBytes state ≡ true → h ≡ endedAs result e → HostVerdict h
+    made-on : length state ≡ stateLength → fitBytes state ≡ true → h ≡ hostEndedAs result e → HostVerdict h
 
   verdict : HostVerdict left
   unfolding hostCalled
@@ -120,7 +120,7 @@ module _ (state tree ticket tape trace result : List ℕ) (state-bytes : Bytes s
     where
       go : (a : Bool) → lengthsGood (length state) (length tape) (length trace) (length result) ≡ a → (b c : Bool) → fitBytes state ≡ c
           → HostVerdict (pick (not a) (hostLeaving 18 state tree trace result)
-          (pick (not b) (hostLeaving 1 state tree trace result) (pick (not c) (hostLeaving 2 state tree trace result) (endedAs result e))))
+          (pick (not b) (hostLeaving 1 state tree trace result) (pick (not c) (hostLeaving 2 state tree trace result) (hostEndedAs result e))))
       go false ea b c ec = not-made 18 (inl refl) refl
       go true ea false c ec = not-made 1 (inr (inl refl)) refl
       go true ea true false ec = not-made 2 (inr (inr refl)) refl
@@ -156,7 +156,7 @@ module _ (state tree ticket tape trace result : List ℕ) (state-bytes : Bytes s
     left-kept : LeftKept (e .state)
     left-kept = called-left s kept low few tree ticket (numbersOf tape) (numbersOf trace) tree-bytes ticket-bytes
 
-    closed-by : (n : ℕ) → left ≡ endedAs result e → e .reply ≡ Refused n → (n ≡ 8) ⊎ (n ≡ 9) → HostStaysClosed state tree ticket tape trace result n
+    closed-by : (n : ℕ) → left ≡ hostEndedAs result e → e .reply ≡ Refused n → (n ≡ 8) ⊎ (n ≡ 9) → HostStaysClosed state tree ticket tape trace result n
     unfolding hostCalled
     closed-by n q r c =
         let m : e .state .mark ≡ n = one .stays-closed n r c .0 in
@@ -174,7 +174,7 @@ module _ (state tree ticket tape trace result : List ℕ) (state-bytes : Bytes s
         closes (inl z) y = omega arith
         closes (inr z) y = omega arith
 
-    says-all : left ≡ endedAs result e → early (e .reply) ≡ false → ResultSays state tree ticket tape trace result
+    says-all : left ≡ hostEndedAs result e → early (e .reply) ≡ false → ResultSays state tree ticket tape trace result
     says-all q late =
         let shows = counted-shows s tree ticket (numbersOf tape) (numbersOf trace) late (fit-state s (fit-bytes state fit .fit) .size .0) in
         let most = called-shown s kept low few tree ticket (numbersOf tape) (numbersOf trace) tree-bytes ticket-bytes in
@@ -186,7 +186,7 @@ module _ (state tree ticket tape trace result : List ℕ) (state-bytes : Bytes s
           filled = ap (λ (h : HostEnded). h .result) q ∙ rw shown;
         }
 
-    keeps-all : left ≡ endedAs result e → (n : ℕ) → e .reply ≡ Refused n → (n ≡ 8) ⊎ (n ≡ 9) → (op : Op (structureOf (s .structure)))
+    keeps-all : left ≡ hostEndedAs result e → (n : ℕ) → e .reply ≡ Refused n → (n ≡ 8) ⊎ (n ≡ 9) → (op : Op (structureOf (s .structure)))
         → opIn (structureOf (s .structure)) ticket ≡ some op
         → NoneLost s tree ticket (numbersOf tape) (numbersOf trace) (structureOf (s .structure)) op (pairsIn (stateIn (left .state)) (left .tree))
     keeps-all q n r c op asks =
@@ -195,7 +195,7 @@ module _ (state tree ticket tape trace result : List ℕ) (state-bytes : Bytes s
         rw same (one .none-lost tree-bytes ticket-bytes (kept-widths s kept low) n r c op asks)
 
   -- Where the call was made and returned n, its reply says it.
-  made-number : left ≡ endedAs result e → left .number ≡ replyNumber (e .reply)
+  made-number : left ≡ hostEndedAs result e → left .number ≡ replyNumber (e .reply)
   made-number q = ap (λ (h : HostEnded). h .number) q
 
   some-number : (n : ℕ) → e .reply ≡ Refused n → 1 ≤ n

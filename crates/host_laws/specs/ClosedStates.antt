@@ -19,7 +19,7 @@ use Rattle.method_spec.specs.Call.{capacity, Memory, emptyMemory, Called, call}
 use Rattle.method_laws.specs.Represented.{Held, held-fits, held-empty}
 use Rattle.leaf_spec.specs.Convert.{fromLink, fromAhead}
 use Rattle.leaf_spec.specs.Entries.{OpFits, KeyLeft}
-use Rattle.bucket_call_spec.specs.Fetch.{Left}
+use Rattle.bucket_call_spec.specs.Fetch.{CallLeft}
 use Rattle.bucket_call_spec.specs.Call.{Store, drawOf, fetchedBy}
 use Rattle.bucket_call_spec.specs.Simulates.{AheadFits, Simulates}
 use Rattle.none_lost_laws.specs.Ends.{FitStore, Keeps, Ends, keeps-room, ends-mark, ends-kept}
@@ -33,7 +33,7 @@ use Rattle.state_spec.specs.Fit.{rootGood}
 use Rattle.call_spec.specs.Store.{stateLeft, storeOf}
 use Rattle.fitness_laws.specs.FitStores.{fit-store}
 use Rattle.lent_bytes_laws.specs.StateLaws.{StateKept}
-use Rattle.demand_spec.specs.History.{Brought, Kept, finally, numberOf}
+use Rattle.demand_spec.specs.History.{Brought, StateAndTree, finally, structureNumber}
 use Rattle.demand_laws.specs.Marks as marks
 use Rattle.demand_laws.specs.Checks.{ill-changes}
 use Rattle.demand_laws.specs.OpenStates.{stateOf, keptOf, store-back}
@@ -44,7 +44,7 @@ use Rattle.demand_laws.specs.ListSteps.{structure-back, leaving, Step, refused,
 use Rattle.host_laws.specs.KeptStates.{grown, queue-key, empty-key, no-key, either-low, placed-kept, placed-sized, open-kept}
 use Rattle.host_laws.specs.LeftStates.{kept-widths, mark-low}
 
-number-low : (st : Structure) → numberOf st < 256
+number-low : (st : Structure) → structureNumber st < 256
 number-low map = omega arith
 number-low stack = omega arith
 number-low heap = omega arith
@@ -52,12 +52,12 @@ number-low queue = omega arith
 
 module _ (st : Structure) (k : ℕ) (positive : 1 ≤ k) (small : k ≤ 8) where
   -- What a call leaves, with the head of a memory that holds what the plain machine holds.
-  module _ (s : Store) (t : Contents st) (m : Memory ℕ) (held : Held 0 st (capacity k) t m) (known : AheadFits k (m .ahead)) (l : Left) (head : HeadOf m l)
+  module _ (s : Store) (t : Contents st) (m : Memory ℕ) (held : Held 0 st (capacity k) t m) (known : AheadFits k (m .ahead)) (l : CallLeft) (head : HeadOf m l)
       {now : List Pair} (keeps : Keeps k now l) (marked : l .mark < 256) where
     abbrev after : State
     after = stateLeft (stateOf st k s) l
 
-    rooted : rootGood (numberOf st) (m .entries) (m .ahead .key) (fromLink (m .root)) ≡ true
+    rooted : rootGood (structureNumber st) (m .entries) (m .ahead .key) (fromLink (m .root)) ≡ true
     rooted = root-good st (capacity k) t m held
 
     ahead-key : l .ahead .key ≡ m .ahead .key
@@ -80,7 +80,7 @@ module _ (st : Structure) (k : ℕ) (positive : 1 ≤ k) (small : k ≤ 8) where
                 height = keeps .root .height;
                 entries = omega (arith, head .entries, few, p);
                 waiting = omega (arith, room);
-                key = either-low (eqb (numberOf st) 4 && eqb (l .entries) 0) (l .ahead .key) (l .root .key) (omega (arith, ahead-key, known .key)) (keeps .root .key);
+                key = either-low (eqb (structureNumber st) 4 && eqb (l .entries) 0) (l .ahead .key) (l .root .key) (omega (arith, ahead-key, known .key)) (keeps .root .key);
                 tag = omega (arith, keeps .root .tag, p);
                 ahead = omega (arith, ahead-tag, known .tag, p);
               };
@@ -90,8 +90,8 @@ module _ (st : Structure) (k : ℕ) (positive : 1 ≤ k) (small : k ≤ 8) where
               let sum = queue-key (m .entries) (m .ahead .key) (fromLink (m .root)) (λ z. n (head .entries ∙ z))
               (subst (λ (x : ℕ). rootGood x (m .entries) (m .ahead .key) (fromLink (m .root)) ≡ true) q rooted) in
               omega (arith, sum, ahead-key, head .key, head .entries);
-          empty-queue = λ q z. head .key ∙ empty-key (numberOf st) (m .entries) (m .ahead .key) (fromLink (m .root)) (sym (head .entries) ∙ z) rooted;
-          others = λ n. ahead-key ∙ no-key (numberOf st) k (m .entries) (fromAhead (m .ahead)) n (ahead-good st k (capacity k) t m held known);
+          empty-queue = λ q z. head .key ∙ empty-key (structureNumber st) (m .entries) (m .ahead .key) (fromLink (m .root)) (sym (head .entries) ∙ z) rooted;
+          others = λ n. ahead-key ∙ no-key (structureNumber st) k (m .entries) (fromAhead (m .ahead)) n (ahead-good st k (capacity k) t m held known);
         }
 
   -- A call on an open state.
@@ -104,7 +104,7 @@ module _ (st : Structure) (k : ℕ) (positive : 1 ≤ k) (small : k ≤ 8) where
         (fit-store (stateOf st k s) (s .tree) (f .0 .1) (sim .kept .is-tree .sized) (sim .kept .is-tree .bytes) (kept-widths (stateOf st k s) (f .0 .0) (f .1))))
 
     module _ (op : Op st) (fits : OpFits op) (keyed : KeyLeft op (s .ahead .key)) (b : Brought) where
-      abbrev left : Left
+      abbrev left : CallLeft
       left = leaving st k s b op
 
       ends : Ends k (rounds st k) op s left
@@ -139,12 +139,12 @@ module _ (st : Structure) (k : ℕ) (positive : 1 ≤ k) (small : k ≤ 8) where
     where
       go : Step st k s b → ((s : Store) (m : Memory ℕ) → Simulates k s m → (t : Contents st) → Held 0 st (capacity k) t m → StateKept (finally (keptOf st k s) bs .state))
           → StateKept (finally (keptOf st k s) (b ∷ bs) .state)
-      go (refused n ill e) later = subst⁻¹ (λ (x : Kept). StateKept (x .state)) (early-finally (keptOf st k s) b bs n (ill-changes n ill) e) (later s m sim t held)
+      go (refused n ill e) later = subst⁻¹ (λ (x : StateAndTree). StateKept (x .state)) (early-finally (keptOf st k s) b bs n (ill-changes n ill) e) (later s m sim t held)
       go (runs op asks fits keyed e) later =
-          subst⁻¹ (λ (x : Kept). StateKept (x .state)) (late-finally (keptOf st k s) b bs l (marks.call-ends k (rounds st k) op (drawOf k (b .tape)) s) e)
+          subst⁻¹ (λ (x : StateAndTree). StateKept (x .state)) (late-finally (keptOf st k s) b bs l (marks.call-ends k (rounds st k) op (drawOf k (b .tape)) s) e)
           (which (simulate k positive (omega (arith, small)) t m held s sim op fits (rw (← sim .ahead) keyed) (drawOf k (b .tape)) (λ d. mod-lt _ (pow-pos k))))
         where
-          l : Left
+          l : CallLeft
           l = leaving st k s b op
 
           r : Called ℕ
@@ -153,15 +153,15 @@ module _ (st : Structure) (k : ℕ) (positive : 1 ≤ k) (small : k ≤ 8) where
           which : Overflowed k m (fetchedBy k (rounds st k) op (drawOf k (b .tape)) s) (leaving st k s b op) r ⊎ Matches k (leaving st k s b op) r
               → StateKept (finally (next (keptOf st k s) b (leaving st k s b op)) bs .state)
           which (inl x) =
-              subst⁻¹ (λ (y : Kept). StateKept (y .state)) (closed-finally (next (keptOf st k s) b (leaving st k s b op)) (λ z. omega (arith, z, x .mark)) bs)
+              subst⁻¹ (λ (y : StateAndTree). StateKept (y .state)) (closed-finally (next (keptOf st k s) b (leaving st k s b op)) (λ z. omega (arith, z, x .mark)) bs)
               (left-kept s m sim t held op fits keyed b)
           which (inr x) =
-              subst⁻¹ (λ (y : Kept). StateKept (finally y bs .state)) (left-open st k s b (leaving st k s b op) (x .mark))
+              subst⁻¹ (λ (y : StateAndTree). StateKept (finally y bs .state)) (left-open st k s b (leaving st k s b op) (x .mark))
               (later (relation.leftBy (leaving st k s b op)) (r .memory) (x .simulates) (plain (capacity k) op t .contents)
               (call-held k (omega (arith, small)) t m held op (drawOf k (b .tape))))
 
   module _ (tree : List ℕ) (sized : length tree ≡ treeLength k) (bs : List Brought) (bytes : All (λ b. Bytes (b .ticket)) bs) where
     pub grown-whole : StateKept (grown st k positive small tree sized bs bytes)
     grown-whole =
-        subst⁻¹ (λ (x : Kept). StateKept (finally x bs .state)) (opened-empty st k positive small tree sized)
+        subst⁻¹ (λ (x : StateAndTree). StateKept (finally x bs .state)) (opened-empty st k positive small tree sized)
         (list-kept bs bytes (emptyStore k) (emptyMemory 0) (simulate-start k) (nothing st) (held-empty 0 st (capacity k)))

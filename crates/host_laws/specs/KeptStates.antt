@@ -30,12 +30,12 @@ use Rattle.state_spec.specs.declared.State.{State}
 use Rattle.state_spec.specs.Fit.{largestStructure, largestSize, inRange, zeroLink, places, noPlace, placesFit, rootGood, aheadGood, fits}
 use Rattle.state_spec.specs.Opening.{empty, closedWith, fresh, Opened, opened}
 use Rattle.state_laws.specs.FitLaws.{in-range-true}
-use Rattle.call_spec.specs.Store.{placed}
+use Rattle.call_spec.specs.Store.{waitingPlaces}
 use Rattle.lent_bytes_laws.specs.PlaceLaws.{full, AllKept, kept-append, kept-none}
 use Rattle.lent_bytes_laws.specs.StateLaws.{StateKept}
 use Rattle.state_laws.specs.FitLaws.{fit-parts}
 use Rattle.fitness_laws.specs.FitState.{fit-state}
-use Rattle.demand_spec.specs.History.{Brought, Kept, finally}
+use Rattle.demand_spec.specs.History.{Brought, StateAndTree, finally}
 use Rattle.demand_spec.specs.Demands.{openedStore, method}
 use Rattle.demand_laws.specs.OpenStates.{stateOf, holding}
 use Rattle.demand_laws.specs.FitKept.{state-fits}
@@ -97,10 +97,10 @@ unfolding AllKept
 kept-nodes k [] h = tt
 kept-nodes k (n ∷ ns) h = (full (fromNode n) (h n (List·Memᴰ·head refl) .0), kept-nodes k ns (λ m i. h m (List·Memᴰ·tail i)))
 
-pub placed-kept : (k : ℕ) (ns : List (Node ℕ)) → All (ProperLeaf k) ns → AllKept (placed ns)
+pub placed-kept : (k : ℕ) (ns : List (Node ℕ)) → All (ProperLeaf k) ns → AllKept (waitingPlaces ns)
 placed-kept k ns h = kept-append (map holding ns) (replicate (places - length ns) noPlace) (kept-nodes k ns h) (kept-none (places - length ns))
 
-pub placed-sized : (ns : List (Node ℕ)) → length ns ≤ places → length (placed ns) ≡ places
+pub placed-sized : (ns : List (Node ℕ)) → length ns ≤ places → length (waitingPlaces ns) ≡ places
 placed-sized ns few =
     length-append (map holding ns) (replicate (places - length ns) noPlace)
     ∙ omega (arith, length-map ns holding, length-replicate (places - length ns) noPlace, few)
@@ -159,6 +159,6 @@ module _ (st : Structure) (k : ℕ) (positive : 1 ≤ k) (small : k ≤ 8) where
 
     pub grown-kept : grown .mark ≡ 0 → (StateKept grown × (fits grown ≡ true)) × (grown .ahead .key < 2 ^ 32)
     grown-kept m =
-        subst⁻¹ (λ (x : Kept). (StateKept (x .state) × (fits (x .state) ≡ true)) × (x .state .ahead .key < 2 ^ 32)) (left-store st k positive small tree sized bs bytes m)
+        subst⁻¹ (λ (x : StateAndTree). (StateKept (x .state) × (fits (x .state) ≡ true)) × (x .state .ahead .key < 2 ^ 32)) (left-store st k positive small tree sized bs bytes m)
         (open-kept _ (method st k (openedStore st k tree) bs .memory) (matches st k positive small tree sized bs bytes m .simulates) _
         (method-held st k positive small tree sized bs bytes))

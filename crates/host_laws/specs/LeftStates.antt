@@ -48,10 +48,10 @@ use Rattle.lent_bytes_spec.specs.Numbers.{numbersOf, numbersBytes}
 use Rattle.lent_bytes_spec.specs.StateBytes.{headWidths, headLength, stateLength, headNumbers, headNamed, headIn, headBytes, rootIn, aheadIn, placesIn, placesBytes, stateIn, headFor, stateBytes}
 use Rattle.lent_bytes_laws.specs.NumbersLaws.{numbers-written}
 use Rattle.lent_bytes_laws.specs.HeadLaws.{head-length}
-use Rattle.lent_bytes_laws.specs.PlaceLaws.{Kept, full, none, AllKept, places-back, places-bytes-length}
+use Rattle.lent_bytes_laws.specs.PlaceLaws.{PlaceKept, full, none, AllKept, places-back, places-bytes-length}
 use Rattle.lent_bytes_laws.specs.StateLaws.{StateKept}
 use Rattle.demand_laws.specs.Checks.{Verdict, closed, unfit, other-tree, ill-brought, counts, verdict, leftBy}
-use Rattle.host_spec.specs.Host.{hostLeaving, lengthsGood, endedAs, hostCalled, readAs, hostReadOut}
+use Rattle.host_spec.specs.Host.{hostLeaving, lengthsGood, hostEndedAs, hostCalled, readAs, hostReadOut}
 use Rattle.host_laws.specs.LengthLaws.{good-lengths}
 use Rattle.host_laws.specs.KeptStates.{placed-kept, placed-sized}
 
@@ -60,7 +60,7 @@ zero-ranged : Ranged noNode
 unfolding Ranged Fit fieldsOf
 zero-ranged = (omega arith, (omega arith, (omega arith, (omega arith, (omega arith, (omega arith, (omega arith, (omega arith, (omega arith, (omega arith, (omega arith, (omega arith, tt))))))))))))
 
-kept-ranged : {p : Place} → Kept p → Ranged (p .node)
+kept-ranged : {p : Place} → PlaceKept p → Ranged (p .node)
 kept-ranged (full n r) = r
 kept-ranged none = zero-ranged
 
@@ -278,7 +278,7 @@ module _ (s : State) (k : LeftKept s) where
 
   -- A closed one answers every call as the state does.
   pub stays-closed : (s .mark ≡ 0 → ⊥) → (tree ticket tape trace result : List ℕ) → Bytes trace → lengthsGood stateLength (length tape) (length trace) (length result) ≡ true
-      → hostCalled bs tree ticket tape trace result ≡ endedAs result (called s tree ticket (numbersOf tape) (numbersOf trace))
+      → hostCalled bs tree ticket tape trace result ≡ hostEndedAs result (called s tree ticket (numbersOf tape) (numbersOf trace))
   unfolding hostCalled called checks firstMet decided
   stays-closed m tree ticket tape trace result b good =
       let marked : eqb (headIn bs .mark) 0 ≡ false = ap (λ (n : ℕ). eqb n 0) mark-is ∙ ne-eqb (s .mark) 0 m in

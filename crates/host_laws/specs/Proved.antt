@@ -30,7 +30,7 @@ use Rattle.readout_spec.specs.ReadOut.{readOut}
 use Rattle.readout_laws.specs.AfterOverflow.{after-overflow}
 use Rattle.bucket_call_spec.specs.Simulates.{Remains}
 use Rattle.lent_bytes_spec.specs.StateBytes.{stateLength, stateIn, stateBytes, fitBytes}
-use Rattle.demand_spec.specs.History.{Brought, Kept, callOn, leftBy, history, finally, untilClosed, counted, replies, traceOf, opsIn, pairsIn}
+use Rattle.demand_spec.specs.History.{Brought, StateAndTree, callOn, leftBy, history, finally, untilClosed, counted, replies, traceOf, opsIn, pairsIn}
 use Rattle.demand_spec.specs.Demands.{fetching, openedStore, before, method, Follows, ClosedBy, Ending, stays-open, closes, Demand2}
 use Rattle.demand_laws.specs.SoundReplies.{Neither, Sound}
 use Rattle.demand_laws.specs.Fresh.{opened-empty}
@@ -38,7 +38,7 @@ use Rattle.demand_laws.specs.OpenedRuns.{opened-runs}
 use Rattle.demand_laws.specs.UntilClosed.{before-open}
 use Rattle.demand_laws.specs.Proved.{demand2, demand3}
 use Rattle.host_spec.specs.Result as result
-use Rattle.host_spec.specs.Host.{HostEnded, HostOpened, hostLeaving, endedAs, readAs, hostReadOut}
+use Rattle.host_spec.specs.Host.{HostEnded, HostOpened, hostLeaving, hostEndedAs, readAs, hostReadOut}
 use Rattle.promise_spec.specs.HostHistory.{HostBrought, broughtBy, LentBytes, HostStore, bytesOf, markIn, hostCallOn, hostLeftBy, hostHistory, hostFinally, hostUntilClosed, hostCounted, hostReplyOf, hostReplies, hostTraceOf, lengthsPass, heard, hostOutcomes, HostAs}
 use Rattle.promise_spec.specs.HostDemands.{hostStart, hostBefore, hostLeft, hostEnd, hostAsked, hostMethod, hostHolds, HostFollows, HostClosedBy, HostEnding, host-stays-open, host-closes, HostDemand2, HostReadsOut, HostDemand3}
 use Rattle.promise_spec.specs.ReadsOut.{ReadsOut}
@@ -99,7 +99,7 @@ number-sound : (r : Reply) → ((n : ℕ) → r ≡ Refused n → Neither n) →
 number-sound (Answered a) h = rw (answered-number a) (λ z. omega arith, (λ z. omega arith, λ z. omega arith))
 number-sound (Refused n) h = h n refl
 
-outcomes-sound : (s : Kept) (cs : List HostBrought) → All Sound (history s (heard cs)) → All (λ (e : HostEnded). Neither (e .number)) (hostOutcomes s cs)
+outcomes-sound : (s : StateAndTree) (cs : List HostBrought) → All Sound (history s (heard cs)) → All (λ (e : HostEnded). Neither (e .number)) (hostOutcomes s cs)
 unfolding hostOutcomes heard history
 outcomes-sound s [] h = all-nil (λ (e : HostEnded). Neither (e .number))
 outcomes-sound s (c ∷ cs) h =
@@ -110,7 +110,7 @@ outcomes-sound s (c ∷ cs) h =
         → (All Sound (history (leftBy (callOn s (broughtBy c))) (heard cs)) → All (λ (e : HostEnded). Neither (e .number)) (hostOutcomes (leftBy (callOn s (broughtBy c))) cs))
         → All Sound (history s (pick b (broughtBy c ∷ heard cs) (heard cs)))
         → All (λ (e : HostEnded). Neither (e .number))
-        (pick b (endedAs (c .result) (callOn s (broughtBy c)) ∷ hostOutcomes (leftBy (callOn s (broughtBy c))) cs)
+        (pick b (hostEndedAs (c .result) (callOn s (broughtBy c)) ∷ hostOutcomes (leftBy (callOn s (broughtBy c))) cs)
         (hostLeaving 18 (stateBytes (s .state)) (s .tree) (c .trace) (c .result) ∷ hostOutcomes s cs))
     go true q same later h =
         all-cons {P = λ (e : HostEnded). Neither (e .number)} (number-sound (callOn s (broughtBy c) .reply) (h _ (List·Memᴰ·head refl)))
@@ -121,7 +121,7 @@ outcomes-sound s (c ∷ cs) h =
 -- ---- from a good opening
 module _ (st : Structure) (k : ℕ) (positive : 1 ≤ k) (small : k ≤ 8) (state : List ℕ) (long : length state ≡ stateLength) (tree : List ℕ)
     (sized : length tree ≡ treeLength k) (cs : List HostBrought) (lent : All LentBytes cs) where
-  abbrev s₀ : Kept
+  abbrev s₀ : StateAndTree
   s₀ = openedStore st k tree
 
   abbrev h₀ : HostStore
@@ -192,7 +192,7 @@ module _ (st : Structure) (k : ℕ) (positive : 1 ≤ k) (small : k ≤ 8) (stat
   -- ---- how the list ends
   -- A call that closes the store was heard: it is the existing call, over bytes.
   module _ (c : HostBrought) (after : List HostBrought) (e : cs ≡ ds ++ (c ∷ after)) (shut : markIn (hostCallOn (hostFinally h₀ ds) c .state) ≡ 0 → ⊥) where
-    abbrev s₁ : Kept
+    abbrev s₁ : StateAndTree
     s₁ = finally s₀ xs
 
     lent-here : LentBytes c
@@ -216,7 +216,7 @@ module _ (st : Structure) (k : ℕ) (positive : 1 ≤ k) (small : k ≤ 8) (stat
             ∙ ap (λ (x : HostEnded). markIn (x .state)) (step-eighteen st k positive small tree sized xs xs-bytes c lent-here fine q)
             ∙ fine-mark st k positive small tree sized xs xs-bytes fine ∙ open-mark))
 
-    ended-so : hostCallOn (hostFinally h₀ ds) c ≡ endedAs (c .result) (callOn s₁ (broughtBy c))
+    ended-so : hostCallOn (hostFinally h₀ ds) c ≡ hostEndedAs (c .result) (callOn s₁ (broughtBy c))
     ended-so =
         ap (λ (h : HostStore). hostCallOn h c) (before-as .end)
         ∙ step st k positive small tree sized xs xs-bytes c lent-here fine was-heard
@@ -238,7 +238,7 @@ module _ (st : Structure) (k : ℕ) (positive : 1 ≤ k) (small : k ≤ 8) (stat
     unfolding hostTraceOf traceOf
     trace-so = ap (λ (x : HostEnded). hostTraceOf (x ∷ [])) ended-so ∙ read (step-tells st k positive small tree sized xs xs-bytes c lent-here fine was-heard)
       where
-        read : Reads c (callOn s₁ (broughtBy c)) → hostTraceOf (endedAs (c .result) (callOn s₁ (broughtBy c)) ∷ []) ≡ traceOf (callOn s₁ (broughtBy c) ∷ [])
+        read : Reads c (callOn s₁ (broughtBy c)) → hostTraceOf (hostEndedAs (c .result) (callOn s₁ (broughtBy c)) ∷ []) ≡ traceOf (callOn s₁ (broughtBy c) ∷ [])
         read (quiet q1 q2 z) = rw (q2, z)
         read (tells q1 q2 r l) = rw (q2, l)
 
@@ -279,7 +279,7 @@ module _ (st : Structure) (k : ℕ) (positive : 1 ≤ k) (small : k ≤ 8) (stat
       record {
         slots = two .slots;
         opens = ap (λ (o : HostOpened). o .number) (opens-as st k positive small tree sized state long)
-            ∙ ap (λ (s : Kept). s .state .mark) (opened-empty st k positive small tree sized);
+            ∙ ap (λ (s : StateAndTree). s .state .mark) (opened-empty st k positive small tree sized);
         answers = host-answers;
         follows = host-follows;
         ends = host-ends;
@@ -288,7 +288,7 @@ module _ (st : Structure) (k : ℕ) (positive : 1 ≤ k) (small : k ≤ 8) (stat
 
   -- ---- reading out after a 9
   module _ (mark : markIn (hostEnd st k state tree cs .state) ≡ 9) where
-    abbrev s₉ : Kept
+    abbrev s₉ : StateAndTree
     s₉ = finally s₀ (heard cs)
 
     out-of : ReadsOut st k tree (heard cs)
@@ -370,5 +370,5 @@ module _ (st : Structure) (k : ℕ) (positive : 1 ≤ k) (small : k ≤ 8) (stat
         none-twice = rw (one .counts) (three .none-twice);
       }
     where
-      count-of : {h : HostStore} {s : Kept} {es : List HostBrought} → HostAs h s es → length (hostCounted h es) ≡ length (counted s (heard es))
+      count-of : {h : HostStore} {s : StateAndTree} {es : List HostBrought} → HostAs h s es → length (hostCounted h es) ≡ length (counted s (heard es))
       count-of {h} {s} {es} hears = sym (length-map (hostCounted h es) broughtBy) ∙ ap (λ (ys : List Brought). length ys) (hears .counts)

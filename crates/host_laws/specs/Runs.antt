@@ -27,7 +27,7 @@ use Rattle.lent_bytes_spec.specs.Numbers.{numbersOf}
 use Rattle.lent_bytes_spec.specs.StateBytes.{stateLength, stateBytes}
 use Rattle.lent_bytes_laws.specs.NumbersLaws.{numbers-low, numbers-back}
 use Rattle.lent_bytes_laws.specs.StateLaws.{state-length}
-use Rattle.demand_spec.specs.History.{Brought, Kept, callOn, leftBy, history, finally, untilClosed, changesNothing, early, counted, replies, traceOf, numberOf}
+use Rattle.demand_spec.specs.History.{Brought, StateAndTree, callOn, leftBy, history, finally, untilClosed, changesNothing, early, counted, replies, traceOf, structureNumber}
 use Rattle.demand_spec.specs.Demands.{Demand1, openedStore}
 use Rattle.demand_laws.specs.Checks.{Later}
 use Rattle.demand_laws.specs.Proved.{demand1}
@@ -36,7 +36,7 @@ use Rattle.demand_laws.specs.OpenedRuns.{follows}
 use Rattle.demand_laws.specs.HistorySteps.{closed-call}
 use Rattle.host_spec.specs.Result.{resultBytes}
 use Rattle.host_spec.specs.Result as result
-use Rattle.host_spec.specs.Host.{HostEnded, HostOpened, lengthsGood, hostLeaving, endedAs, hostCalled, hostOpened, openedAs}
+use Rattle.host_spec.specs.Host.{HostEnded, HostOpened, lengthsGood, hostLeaving, hostEndedAs, hostCalled, hostOpened, openedAs}
 use Rattle.promise_spec.specs.HostHistory.{HostBrought, broughtBy, LentBytes, HostStore, bytesOf, markIn, hostCallOn, hostLeftBy, hostHistory, hostFinally, hostUntilClosed, hostEarly, hostCounted, hostReplyIn, hostReplyOf, hostReplies, leavesIn, hostTraceOf, lengthsPass, heard, hostOutcomes, HostAs}
 use Rattle.promise_spec.specs.HostDemands.{hostStart}
 use Rattle.host_laws.specs.LengthLaws.{good-lengths}
@@ -46,7 +46,7 @@ use Rattle.host_laws.specs.Theorems.{means-call}
 use Rattle.host_laws.specs.ByteCalls.{counted-shows}
 
 -- One call more.
-finally-more : (s : Kept) (bs : List Brought) (b : Brought) → finally s (bs ++ (b ∷ [])) ≡ leftBy (callOn (finally s bs) b)
+finally-more : (s : StateAndTree) (bs : List Brought) (b : Brought) → finally s (bs ++ (b ∷ [])) ≡ leftBy (callOn (finally s bs) b)
 unfolding finally
 finally-more s [] b = refl
 finally-more s (c ∷ bs) b = finally-more (leftBy (callOn s c)) bs b
@@ -54,9 +54,9 @@ finally-more s (c ∷ bs) b = finally-more (leftBy (callOn s c)) bs b
 -- ---- one call
 -- What a C host reads of the outcome of an existing call: nothing of one that does not count; of the others the reply and the leaves.
 pub data Reads (c : HostBrought) (e : Ended) : Type 0 where
-  quiet : early (e .reply) ≡ true → hostEarly (endedAs (c .result) e) ≡ true → e .leaves ≡ 0 → Reads c e
-  tells : early (e .reply) ≡ false → hostEarly (endedAs (c .result) e) ≡ false → hostReplyIn (endedAs (c .result) e) ≡ hostReplyOf (e .reply)
-      → leavesIn (endedAs (c .result) e) ≡ take (e .leaves) (e .trace) → Reads c e
+  quiet : early (e .reply) ≡ true → hostEarly (hostEndedAs (c .result) e) ≡ true → e .leaves ≡ 0 → Reads c e
+  tells : early (e .reply) ≡ false → hostEarly (hostEndedAs (c .result) e) ≡ false → hostReplyIn (hostEndedAs (c .result) e) ≡ hostReplyOf (e .reply)
+      → leavesIn (hostEndedAs (c .result) e) ≡ take (e .leaves) (e .trace) → Reads c e
 
 -- A call counts for a C host exactly where it counts.
 early-as : (r : Reply) → ((n : ℕ) → r ≡ Refused n → ((1 ≤ n) × (n ≤ 10)) ⊎ Later n)
@@ -81,28 +81,28 @@ early-as (Refused n) one = rw (lt-ltb 0 n (some (one n refl)), ne-eqb n 18 (othe
 
 -- The result bytes, where they are filled.
 result-reads : (c : HostBrought) (e : Ended) → 1 ≤ e .leaves → e .leaves < 256 → All (λ (t : ℕ). t < 65536) (e .trace)
-    → (hostReplyIn (endedAs (c .result) e) ≡ hostReplyOf (e .reply)) × (leavesIn (endedAs (c .result) e) ≡ take (e .leaves) (e .trace))
+    → (hostReplyIn (hostEndedAs (c .result) e) ≡ hostReplyOf (e .reply)) × (leavesIn (hostEndedAs (c .result) e) ≡ take (e .leaves) (e .trace))
 unfolding resultBytes pack bytes
 result-reads c e at-least few low =
     let shown : eqb (e .leaves) 0 ≡ false = ne-eqb (e .leaves) 0 (λ z. omega arith) in
     (rw shown, rw (shown, mod-eq-of-lt few, numbers-back (e .trace) low))
 
 module _ (st : Structure) (k : ℕ) (positive : 1 ≤ k) (small : k ≤ 8) (tree : List ℕ) (sized : length tree ≡ treeLength k) where
-  abbrev start : Kept
+  abbrev start : StateAndTree
   start = openedStore st k tree
 
-  abbrev at : List Brought → Kept
+  abbrev at : List Brought → StateAndTree
   at ps = finally start ps
 
   -- A store that calls left: open, or closed and read back in all that is still asked of it.
-  abbrev pub Fine : Kept → Type 0
+  abbrev pub Fine : StateAndTree → Type 0
   Fine s = (s .state .mark ≡ 0) ⊎ ((s .state .mark ≡ 0 → ⊥) × LeftKept (s .state))
 
   module _ (ps : List Brought) (bytes : All (λ b. Bytes (b .ticket)) ps) where
     tree-bytes : at ps .state .mark ≡ 0 → Bytes (at ps .tree)
     tree-bytes m = follows st k positive small tree sized ps bytes m .kept .kept .is-tree .bytes
 
-    by-mark : (s : Kept) → LeftKept (s .state) → Fine s
+    by-mark : (s : StateAndTree) → LeftKept (s .state) → Fine s
     by-mark s l = go (eqb (s .state .mark) 0) refl
       where
         go : (b : Bool) → eqb (s .state .mark) 0 ≡ b → Fine s
@@ -141,7 +141,7 @@ module _ (st : Structure) (k : ℕ) (positive : 1 ≤ k) (small : k ≤ 8) (tree
             called-left (at ps .state) (f .0 .0) (f .1) (omega (arith, fit-state (at ps .state) (f .0 .1) .few)) (at ps .tree) (c .ticket) (numbersOf (c .tape)) (numbersOf (c .trace)) (tree-bytes m) (lent .ticket)
 
         step-reads : lengthsPass c ≡ true → early (e .reply) ≡ false
-            → (hostReplyIn (endedAs (c .result) e) ≡ hostReplyOf (e .reply)) × (leavesIn (endedAs (c .result) e) ≡ take (e .leaves) (e .trace))
+            → (hostReplyIn (hostEndedAs (c .result) e) ≡ hostReplyOf (e .reply)) × (leavesIn (hostEndedAs (c .result) e) ≡ take (e .leaves) (e .trace))
         step-reads pass late =
             let f = grown-kept st k positive small tree sized ps bytes m in
             let fit = fit-state (at ps .state) (f .0 .1) in
@@ -157,7 +157,7 @@ module _ (st : Structure) (k : ℕ) (positive : 1 ≤ k) (small : k ≤ 8) (tree
         unchanged = closed-call (at ps) (x .0) (broughtBy c)
 
       -- The outcome over bytes, and the store that the call leaves.
-      pub step : Fine (at ps) → lengthsPass c ≡ true → hostCallOn (bytesOf (at ps)) c ≡ endedAs (c .result) e
+      pub step : Fine (at ps) → lengthsPass c ≡ true → hostCallOn (bytesOf (at ps)) c ≡ hostEndedAs (c .result) e
       step (inl m) pass =
           means-call st k positive small tree sized ps bytes m (at ps .tree) (c .ticket) (c .tape) (c .trace) (c .result) pass
       step (inr x) pass =
@@ -175,7 +175,7 @@ module _ (st : Structure) (k : ℕ) (positive : 1 ≤ k) (small : k ≤ 8) (tree
           one : Demand1 (at ps .state) (at ps .tree) (c .ticket) (numbersOf (c .tape)) (numbersOf (c .trace))
           one = demand1 (at ps .state) (at ps .tree) (c .ticket) (numbersOf (c .tape)) (numbersOf (c .trace))
 
-          same : hostEarly (endedAs (c .result) e) ≡ early (e .reply)
+          same : hostEarly (hostEndedAs (c .result) e) ≡ early (e .reply)
           same = early-as (e .reply) (one .one-reply)
 
           no-leaf : (r : Reply) → e .reply ≡ r → early r ≡ true → e .leaves ≡ 0
@@ -196,17 +196,17 @@ module _ (st : Structure) (k : ℕ) (positive : 1 ≤ k) (small : k ≤ 8) (tree
       step-eighteen fine not-pass = rw (fine-length fine, not-pass)
 
 -- ---- lists
-none-as : (s : Kept) → HostAs (bytesOf s) s []
+none-as : (s : StateAndTree) → HostAs (bytesOf s) s []
 unfolding hostHistory hostFinally hostUntilClosed hostCounted hostReplies hostTraceOf hostOutcomes heard finally untilClosed counted replies traceOf history
 none-as s = record { outcomes = refl; end = refl; until = refl; counts = refl; answers = refl; trace = refl }
 
 -- A store that is closed stays so.
-closed-until : (s : Kept) → (s .state .mark ≡ 0 → ⊥) → (bs : List Brought) → untilClosed s bs ≡ []
+closed-until : (s : StateAndTree) → (s .state .mark ≡ 0 → ⊥) → (bs : List Brought) → untilClosed s bs ≡ []
 unfolding untilClosed
 closed-until s shut [] = refl
 closed-until s shut (b ∷ bs) = rw (closed-call s shut b, ne-eqb (s .state .mark) 0 shut)
 
-module _ (s : Kept) (c : HostBrought) (cs : List HostBrought) (marked : markIn (stateBytes (s .state)) ≡ s .state .mark) where
+module _ (s : StateAndTree) (c : HostBrought) (cs : List HostBrought) (marked : markIn (stateBytes (s .state)) ≡ s .state .mark) where
   -- 18 adds an outcome and nothing else.
   after-eighteen : lengthsPass c ≡ false → hostCallOn (bytesOf s) c ≡ hostLeaving 18 (stateBytes (s .state)) (s .tree) (c .trace) (c .result)
       → HostAs (bytesOf s) s cs → HostAs (bytesOf s) s (c ∷ cs)
@@ -226,13 +226,13 @@ module _ (s : Kept) (c : HostBrought) (cs : List HostBrought) (marked : markIn (
       go false e = sym (closed-until s (eqb-false (s .state .mark) 0 e) (heard cs))
 
   -- One that is heard.
-  after-heard : lengthsPass c ≡ true → hostCallOn (bytesOf s) c ≡ endedAs (c .result) (callOn s (broughtBy c)) → Reads c (callOn s (broughtBy c))
+  after-heard : lengthsPass c ≡ true → hostCallOn (bytesOf s) c ≡ hostEndedAs (c .result) (callOn s (broughtBy c)) → Reads c (callOn s (broughtBy c))
       → markIn (stateBytes (callOn s (broughtBy c) .state)) ≡ callOn s (broughtBy c) .state .mark
       → HostAs (bytesOf (leftBy (callOn s (broughtBy c)))) (leftBy (callOn s (broughtBy c))) cs → HostAs (bytesOf s) s (c ∷ cs)
   unfolding hostHistory hostFinally hostUntilClosed hostCounted hostReplies hostTraceOf hostOutcomes heard finally untilClosed counted replies traceOf history
   after-heard pass q reads left-marked later =
       record {
-        outcomes = rw (q, pass) (ap (λ (es : List HostEnded). endedAs (c .result) (callOn s (broughtBy c)) ∷ es) (later .outcomes));
+        outcomes = rw (q, pass) (ap (λ (es : List HostEnded). hostEndedAs (c .result) (callOn s (broughtBy c)) ∷ es) (later .outcomes));
         end = rw (q, pass) (later .end);
         until = rw (q, left-marked, pass) (closing (eqb (callOn s (broughtBy c) .state .mark) 0));
         counts = rw (q, pass) (counting reads);
@@ -246,23 +246,23 @@ module _ (s : Kept) (c : HostBrought) (cs : List HostBrought) (marked : markIn (
       closing false = refl
 
       counting : Reads c (callOn s (broughtBy c))
-          → map broughtBy (pick (hostEarly (endedAs (c .result) (callOn s (broughtBy c)))) (hostCounted (bytesOf (leftBy (callOn s (broughtBy c)))) cs) (c ∷ hostCounted (bytesOf (leftBy (callOn s (broughtBy c)))) cs))
+          → map broughtBy (pick (hostEarly (hostEndedAs (c .result) (callOn s (broughtBy c)))) (hostCounted (bytesOf (leftBy (callOn s (broughtBy c)))) cs) (c ∷ hostCounted (bytesOf (leftBy (callOn s (broughtBy c)))) cs))
           ≡ pick (early (callOn s (broughtBy c) .reply)) (counted (leftBy (callOn s (broughtBy c))) (heard cs)) (broughtBy c ∷ counted (leftBy (callOn s (broughtBy c))) (heard cs))
       counting (quiet q1 q2 z) = rw (q1, q2) (later .counts)
       counting (tells q1 q2 r l) = rw (q1, q2) (ap (λ (xs : List Brought). broughtBy c ∷ xs) (later .counts))
 
       answering : Reads c (callOn s (broughtBy c))
-          → hostReplies (endedAs (c .result) (callOn s (broughtBy c)) ∷ hostHistory (bytesOf (leftBy (callOn s (broughtBy c)))) cs) ≡ map hostReplyOf (replies (callOn s (broughtBy c) ∷ history (leftBy (callOn s (broughtBy c))) (heard cs)))
+          → hostReplies (hostEndedAs (c .result) (callOn s (broughtBy c)) ∷ hostHistory (bytesOf (leftBy (callOn s (broughtBy c)))) cs) ≡ map hostReplyOf (replies (callOn s (broughtBy c) ∷ history (leftBy (callOn s (broughtBy c))) (heard cs)))
       answering (quiet q1 q2 z) = rw (q1, q2) (later .answers)
       answering (tells q1 q2 r l) = rw (q1, q2, r) (ap (λ xs. hostReplyOf (callOn s (broughtBy c) .reply) ∷ xs) (later .answers))
 
       tracing : Reads c (callOn s (broughtBy c))
-          → hostTraceOf (endedAs (c .result) (callOn s (broughtBy c)) ∷ hostHistory (bytesOf (leftBy (callOn s (broughtBy c)))) cs) ≡ traceOf (callOn s (broughtBy c) ∷ history (leftBy (callOn s (broughtBy c))) (heard cs))
+          → hostTraceOf (hostEndedAs (c .result) (callOn s (broughtBy c)) ∷ hostHistory (bytesOf (leftBy (callOn s (broughtBy c)))) cs) ≡ traceOf (callOn s (broughtBy c) ∷ history (leftBy (callOn s (broughtBy c))) (heard cs))
       tracing (quiet q1 q2 z) = rw (q2, z) (later .trace)
       tracing (tells q1 q2 r l) = rw (q2, l) (ap (λ (xs : List ℕ). take (callOn s (broughtBy c) .leaves) (callOn s (broughtBy c) .trace) ++ xs) (later .trace))
 
 module _ (st : Structure) (k : ℕ) (positive : 1 ≤ k) (small : k ≤ 8) (tree : List ℕ) (sized : length tree ≡ treeLength k) where
-  abbrev after : List Brought → Kept
+  abbrev after : List Brought → StateAndTree
   after ps = finally (openedStore st k tree) ps
 
   -- Calls after some others.
@@ -295,13 +295,13 @@ module _ (st : Structure) (k : ℕ) (positive : 1 ≤ k) (small : k ≤ 8) (tree
       go true q same later =
           after-heard (after ps) c cs (fine-mark st k positive small tree sized ps bytes fine) q (step st k positive small tree sized ps bytes c here fine q)
           (step-tells st k positive small tree sized ps bytes c here fine q)
-          (subst (λ (s : Kept). markIn (stateBytes (s .state)) ≡ s .state .mark) next
+          (subst (λ (s : StateAndTree). markIn (stateBytes (s .state)) ≡ s .state .mark) next
           (fine-mark st k positive small tree sized (ps ++ (broughtBy c ∷ [])) more fine-next))
-          (subst (λ (s : Kept). HostAs (bytesOf s) s cs) next (later more fine-next))
+          (subst (λ (s : StateAndTree). HostAs (bytesOf s) s cs) next (later more fine-next))
 
   module _ (state : List ℕ) (long : length state ≡ stateLength) where
     -- What a good opening leaves is the bytes of a fresh store.
-    pub opens-as : hostOpened (numberOf st) k state tree ≡ openedAs (opened (numberOf st) k tree)
+    pub opens-as : hostOpened (structureNumber st) k state tree ≡ openedAs (opened (structureNumber st) k tree)
     unfolding hostOpened
     opens-as = rw (eq-eqb (length state) stateLength long)
 
@@ -314,4 +314,4 @@ module _ (st : Structure) (k : ℕ) (positive : 1 ≤ k) (small : k ≤ 8) (tree
     unfolding finally
     host-run cs lent =
         subst⁻¹ (λ (h : HostStore). HostAs h (openedStore st k tree) cs) start-as
-        (runs-on [] (all-nil (λ (b : Brought). Bytes (b .ticket))) (inl (ap (λ (s : Kept). s .state .mark) (opened-empty st k positive small tree sized))) cs lent)
+        (runs-on [] (all-nil (λ (b : Brought). Bytes (b .ticket))) (inl (ap (λ (s : StateAndTree). s .state .mark) (opened-empty st k positive small tree sized))) cs lent)

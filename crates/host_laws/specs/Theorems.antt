@@ -34,7 +34,7 @@ use Rattle.demand_laws.specs.Checks.{Later}
 use Rattle.demand_laws.specs.Proved.{demand1}
 use Rattle.demand_laws.specs.Refusals.{same-number}
 use Rattle.host_spec.specs.Result.{replyNumber}
-use Rattle.host_spec.specs.Host.{HostEnded, hostLeaving, lengthsGood, endedAs, hostCalled, readAs, hostReadOut}
+use Rattle.host_spec.specs.Host.{HostEnded, hostLeaving, lengthsGood, hostEndedAs, hostCalled, readAs, hostReadOut}
 use Rattle.promise_spec.specs.HostHistory.{changesNoByte}
 use Rattle.host_laws.specs.LengthLaws.{good-lengths}
 use Rattle.host_laws.specs.KeptStates.{opened-kept, grown, grown-kept}
@@ -94,10 +94,10 @@ module _ (state tree ticket tape trace result : List ℕ) (state-bytes : Bytes s
       go false ea false eb q = let z : _≡_ {A = ℕ} 0 1 = cc in absurd (omega arith)
 
   -- Over bytes that leaves every byte.
-  refusal-ends : (n : ℕ) → good ≡ true → fitBytes state ≡ true → e ≡ refusing n (stateIn state) tree (numbersOf trace) → endedAs result e ≡ hostLeaving n state tree trace result
+  refusal-ends : (n : ℕ) → good ≡ true → fitBytes state ≡ true → e ≡ refusing n (stateIn state) tree (numbersOf trace) → hostEndedAs result e ≡ hostLeaving n state tree trace result
   refusal-ends n lengths fit q =
       let g = good-lengths (length state) (length tape) (length trace) (length result) lengths in
-      ap (endedAs result) q
+      ap (hostEndedAs result) q
       ∙ rw (bytes-back state state-bytes (g .state-long) (fit-bytes state fit .sound), numbers-written (length trace / 2) trace trace-bytes (omega (arith, g .trace-even)))
 
   -- A refusal with one of these numbers leaves every lent byte as it came, whatever was lent.
@@ -106,8 +106,8 @@ module _ (state tree ticket tape trace result : List ℕ) (state-bytes : Bytes s
   refused-unchanged n some-number is quiet = go good refl (eqb (headIn state .mark) 0) (fitBytes state) refl is
     where
       go : (a : Bool) → good ≡ a → (b c : Bool) → fitBytes state ≡ c
-          → pick (not a) (hostLeaving 18 state tree trace result) (pick (not b) (hostLeaving 1 state tree trace result) (pick (not c) (hostLeaving 2 state tree trace result) (endedAs result e))) .number ≡ n
-          → pick (not a) (hostLeaving 18 state tree trace result) (pick (not b) (hostLeaving 1 state tree trace result) (pick (not c) (hostLeaving 2 state tree trace result) (endedAs result e)))
+          → pick (not a) (hostLeaving 18 state tree trace result) (pick (not b) (hostLeaving 1 state tree trace result) (pick (not c) (hostLeaving 2 state tree trace result) (hostEndedAs result e))) .number ≡ n
+          → pick (not a) (hostLeaving 18 state tree trace result) (pick (not b) (hostLeaving 1 state tree trace result) (pick (not c) (hostLeaving 2 state tree trace result) (hostEndedAs result e)))
           ≡ hostLeaving n state tree trace result
       go false ea b c ec h = ap (λ (m : ℕ). hostLeaving m state tree trace result) h
       go true ea false c ec h = ap (λ (m : ℕ). hostLeaving m state tree trace result) h
@@ -147,7 +147,7 @@ module _ (st : Structure) (k : ℕ) (positive : 1 ≤ k) (small : k ≤ 8) (tree
 
     -- Each call on its bytes means what the existing one means, on any tree, ticket, tape and trace with lengths that pass.
     pub means-call : (tree′ ticket tape trace result : List ℕ) → lengthsGood stateLength (length tape) (length trace) (length result) ≡ true
-        → hostCalled (stateBytes s) tree′ ticket tape trace result ≡ endedAs result (called s tree′ ticket (numbersOf tape) (numbersOf trace))
+        → hostCalled (stateBytes s) tree′ ticket tape trace result ≡ hostEndedAs result (called s tree′ ticket (numbersOf tape) (numbersOf trace))
     unfolding hostCalled
     means-call tree′ ticket tape trace result good =
         rw (state-length s (facts .0 .0), good, mark-read, fit-whole, reads-back)
@@ -173,5 +173,5 @@ module _ (st : Structure) (k : ℕ) (positive : 1 ≤ k) (small : k ≤ 8) (tree
       -- Where it is closed, each later call means what the existing one means: 1.
       pub means-closed : (after .mark ≡ 0 → ⊥) → (tree″ ticket″ tape″ trace″ result : List ℕ) → Bytes trace″
           → lengthsGood stateLength (length tape″) (length trace″) (length result) ≡ true
-          → hostCalled (stateBytes after) tree″ ticket″ tape″ trace″ result ≡ endedAs result (called after tree″ ticket″ (numbersOf tape″) (numbersOf trace″))
+          → hostCalled (stateBytes after) tree″ ticket″ tape″ trace″ result ≡ hostEndedAs result (called after tree″ ticket″ (numbersOf tape″) (numbersOf trace″))
       means-closed = stays-closed after left-kept

@@ -127,5 +127,5 @@ pub record Files : Type 0 where
   pub open-store : hostReadOut freshBytes [] (7 ∷ []) ≡ record { number = 14; length = 0; out = 7 ∷ [] }
 
 files-worked : Files
-unfolding hostReadOut readOut read.numberOf lengthOf stateIn headIn fields value
+unfolding hostReadOut readOut read.readOutNumber lengthOf stateIn headIn fields value
 files-worked = record { short-state = refl; open-store = refl }

@@ -53,8 +53,8 @@ abbrev pub hostLeaving : ℕ → (state tree trace result : List ℕ) → HostEn
 hostLeaving n state tree trace result = record { number = n; state = state; tree = tree; trace = trace; result = result }
 
 -- "A call that reveals a leaf also fills 12 result bytes"
-abbrev pub endedAs : List ℕ → Ended → HostEnded
-endedAs result e =
+abbrev pub hostEndedAs : List ℕ → Ended → HostEnded
+hostEndedAs result e =
     record {
       number = replyNumber (e .reply);
       state = stateBytes (e .state);
@@ -69,7 +69,7 @@ hostCalledBy existing state tree ticket tape trace result =
     pick (not (lengthsGood (length state) (length tape) (length trace) (length result))) (hostLeaving 18 state tree trace result)
     (pick (not (eqb (headIn state .mark) 0)) (hostLeaving 1 state tree trace result)
     (pick (not (fitBytes state)) (hostLeaving 2 state tree trace result)
-    (endedAs result (existing (stateIn state) tree ticket (numbersOf tape) (numbersOf trace)))))
+    (hostEndedAs result (existing (stateIn state) tree ticket (numbersOf tape) (numbersOf trace)))))
 
 unfoldable pub hostCalled : (state tree ticket tape trace result : List ℕ) → HostEnded
 hostCalled state tree ticket tape trace result = hostCalledBy called state tree ticket tape trace result
@@ -84,8 +84,8 @@ pub record HostReadOut : Type 0 where
 abbrev pub hostReading : (number length : ℕ) → List ℕ → HostReadOut
 hostReading n l out = record { number = n; length = l; out = out }
 
-abbrev pub readAs : read.Left → HostReadOut
-readAs l = hostReading (read.numberOf (l .result)) (lengthOf (l .result)) (l .out)
+abbrev pub readAs : read.ReadOutLeft → HostReadOut
+readAs l = hostReading (read.readOutNumber (l .result)) (lengthOf (l .result)) (l .out)
 
 unfoldable pub hostReadOut : (state tree out : List ℕ) → HostReadOut
 hostReadOut state tree out =

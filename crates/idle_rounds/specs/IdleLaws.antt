@@ -19,7 +19,7 @@ use Rattle.method_spec.specs.Answer as answer
 use Rattle.method_spec.specs.Answer.{Structure}
 use Rattle.method_spec.specs.Call.{drawsFrom}
 use Rattle.run_laws.specs.Calls.{draws-split, draws-length}
-use Rattle.round_spec.specs.Round.{Hand, readHalf, limit}
+use Rattle.round_spec.specs.Round.{Hand, readHalf, stashLimit}
 use Rattle.round_spec.specs.Whole.{IsTree}
 use Rattle.round_laws.specs.NothingLost.{round-is-tree, round-proper}
 use Rattle.leaf_spec.specs.Leaf.{leafFormat, ProperLeaf}
@@ -30,7 +30,7 @@ use Rattle.peak_laws.specs.PeakLaws.{peak-none, rounds-none, peak-goes, peak-sh
 use Rattle.leaf_laws.specs.Proper.{leaves-lawful}
 use Rattle.stash_laws.specs.WaitingLaws.{waiting-length}
 use Rattle.one_round.specs.declared.Rounded.{Rounded}
-use Rattle.one_round.specs.OneRound.{going, endedWith, Ready, Idled}
+use Rattle.one_round.specs.OneRound.{going, endedWith, RoundReady, Idled}
 use Rattle.idle_rounds.specs.Idle.{Between, keysHeld, IdledAll}
 
 -- A draw is a leaf.
@@ -63,7 +63,7 @@ put-none k draw d o g = refl
 module _ (k leaf : ℕ) (is-leaf : leaf < 2 ^ k) (p : Prog ℕ (Outcome ℕ)) (g : Going) (is : IsTree k (g .tree)) (proper : All (ProperLeaf k) (g .waiting)) where
   abbrev KeptBy : Round (Outcome ℕ) → Type 0
   KeptBy (shut m h) = Unit {0}
-  KeptBy (on h q) = IsTree k (h .tree) × (All (ProperLeaf k) (h .waiting) × (total h ≤ limit))
+  KeptBy (on h q) = IsTree k (h .tree) × (All (ProperLeaf k) (h .waiting) × (total h ≤ stashLimit))
 
   idle-keeps : KeptBy (idleRound k leaf p g)
   unfolding idleRound atClose
@@ -81,11 +81,11 @@ module _ (k leaf : ℕ) (is-leaf : leaf < 2 ^ k) (p : Prog ℕ (Outcome ℕ)) (g
             round-is-tree leafFormat leaves-lawful k leaf is-leaf (g .tree) is none (heldKeys g) (g .waiting) proper h e,
             (
               round-proper leafFormat leaves-lawful k leaf is-leaf (g .tree) is none (heldKeys g) (g .waiting) proper h e,
-              ltb-false limit (total (written k leaf (h .waiting) (g .held) g)) q,
+              ltb-false stashLimit (total (written k leaf (h .waiting) (g .held) g)) q,
             ),
           )
 
-  pub idle-kept : (h : Going) → idleRound k leaf p g ≡ on h p → IsTree k (h .tree) × (All (ProperLeaf k) (h .waiting) × (total h ≤ limit))
+  pub idle-kept : (h : Going) → idleRound k leaf p g ≡ on h p → IsTree k (h .tree) × (All (ProperLeaf k) (h .waiting) × (total h ≤ stashLimit))
   idle-kept h e = subst KeptBy e idle-keeps
 
 -- Held nodes with given keys, all else zero.
@@ -104,7 +104,7 @@ stops-here m g p e = rw (ne-eqb m 0 e)
 
 module _ {k n : ℕ} {words scratch tree held : List ℕ} (b : Between k n words scratch tree held) where
   -- A round can begin.
-  pub between-ready : (leaf : ℕ) → leaf < 2 ^ k → Ready k leaf n words scratch tree held
+  pub between-ready : (leaf : ℕ) → leaf < 2 ^ k → RoundReady k leaf n words scratch tree held
   between-ready leaf h =
       record {
         small = b .small;

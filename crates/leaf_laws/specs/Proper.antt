@@ -6,7 +6,7 @@ use native.Mathlib.Decide.{decLe}
 use native.Mathlib.Omega.{arith}
 use lib.Pow.{pow-mono}
 use borrow.Author.Tests.{eq-eqb, lt-ltb}
-use Rattle.slot_spec.specs.Slot.{fieldsOf, linkGood, readSlot, Ranged}
+use Rattle.slot_spec.specs.Slot.{fieldsOf, slotLinkGood, readSlot, Ranged}
 use Rattle.slot_spec.specs.Layout.{Fit}
 use Rattle.slot_laws.specs.ReadLaws.{absent-without-key, link-present, left-link-good}
 use Rattle.slot_spec.specs.declared.Node as node
@@ -68,10 +68,10 @@ pub record FitLink (k : ℕ) (l : Link ℕ) : Type 0 where
   pub tag : l .tag < 2 ^ k
   pub absent-zero : l .height ≡ 0 → (l .key ≡ 0) × (l .tag ≡ 0)
 
-fit-link-good : (k : ℕ) (l : Link ℕ) → FitLink k l → linkGood k (fromLink l) ≡ true
+fit-link-good : (k : ℕ) (l : Link ℕ) → FitLink k l → slotLinkGood k (fromLink l) ≡ true
 fit-link-good k l f = go (decLe 1 (l .height))
   where
-    go : Dec (1 ≤ l .height) → linkGood k (fromLink l) ≡ true
+    go : Dec (1 ≤ l .height) → slotLinkGood k (fromLink l) ≡ true
     go (yes h) = link-present k (fromLink l) (λ e. omega arith) ∙ lt-ltb (l .tag) (2 ^ k) (f .tag)
     go (no h) =
         let none : l .height ≡ 0 = omega arith in

@@ -20,7 +20,7 @@ use Rattle.state_spec.specs.Ticket.{lastKey}
 use Rattle.lent_bytes_spec.specs.declared.StateHead.{StateHead}
 use Rattle.lent_bytes_spec.specs.StateBytes.{headWidths, headLength, stateLength, headIn, holdsNode, placeIn, placesIn, stateWith, stateIn, nextKey, keyFits}
 use Rattle.lent_bytes_laws.specs.HeadLaws.{HeadRanged}
-use Rattle.lent_bytes_laws.specs.PlaceLaws.{Kept, full, none, AllKept, places-length}
+use Rattle.lent_bytes_laws.specs.PlaceLaws.{PlaceKept, full, none, AllKept, places-length}
 use Rattle.lent_bytes_laws.specs.StateLaws.{StateKept, head-for}
 
 -- Numbers read from bytes are within their widths.
@@ -36,11 +36,11 @@ node-ranged : (bs : List ℕ) → Bytes bs → length bs ≡ slotLength → hold
 unfolding Ranged Fit fieldsOf nodeOf fieldsIn fields total
 node-ranged bs b sized holds = let f = fields-fit widths bs b (omega (arith, sized)) in omega (arith, f)
 
-slot-kept : (bs : List ℕ) → Bytes bs → length bs ≡ slotLength → Kept (placeIn bs)
+slot-kept : (bs : List ℕ) → Bytes bs → length bs ≡ slotLength → PlaceKept (placeIn bs)
 unfolding placeIn
 slot-kept bs b sized = go (holdsNode (fieldsIn bs)) refl
   where
-    go : (h : Bool) → holdsNode (fieldsIn bs) ≡ h → Kept (pick h (record { full = true; node = nodeOf (fieldsIn bs) }) noPlace)
+    go : (h : Bool) → holdsNode (fieldsIn bs) ≡ h → PlaceKept (pick h (record { full = true; node = nodeOf (fieldsIn bs) }) noPlace)
     go true e = full (nodeOf (fieldsIn bs)) (node-ranged bs b sized e)
     go false e = none
 

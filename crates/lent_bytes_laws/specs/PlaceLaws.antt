@@ -43,16 +43,16 @@ unfolding fieldsOf
 node-held n r = rw (fields-encoded n r)
 
 -- A place that a slot says all of: it holds a node within its widths, or is all zero.
-pub data Kept : Place → Type 0 where
-  full : (n : Node) → Ranged n → Kept (record { full = true; node = n })
-  none : Kept noPlace
+pub data PlaceKept : Place → Type 0 where
+  full : (n : Node) → Ranged n → PlaceKept (record { full = true; node = n })
+  none : PlaceKept noPlace
 
-pub place-back : (p : Place) → Kept p → placeIn (placeBytes p) ≡ p
+pub place-back : (p : Place) → PlaceKept p → placeIn (placeBytes p) ≡ p
 unfolding placeIn
 place-back _ (full n r) = rw (node-held n r, fields-encoded n r, node-fields n)
 place-back _ none = rw zero-holds-none
 
-pub place-sound : (p : Place) → Kept p → slotSound (placeBytes p) ≡ true
+pub place-sound : (p : Place) → PlaceKept p → slotSound (placeBytes p) ≡ true
 unfolding allZero
 place-sound _ (full n r) = rw (node-held n r) (or-true (allZero (encode n)))
   where
@@ -208,7 +208,7 @@ places-bytes-are (p ∷ ps) = bytes-append (placeBytes p) (placesBytes ps) (go (
 
 unfoldable pub AllKept : List Place → Type 0
 AllKept [] = Unit
-AllKept (p ∷ ps) = Kept p × AllKept ps
+AllKept (p ∷ ps) = PlaceKept p × AllKept ps
 
 pub kept-append : (ps qs : List Place) → AllKept ps → AllKept qs → AllKept (ps ++ qs)
 unfolding AllKept

@@ -31,12 +31,12 @@ use Rattle.map_nodes.specs.Upward.{upward, weight}
 use Rattle.rotations.specs.declared.raise.Others.{Others}
 use Rattle.rotations.specs.declared.raise.Raised.{Raised}
 use Rattle.rotations.specs.Raise.{Raises, builtOf, listOf, level}
-use Rattle.rotations.specs.LevelLaws.{Kept, raise-kept, rest-kept}
+use Rattle.rotations.specs.LevelLaws.{LevelKept, raise-kept, rest-kept}
 use Rattle.map_changes.specs.declared.Bottom.{Bottom}
 use Rattle.map_descent.specs.Walk.{Walks}
 use Rattle.map_descent.specs.PathTo.{stepTo, pathTo}
 use Rattle.map_descent.specs.PathLaws.{path-more}
-use Rattle.map_changes.specs.Bottom.{Ready, wayUp}
+use Rattle.map_changes.specs.Bottom.{BottomReady, wayUp}
 use Rattle.map_ascent.specs.Climb.{stepsTo, ClimbsTo, Climbing}
 
 -- ---- the method's way up
@@ -54,7 +54,7 @@ upward-end true b out ns = refl
 upward-end false b out ns = refl
 
 level-kept : (most : ℕ) (rotating : Bool) (p : Step ℕ) (b : Sub ℕ) (ns : List (Node ℕ)) → Low most (p .node) → LowSub most b → Lows most ns
-    → Ends (Kept (2 + most) (suc (weight b + length ns))) (resume (level rotating p b) ns)
+    → Ends (LevelKept (2 + most) (suc (weight b + length ns))) (resume (level rotating p b) ns)
 unfolding resume
 level-kept most true p b ns h k l = raise-kept most p b h k ns l
 level-kept most false p b ns h k l = rest-kept most p b h k ns
@@ -80,7 +80,7 @@ level-room aside o = simp length-append (omega arith)
 
 -- ---- turn by turn
 
-module _ (key : ℕ) (root : link.Link) (h : Held) (b : Bottom) (walks : Walks root h) (ready : Ready key root h b) where
+module _ (key : ℕ) (root : link.Link) (h : Held) (b : Bottom) (walks : Walks root h) (ready : BottomReady key root h b) where
   path-none : stepsTo key root h b 0 ≡ []
   unfolding pathTo
   path-none = refl
@@ -139,10 +139,10 @@ module _ (key : ℕ) (root : link.Link) (h : Held) (b : Bottom) (walks : Walks r
         made : r .wanted ≡ Done → resume (level (b .rotating) (toStep p) (toSub s)) (drop next (nodesOf h)) ≡ finished (builtOf r) (drop (r .next) (nodesOf h))
         made e = raises .resumes ∙ rw e
 
-        kept : r .wanted ≡ Done → Kept (2 + most) (suc (weight (toSub s) + length (drop next (nodesOf h)))) (builtOf r) (drop (r .next) (nodesOf h))
+        kept : r .wanted ≡ Done → LevelKept (2 + most) (suc (weight (toSub s) + length (drop next (nodesOf h)))) (builtOf r) (drop (r .next) (nodesOf h))
         unfolding most
         kept e =
-            subst (Ends (Kept (2 + most) (suc (weight (toSub s) + length (drop next (nodesOf h)))))) (made e)
+            subst (Ends (LevelKept (2 + most) (suc (weight (toSub s) + length (drop next (nodesOf h)))))) (made e)
             (level-kept most (b .rotating) (toStep p) (toSub s) (drop next (nodesOf h))
             (low-more (toNode (p .node)) (at .1) (omega arith)) (now .low)
             (lows-drop most next (nodesOf h) (lows-more 100 most (omega arith) (nodesOf h) (walks .held .low))))

@@ -19,7 +19,7 @@ ghost use Rattle.node_rows.specs.Held.{heldIn, Lists};
 ghost use Rattle.map_nodes.specs.Method.{toKid};
 ghost use Rattle.rotations.specs.Raise.{listOf};
 ghost use Rattle.map_descent.specs.Walk.{Walks};
-ghost use Rattle.map_changes.specs.Bottom.{Ready};
+ghost use Rattle.map_changes.specs.Bottom.{BottomReady};
 ghost use Rattle.map_ascent.specs.Climb.{ClimbsTo};
 
 // One more node in a row's next place, if it is at hand: how many there are then.
@@ -68,7 +68,7 @@ pub fn climb(
     count: usize,
     made: &mut [u64; ROW],
 ) -> Climbed
-    requires { ⌜ (length (now held) ≡ words) × (length (now made) ≡ words) × Walks root (heldIn (now held) count) × Ready key root (heldIn (now held) count) b ⌝ }
+    requires { ⌜ (length (now held) ≡ words) × (length (now made) ≡ words) × Walks root (heldIn (now held) count) × BottomReady key root (heldIn (now held) count) b ⌝ }
     ensures { λ r. ⌜ ClimbsTo key root (heldIn (now (held .entry)) count) b (now (made .exit)) r ⌝ }
 {
     let mut done: usize = 0;

@@ -86,7 +86,7 @@ module _ (key : ℕ) (root : link.Link) (h : Held) where
   upFrom r = bind (wayUp r) (λ b. done (finish (r .entries) (toStepAnswer (r .answer)) b))
 
   -- What the way up asks.
-  pub record Ready (r : Bottom) : Type 0 where
+  pub record BottomReady (r : Bottom) : Type 0 where
     pub passed : r .length ≤ r .at
     pub within : r .at ≤ h .count
     pub low : LowSub 100 (toSub (r .sub))
@@ -95,4 +95,4 @@ module _ (key : ℕ) (root : link.Link) (h : Held) where
   -- The program, on the held nodes, misses that node, or goes up from there.
   pub record StartsUp (p : Prog ℕ (Outcome ℕ)) (r : Bottom) : Type 0 where
     pub resumes : resume p (nodesOf h) ≡ unlessMissing (r .wanted) (resume (upFrom r) (drop (r .at) (nodesOf h)))
-    pub ready : r .wanted ≡ Done → Ready r
+    pub ready : r .wanted ≡ Done → BottomReady r

@@ -6,7 +6,7 @@ use Rattle.list_spec.specs.Choice.{pick}
 use Rattle.method_spec.specs.Node.{Link, Node, child, withChild, linkTo}
 use mathlib.Core.List.{List, [], _∷_, _++_}
 use mathlib.Core.Option.{Option, none, some}
-use Rattle.method_spec.specs.Map.{Step, Sub, stub, top, kid, topOf, linkOf, placed, nearOn, rotate}
+use Rattle.method_spec.specs.Map.{Step, Sub, stub, top, kid, topOf, linkOf, withSubtree, nearOn, rotate}
 use Rattle.node_rows.specs.Heights.{Low, Lows}
 use Rattle.map_nodes.specs.Heights.{LowKid, LowSub}
 
@@ -51,7 +51,7 @@ module _ {T : Type 0} (most : ℕ) where
   low-link-of (top n l r) h = omega arith
 
   -- A level up: the node with the link to the subtree, and what is at hand on a side of it.
-  pub low-placed : (p : Step T) (b : Sub T) → Low most (p .node) → LowSub most b → Low (suc most) (placed p b)
+  pub low-placed : (p : Step T) (b : Sub T) → Low most (p .node) → LowSub most b → Low (suc most) (withSubtree p b)
   low-placed p b h k =
       low-with (p .way) (p .node) (linkOf b) (low-more (p .node) h (omega arith)) (low-link-of b k)
 

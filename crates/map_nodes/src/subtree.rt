@@ -8,7 +8,7 @@ use super::sides::with_child;
 use slot_spec::Link;
 use slot_spec::Node;
 ghost use mathlib.Core.Path.{_≡_};
-ghost use Rattle.method_spec.specs.Map.{linkOf, topOf, kid, placed, nearOn};
+ghost use Rattle.method_spec.specs.Map.{linkOf, topOf, kid, withSubtree, nearOn};
 ghost use Rattle.leaf_spec.specs.Convert.{toLink, toNode};
 ghost use Rattle.map_nodes.specs.Method.{toKid, toSub, toStep};
 ghost use Rattle.map_nodes.specs.Heights.{LowSub};
@@ -50,7 +50,7 @@ pub fn kid_of(left: bool, b: Sub) -> Kid
 // The node that was passed, with the link to the subtree that now stands where the walk went on.
 pub fn place(p: Step, b: Sub) -> Node
     requires { ⌜ LowSub 254 (toSub b) ⌝ }
-    ensures { λ r. ⌜ toNode r ≡ placed (toStep p) (toSub b) ⌝ }
+    ensures { λ r. ⌜ toNode r ≡ withSubtree (toStep p) (toSub b) ⌝ }
 {
     let n = p.node;
     let link = link_of(b);

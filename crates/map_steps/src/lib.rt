@@ -24,7 +24,7 @@ ghost use Rattle.operations.specs.Resume.{wantedOf};
 ghost use Rattle.node_rows.specs.Row.{places, words};
 ghost use Rattle.node_rows.specs.Held.{heldIn, nodesOf};
 ghost use Rattle.map_descent.specs.Walk.{Walks};
-ghost use Rattle.map_changes.specs.Bottom.{Ready};
+ghost use Rattle.map_changes.specs.Bottom.{BottomReady};
 ghost use Rattle.map_ascent.specs.Climb.{climbedIn};
 ghost use Rattle.map_steps.specs.Outcome.{RoomToFinish, fromBottom};
 
@@ -58,7 +58,7 @@ pub fn map_wanted(
     count: usize,
     made: &mut [u64; ROW],
 ) -> Wanted
-    requires { ⌜ (length (now held) ≡ words) × (length (now made) ≡ words) × Walks root (heldIn (now held) count) × (b .wanted ≡ Wanted.Done → Ready key root (heldIn (now held) count) b) ⌝ }
+    requires { ⌜ (length (now held) ≡ words) × (length (now made) ≡ words) × Walks root (heldIn (now held) count) × (b .wanted ≡ Wanted.Done → BottomReady key root (heldIn (now held) count) b) ⌝ }
     ensures { λ r. ⌜ (toWanted r ≡ wantedOf (fromBottom key root (heldIn (now (held .entry)) count) b)) × (length (now (made .exit)) ≡ words) ⌝ }
 {
     let wanted = b.wanted;
@@ -82,7 +82,7 @@ pub fn map_step(
     count: usize,
     made: &mut [u64; ROW],
 ) -> Outcome
-    requires { ⌜ (length (now held) ≡ words) × (length (now made) ≡ words) × Walks root (heldIn (now held) count) × (b .wanted ≡ Wanted.Done → Ready key root (heldIn (now held) count) b) ⌝ }
+    requires { ⌜ (length (now held) ≡ words) × (length (now made) ≡ words) × Walks root (heldIn (now held) count) × (b .wanted ≡ Wanted.Done → BottomReady key root (heldIn (now held) count) b) ⌝ }
     ensures { λ r. ⌜ (toOutcome r (nodesOf (heldIn (now (made .exit)) (r .made))) ≡ outcomeOf (toLink root) entries (fromBottom key root (heldIn (now (held .entry)) count) b)) × ((r .made ≤ places) × (length (now (made .exit)) ≡ words)) ⌝ }
 {
     let wanted = b.wanted;

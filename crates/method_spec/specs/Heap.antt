@@ -155,10 +155,10 @@ module _ {T : Type 0} where
 
   -- ---- the heap's fetch test
   -- The link to position i: of height 1 with that key, or absent beyond the entries.
-  abbrev pub linkGood : (entries i : ℕ) → Link T → Bool
-  linkGood entries i l = pick (leb i entries) (eqb (l .height) 1 && eqb (l .key) i) (eqb (l .height) 0)
+  abbrev pub heapLinkGood : (entries i : ℕ) → Link T → Bool
+  heapLinkGood entries i l = pick (leb i entries) (eqb (l .height) 1 && eqb (l .key) i) (eqb (l .height) 0)
 
   -- For a store that has so many entries as the call starts.
   unfoldable pub heapTest : (entries : ℕ) → Want T → Node T → Bool
   heapTest entries w n =
-      linkGood entries (childPosition true (n .key)) (n .left) && linkGood entries (childPosition false (n .key)) (n .right)
+      heapLinkGood entries (childPosition true (n .key)) (n .left) && heapLinkGood entries (childPosition false (n .key)) (n .right)

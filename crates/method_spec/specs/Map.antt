@@ -164,25 +164,25 @@ module _ {T : Type 0} where
       record { sub = seat s (q .up) (some (r .down)) (some (q .down)); out = listed outer ++ others }
 
   -- The top node of a subtree: it is at hand, or it is wanted.
-  abbrev pub opened : Want T → Option (Node T) → Prog T (Node T)
-  opened w none = want w done
-  opened w (some n) = done n
+  abbrev pub fetchedTop : Want T → Option (Node T) → Prog T (Node T)
+  fetchedTop w none = want w done
+  fetchedTop w (some n) = done n
 
   -- n, at the place p, is too tall on side s; `near` is what is at hand there, `others` are the nodes at hand elsewhere.
   unfoldable pub turn : Step T → Bool → Node T → Sub T → List (Node T) → Prog T (Built T)
   turn p s n near others =
-      bind (opened (beside p s (child s n)) (topOf near))
+      bind (fetchedTop (beside p s (child s n)) (topOf near))
       (λ c. pick (leansOut s c)
       (done (single s n c (kid s near) (kid (not s) near) others))
-      (bind (opened (below (stepAt (beside p s (child s n)) c (not s))) (kid (not s) near))
+      (bind (fetchedTop (below (stepAt (beside p s (child s n)) c (not s))) (kid (not s) near))
       (λ g. done (double s n c g (kid s near) others))))
 
   -- One level up: the subtree b stands where the walk went on from p.
-  abbrev pub placed : Step T → Sub T → Node T
-  placed p b = withChild (p .way) (p .node) (linkOf b)
+  abbrev pub withSubtree : Step T → Sub T → Node T
+  withSubtree p b = withChild (p .way) (p .node) (linkOf b)
 
   abbrev pub rest : Step T → Sub T → Built T
-  rest p b = record { sub = seat (p .way) (placed p b) (topOf b) none; out = kids b }
+  rest p b = record { sub = seat (p .way) (withSubtree p b) (topOf b) none; out = kids b }
 
   -- What is at hand on side s of the place p, and what is at hand on the other.
   abbrev pub nearOn : Step T → Sub T → Bool → Sub T
@@ -193,8 +193,8 @@ module _ {T : Type 0} where
 
   unfoldable pub raise : Step T → Sub T → Prog T (Built T)
   raise p b =
-      pick (tall true (placed p b)) (turn p true (placed p b) (nearOn p b true) (othersOf p b true))
-      (pick (tall false (placed p b)) (turn p false (placed p b) (nearOn p b false) (othersOf p b false))
+      pick (tall true (withSubtree p b)) (turn p true (withSubtree p b) (nearOn p b true) (othersOf p b true))
+      (pick (tall false (withSubtree p b)) (turn p false (withSubtree p b) (nearOn p b false) (othersOf p b false))
       (done (rest p b)))
 
   -- Upward from the change, with rotations.

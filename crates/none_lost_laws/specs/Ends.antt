@@ -12,8 +12,8 @@ use Rattle.balance_spec.specs.Greatest.{greatest}
 use Rattle.method_spec.specs.Answer as answer
 use Rattle.method_spec.specs.Answer.{Structure, Op, Answer}
 use Rattle.method_spec.specs.Plain.{Pair}
-use Rattle.round_spec.specs.Round.{limit}
-use Rattle.bucket_call_spec.specs.Fetch.{Left}
+use Rattle.round_spec.specs.Round.{stashLimit}
+use Rattle.bucket_call_spec.specs.Fetch.{CallLeft}
 use Rattle.bucket_call_spec.specs.Call.{Store}
 use Rattle.round_spec.specs.Whole.{IsTree}
 use Rattle.leaf_spec.specs.Leaf.{ProperLeaf}
@@ -34,7 +34,7 @@ highest answer.queue k = 1
 pub record FitStore (s : Structure) (k : ℕ) (st : Store) : Type 0 where
   pub is-tree : IsTree k (st .tree)
   pub proper : All (ProperLeaf k) (st .waiting)
-  pub few : length (st .waiting) ≤ limit
+  pub few : length (st .waiting) ≤ stashLimit
   pub root : FitLink k (st .root)
   pub low : st .root .height ≤ highest s k
   pub entries : st .entries < 2 ^ k
@@ -48,12 +48,12 @@ entriesBefore k st = entriesWith k (st .tree) (st .waiting)
 abbrev pub keyOf : {s : Structure} → Op s → Store → ℕ
 keyOf op st = keyAsked op (st .entries) (st .ahead .key) (st .root)
 
-abbrev pub entriesLeft : ℕ → Left → List Pair
+abbrev pub entriesLeft : ℕ → CallLeft → List Pair
 entriesLeft k l = entriesWith k (l .tree) (l .waiting)
 
 -- ---- what a call leaves
 -- The entries are these; and what is left is a tree, proper nodes that there are places for, and a root link in order.
-pub record Keeps (k : ℕ) (all : List Pair) (l : Left) : Type 0 where
+pub record Keeps (k : ℕ) (all : List Pair) (l : CallLeft) : Type 0 where
   pub is-tree : IsTree k (l .tree)
   pub proper : All (ProperLeaf k) (l .waiting)
   pub room : length (l .waiting) ≤ placesFor k
@@ -62,43 +62,43 @@ pub record Keeps (k : ℕ) (all : List Pair) (l : Left) : Type 0 where
   pub whole : Perm all (entriesLeft k l)
 
 -- A state's places are enough.
-pub keeps-room : {k : ℕ} {all : List Pair} {l : Left} → k ≤ 8 → Keeps k all l → length (l .waiting) ≤ 101
+pub keeps-room : {k : ℕ} {all : List Pair} {l : CallLeft} → k ≤ 8 → Keeps k all l → length (l .waiting) ≤ 101
 keeps-room small keeps = omega (arith, keeps .room)
 
 -- The store was closed, by damage or overflow; at most so many leaves were revealed.
-pub record Closed (shown : ℕ) (l : Left) : Type 0 where
+pub record Closed (shown : ℕ) (l : CallLeft) : Type 0 where
   pub mark : (l .mark ≡ 8) ⊎ (l .mark ≡ 9)
   pub answer : l .answer ≡ none
   pub leaves : length (l .leaves) ≤ shown
 
 -- The call answered; so many leaves were revealed, and at most 64 nodes wait.
-pub record Answered (shown : ℕ) (a : Answer) (l : Left) : Type 0 where
+pub record Answered (shown : ℕ) (a : Answer) (l : CallLeft) : Type 0 where
   pub mark : l .mark ≡ 0
   pub answer : l .answer ≡ some a
   pub leaves : length (l .leaves) ≡ shown
-  pub few : length (l .waiting) ≤ limit
+  pub few : length (l .waiting) ≤ stashLimit
 
 -- The step changed the entries as its answer a says, and then the store was closed, or a was answered.
-pub record StepEnds {s : Structure} (k F : ℕ) (op : Op s) (st : Store) (a : Answer) (now : List Pair) (l : Left) : Type 0 where
+pub record StepEnds {s : Structure} (k F : ℕ) (op : Op s) (st : Store) (a : Answer) (now : List Pair) (l : CallLeft) : Type 0 where
   pub kind : Answers op a
   pub changed : Perm (trackedIn s (takenOut (keyOf op st) a ++ now)) (trackedIn s (broughtIn (keyOf op st) (valueAsked op) a ++ entriesBefore k st))
   pub keeps : Keeps k now l
   pub ended : Closed (2 * F) l ⊎ Answered (2 * F) a l
 
 -- A call with F fetch and F put rounds: it closed the store before the step, with the entries as before; or it came to the step.
-pub data Ends {s : Structure} (k F : ℕ) (op : Op s) (st : Store) (l : Left) : Type 0 where
+pub data Ends {s : Structure} (k F : ℕ) (op : Op s) (st : Store) (l : CallLeft) : Type 0 where
   before-step : Closed F l → Keeps k (entriesBefore k st) l → Ends k F op st l
   after-step : (a : Answer) (now : List Pair) → StepEnds k F op st a now l → Ends k F op st l
 
 -- ---- what follows for each mark
-not-closed : {n : ℕ} {l : Left} → Closed n l → l .mark ≡ 0 → ⊥
+not-closed : {n : ℕ} {l : CallLeft} → Closed n l → l .mark ≡ 0 → ⊥
 not-closed {l = l} c unmarked = go (c .mark)
   where
     go : (l .mark ≡ 8) ⊎ (l .mark ≡ 9) → ⊥
     go (inl e) = omega arith
     go (inr e) = omega arith
 
-module _ {s : Structure} {k F : ℕ} {op : Op s} {st : Store} {l : Left} where
+module _ {s : Structure} {k F : ℕ} {op : Op s} {st : Store} {l : CallLeft} where
   -- The mark is 0, or 8, or 9.
   pub ends-mark : Ends k F op st l → (l .mark ≡ 0) ⊎ ((l .mark ≡ 8) ⊎ (l .mark ≡ 9))
   ends-mark (before-step c keeps) = inr (c .mark)

@@ -24,7 +24,7 @@ use Rattle.method_spec.specs.Queue.{queueTest}
 use Rattle.method_spec.specs.Call.{test}
 use Rattle.method_spec.specs.Plain.{Pair}
 use Rattle.run_laws.specs.Safe.{Within, stops, asks as asks-within}
-use Rattle.round_spec.specs.Round.{Hand, keysOf, readHalf, limit}
+use Rattle.round_spec.specs.Round.{Hand, keysOf, readHalf, stashLimit}
 use Rattle.leaf_spec.specs.Leaf.{leafFormat, ProperLeaf}
 use Rattle.bucket_call_spec.specs.Fetch.{Held, Going, heldKeys, wishFor, revealing, written, Round, on, shut, atClose, tookRound, wantRound, fetchRound, fetchRounds, total}
 use Rattle.round_spec.specs.Whole.{listed}
@@ -56,7 +56,7 @@ module _ {A : Type 0} where
     pub within : Within (test s entries) n p
 
   module _ (s : Structure) (entries : ℕ) {k : ℕ} (small : k ≤ 16) {l : Link ℕ} {all : List Pair} {Post : A → List (Node ℕ) → Type 0} {n : ℕ} {g : Going}
-      (sound : Sound k l all g) (few : total g ≤ limit) where
+      (sound : Sound k l all g) (few : total g ≤ stashLimit) where
     -- ---- a round that wants a node
     module _ (d : ℕ) (leaf : d < 2 ^ k) (w : Want ℕ) (c : Node ℕ → Prog ℕ A) (given : List (Node ℕ)) (same : Perm (nodesIn (g .held)) given)
         (tag : w .link .tag < 2 ^ k) (leads : Leads l given (w .from))
@@ -153,7 +153,7 @@ module _ {A : Type 0} (s : Structure) (entries k : ℕ) (draw : ℕ → ℕ) (n 
 module _ {A : Type 0} (s : Structure) (entries : ℕ) {k : ℕ} (small : k ≤ 16) (draw : ℕ → ℕ) (leaves : (d : ℕ) → draw d < 2 ^ k) {l : Link ℕ} {all : List Pair}
     {Post : A → List (Node ℕ) → Type 0} where
   -- After n rounds the program has n wants fewer left.
-  pub fetches-after : (n more i : ℕ) (p : Prog ℕ A) (g : Going) → Sound k l all g → total g ≤ limit → Fetching s entries k l Post (n + more) (g .held) p
+  pub fetches-after : (n more i : ℕ) (p : Prog ℕ A) (g : Going) → Sound k l all g → total g ≤ stashLimit → Fetching s entries k l Post (n + more) (g .held) p
       → After k l all (length (g .leaves) + n) (Fetching s entries k l Post more) (fetchRounds s entries k draw n i p g)
   unfolding fetchRounds
   fetches-after zero more i p g sound few f = goes sound few (omega arith) (rw zero-add at f)
@@ -161,7 +161,7 @@ module _ {A : Type 0} (s : Structure) (entries : ℕ) {k : ℕ} (small : k ≤ 1
       go (λ q h. fetches-after n more (suc i) q h) (fetchRound s entries k (draw i) p g) refl
       (fetch-after s entries small sound few (draw i) (leaves i) p (rw suc-add at f))
     where
-      go : ((q : Prog ℕ A) (h : Going) → Sound k l all h → total h ≤ limit → Fetching s entries k l Post (n + more) (h .held) q
+      go : ((q : Prog ℕ A) (h : Going) → Sound k l all h → total h ≤ stashLimit → Fetching s entries k l Post (n + more) (h .held) q
           → After k l all (length (h .leaves) + n) (Fetching s entries k l Post more) (fetchRounds s entries k draw n (suc i) q h))
           → (x : Round A) → fetchRound s entries k (draw i) p g ≡ x → After k l all (suc (length (g .leaves))) (Fetching s entries k l Post (n + more)) x
           → After k l all (length (g .leaves) + suc n) (Fetching s entries k l Post more) (fetchRounds s entries k draw (suc n) i p g)

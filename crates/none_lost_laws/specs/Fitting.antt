@@ -7,7 +7,7 @@ use native.Mathlib.Omega.{arith}
 use lib.Pow.{pow-pos}
 use borrow.Author.Tests.{eqb-true, ltb-true}
 use Rattle.list_laws.specs.ChoiceLaws.{pick-both, pick-neither}
-use Rattle.slot_spec.specs.Slot.{fieldsOf, linkGood, tagTooLarge, Ranged}
+use Rattle.slot_spec.specs.Slot.{fieldsOf, slotLinkGood, tagTooLarge, Ranged}
 use Rattle.slot_spec.specs.Layout.{Fit}
 use Rattle.slot_laws.specs.ReadLaws.{well-formed-order, absent-with-key, absent-without-key, link-present}
 use Rattle.method_spec.specs.Node.{Link, Node, absent, child, withChild, withValue, retag, heightOf, linkTo}
@@ -83,7 +83,7 @@ module _ {k : ℕ} where
 
 -- ---- proper nodes
 module _ (k : ℕ) where
-  good-link : (b : ℕ) (l : Link ℕ) → linkGood k (fromLink l) ≡ true → l .key < 2 ^ 32 → l .height ≤ b → LinkFits k b l
+  good-link : (b : ℕ) (l : Link ℕ) → slotLinkGood k (fromLink l) ≡ true → l .key < 2 ^ 32 → l .height ≤ b → LinkFits k b l
   good-link b l good key low = go (decLe 1 (l .height))
     where
       zero-key : l .height ≡ 0 → l .key ≡ 0
@@ -122,7 +122,7 @@ module _ (k : ℕ) where
     unfolding Ranged Fit fieldsOf
     proper-node {b} p left right =
         let links = pick-neither (tagTooLarge k (n .tag)) _ (rw (well-formed-order k (fromNode n)) at (p .1)) .1 in
-        let both = pick-both (linkGood k (fromLink (n .left))) (linkGood k (fromLink (n .right))) links in
+        let both = pick-both (slotLinkGood k (fromLink (n .left))) (slotLinkGood k (fromLink (n .right))) links in
         record {
           own = proper-fits k n p;
           left = good-link b (n .left) (both .0) (omega arith) left;

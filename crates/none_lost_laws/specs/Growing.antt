@@ -9,7 +9,7 @@ use borrow.Author.Tests.{leb-false, ltb-true}
 use Rattle.list_spec.specs.Distinct.{All}
 use Rattle.method_spec.specs.Node.{Link, Node, child, withChild}
 use Rattle.method_spec.specs.Prog.{side, Want, Prog, done, bind}
-use Rattle.method_spec.specs.Map.{Step, Sub, stub, top, Built, linkOf, kid, nodesAt, seat, stepAt, beside, below, tall, leansOut, single, double, opened, turn, placed, rest, nearOn, othersOf, raise, climb, mapTest}
+use Rattle.method_spec.specs.Map.{Step, Sub, stub, top, Built, linkOf, kid, nodesAt, seat, stepAt, beside, below, tall, leansOut, single, double, fetchedTop, turn, withSubtree, rest, nearOn, othersOf, raise, climb, mapTest}
 use Rattle.run_laws.specs.BalanceLaws.{tall-heights, leans-heights}
 use Rattle.none_lost_laws.specs.Yields.{Yields, ends, asks, yields-when, yields-then, yields-keep}
 use Rattle.none_lost_laws.specs.Given.{Given, Leads, at-side}
@@ -94,7 +94,7 @@ module _ {k : ℕ} {l : Link ℕ} {held : List (Node ℕ)} (p : Step ℕ) (s : B
       (λ e. inner (kid (not s) (top c x y)) (grown-kid (not s) b) (inward s c e))
     where
       inner : (o : Option (Node ℕ)) → Open l held c (not s) o → child s c .height < child (not s) c .height
-          → Seeks k l (λ r given. Grown l given (r .sub)) (bind (opened (innerChild p s n c) o) (λ g. done (double s n c g (kid s (top c x y)) others))) held
+          → Seeks k l (λ r given. Grown l given (r .sub)) (bind (fetchedTop (innerChild p s n c) o) (λ g. done (double s n c g (kid s (top c x y)) others))) held
       inner none f lean = asks (f .leads refl (λ z. omega arith)) (λ g got. ends (grown-seat s open-some open-some))
       inner (some g) f lean = ends (grown-seat s open-some open-some)
 
@@ -125,8 +125,8 @@ module _ {k : ℕ} {l : Link ℕ} {held : List (Node ℕ)} where
   -- A step with the way written out.
   grow-turn : (node : Node ℕ) (was : ℕ) (way : Bool) (low high : Option ℕ) (b : Sub ℕ) → List·Memᴰ node held → node .key ≡ was → Grown l held b → (s : Bool)
       → (let p : Step ℕ = record { node = node; was = was; way = way; low = low; high = high } in
-      tall s (placed p b) ≡ true
-      → Seeks k l (λ r given. Grown l given (r .sub)) (turn p s (placed p b) (nearOn p b s) (othersOf p b s)) held)
+      tall s (withSubtree p b) ≡ true
+      → Seeks k l (λ r given. Grown l given (r .sub)) (turn p s (withSubtree p b) (nearOn p b s) (othersOf p b s)) held)
   grow-turn node was true low high b m same (grown {n = c} {x = x} {y = y} f g) true e = turn-at-hand _ true _ [] c x y (grown f g)
   grow-turn node was false low high b m same (grown {n = c} {x = x} {y = y} f g) false e = turn-at-hand _ false _ [] c x y (grown f g)
   grow-turn node was true low high b m same g false e = other-seeks _ false _ (node .right) (nodesAt b) (at-side node m same (tall-present false (withChild true node (linkOf b)) e))
@@ -136,8 +136,8 @@ module _ {k : ℕ} {l : Link ℕ} {held : List (Node ℕ)} where
   unfolding raise
   grow-seeks p b f g =
       let turned = grow-turn (p .node) (p .was) (p .way) (p .low) (p .high) b (f .0) (f .1) g in
-      yields-when (tall true (placed p b)) (turned true)
-      (λ e. yields-when (tall false (placed p b)) (turned false) (λ e. ends (grown-rest p b (f .0) g)))
+      yields-when (tall true (withSubtree p b)) (turned true)
+      (λ e. yields-when (tall false (withSubtree p b)) (turned false) (λ e. ends (grown-rest p b (f .0) g)))
 
 -- ---- the whole way up
 pub climb-grows : {k : ℕ} {l : Link ℕ} {held : List (Node ℕ)} (path : List (Step ℕ)) (b : Sub ℕ) (out : List (Node ℕ)) → All (Fresh held) path → Grown l held b

@@ -12,7 +12,7 @@ use Rattle.method_spec.specs.Node.{Link, Ahead}
 use Rattle.method_spec.specs.Prog.{Prog}
 use Rattle.method_spec.specs.Outcome.{Outcome}
 use Rattle.method_spec.specs.Plain.{Pair}
-use Rattle.round_spec.specs.Round.{join, limit}
+use Rattle.round_spec.specs.Round.{join, stashLimit}
 use Rattle.leaf_spec.specs.Leaf.{leafFormat, ProperLeaf}
 use Rattle.bucket_call_spec.specs.Fetch.{Held, Going, movedNode, movedNodes, closing, Round, on, total}
 use Rattle.bucket_call_spec.specs.Call.{afterPuts}
@@ -52,7 +52,7 @@ closing-keeps {k} {g = g} small low f sound room m entries a =
     }
 
 -- A call that answers.
-resting-keeps : {k b : ℕ} {all : List Pair} {g : Going} (a : Ahead ℕ) (o : Outcome ℕ) → b < 256 → LinkFits k b (o .root) → Sound k (o .root) all g → total g ≤ limit → g .held ≡ []
+resting-keeps : {k b : ℕ} {all : List Pair} {g : Going} (a : Ahead ℕ) (o : Outcome ℕ) → b < 256 → LinkFits k b (o .root) → Sound k (o .root) all g → total g ≤ stashLimit → g .held ≡ []
     → (p : Prog ℕ (Outcome ℕ)) → Keeps k all (afterPuts a o (on g p))
 unfolding afterPuts
 resting-keeps {k} {g = g} a o low f sound few rests p =

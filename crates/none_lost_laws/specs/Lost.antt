@@ -27,7 +27,7 @@ use Rattle.run_laws.specs.SafeLaws.{within-more}
 use Rattle.run_laws.specs.RoundsLaws.{some-rounds}
 use Rattle.run_laws.specs.HeapWithin.{heap-rounds}
 use Rattle.run_laws.specs.EnoughRounds.{mostWanted, program-within}
-use Rattle.round_spec.specs.Round.{join, limit}
+use Rattle.round_spec.specs.Round.{join, stashLimit}
 use Rattle.leaf_spec.specs.Leaf.{leafFormat, ProperLeaf}
 use Rattle.bucket_call_spec.specs.Fetch.{Going, closing, Round, on, shut, fetchRounds, total}
 use Rattle.bucket_call_spec.specs.Call.{fetchedBy, aheadThen, Store, putRounds, afterPuts, stepped, afterFetches, bucketCall}
@@ -75,7 +75,7 @@ FetchEnds {s} k n left op st =
 -- Where a call stands after the step: the nodes of the outcome wait too, and none is held.
 pub record Stepping {s : Structure} (k F : ℕ) (op : Op s) (st : Store) (g : Going) (o : Outcome ℕ) : Type 0 where
   pub sound : Sound k (o .root) (entriesAfter k g o) (stepped o g)
-  pub few : total (stepped o g) ≤ limit + 1
+  pub few : total (stepped o g) ≤ stashLimit + 1
   pub root : LinkFits k (suc (mostHigh (highest s k))) (o .root)
   pub leaves : length (g .leaves) ≡ F
   pub kind : Answers op (o .answer)

@@ -14,7 +14,7 @@ use Rattle.method_spec.specs.Prog.{Prog, done}
 use Rattle.method_spec.specs.Answer.{Structure, Answer, found, absent, replaced, new, removed, pushed, popped, added, taken, queued, dequeued, empty, full}
 use Rattle.method_spec.specs.Outcome.{Outcome}
 use Rattle.method_spec.specs.Plain.{Pair}
-use Rattle.round_spec.specs.Round.{join, limit}
+use Rattle.round_spec.specs.Round.{join, stashLimit}
 use Rattle.leaf_spec.specs.Leaf.{leafFormat, ProperLeaf}
 use Rattle.bucket_call_spec.specs.Fetch.{Held, Going, Round, on, shut, idleRound, total}
 use Rattle.bucket_call_spec.specs.Call.{putRounds, stepped}
@@ -45,7 +45,7 @@ module _ (k : ℕ) (draw : ℕ → ℕ) (n d : ℕ) (o : Outcome ℕ) (g : Going
 
 module _ {k : ℕ} (draw : ℕ → ℕ) (leaves : (d : ℕ) → draw d < 2 ^ k) (o : Outcome ℕ) {l : Link ℕ} {all : List Pair} where
   -- The first of them starts with one node more than a round leaves.
-  pub puts-after : (n d : ℕ) (g : Going) → Sound k l all g → total g ≤ limit + 1 → (n ≡ 0 → total g ≤ limit) → g .held ≡ []
+  pub puts-after : (n d : ℕ) (g : Going) → Sound k l all g → total g ≤ stashLimit + 1 → (n ≡ 0 → total g ≤ stashLimit) → g .held ≡ []
       → After k l all (length (g .leaves) + n) (Resting o) (putRounds k draw n d o g)
   unfolding putRounds
   puts-after zero d g sound few at-end rests = goes sound (at-end refl) (omega arith) (record { none-held = rests; ended = refl })
@@ -53,7 +53,7 @@ module _ {k : ℕ} (draw : ℕ → ℕ) (leaves : (d : ℕ) → draw d < 2 ^ k) 
       go (λ h. puts-after n (suc d) h) (idleRound k (draw d) (done o) g) refl
       (idle-after sound (draw d) (leaves d) few (done o) (record { none-held = rests; ended = refl }))
     where
-      go : ((h : Going) → Sound k l all h → total h ≤ limit + 1 → (n ≡ 0 → total h ≤ limit) → h .held ≡ []
+      go : ((h : Going) → Sound k l all h → total h ≤ stashLimit + 1 → (n ≡ 0 → total h ≤ stashLimit) → h .held ≡ []
           → After k l all (length (h .leaves) + n) (Resting o) (putRounds k draw n (suc d) o h))
           → (x : Round (Outcome ℕ)) → idleRound k (draw d) (done o) g ≡ x → After k l all (suc (length (g .leaves))) (Resting o) x
           → After k l all (length (g .leaves) + suc n) (Resting o) (putRounds k draw (suc n) d o g)

@@ -14,7 +14,7 @@ use Rattle.list_laws.specs.DistinctLaws.{all-nil, all-cons, all-left}
 use Rattle.list_laws.specs.Shuffle.{part, _&_, shuffle}
 use Rattle.method_spec.specs.Node.{Link, Node, child, withChild, linkTo}
 use Rattle.method_spec.specs.Prog.{Want, done, want}
-use Rattle.method_spec.specs.Map.{Step, Sub, stub, top, Built, linkOf, listed, topOf, kid, kids, nodesAt, seat, stepAt, beside, below, tall, leansOut, rotate, single, double, opened, turn, placed, rest, nearOn, othersOf, raise, climb, unwind, mapTest}
+use Rattle.method_spec.specs.Map.{Step, Sub, stub, top, Built, linkOf, listed, topOf, kid, kids, nodesAt, seat, stepAt, beside, below, tall, leansOut, rotate, single, double, fetchedTop, turn, withSubtree, rest, nearOn, othersOf, raise, climb, unwind, mapTest}
 use Rattle.method_spec.specs.Plain.{Pair}
 use Rattle.none_lost_laws.specs.Fitting.{LinkFits, NodeFits, link-more, node-more, child-fits, with-child-fits, link-to-fits, down-fits, up-fits}
 use Rattle.none_lost_laws.specs.Yields.{ends, asks, yields-pick, yields-then}
@@ -125,14 +125,14 @@ module _ {k h : ℕ} {less more : List Pair} {held : List (Node ℕ)} where
   want-yields w ns f a = asks (f .tag) (λ c got. ends (at-hand-given (given-fits f got) a))
 
   opened-yields : (w : Want ℕ) (o : Option (Node ℕ)) (ns : List (Node ℕ)) → LinkFits k h (w .link) → AtHand k h less more (listed o ++ ns) held
-      → YieldsBy k mapTest (λ c given. AtHand k h less more (c ∷ ns) given) (opened w o) held
+      → YieldsBy k mapTest (λ c given. AtHand k h less more (c ∷ ns) given) (fetchedTop w o) held
   opened-yields w none ns f a = want-yields w ns f a
   opened-yields w (some c) ns f a = ends a
 
   -- The tall side's child, with its children at hand on side s and on the other.
   opened-near : (w : Want ℕ) (s : Bool) (near : Sub ℕ) (ns : List (Node ℕ)) → LinkFits k h (w .link) → AtHand k h less more (nodesAt near ++ ns) held
       → YieldsBy k mapTest (λ c given. AtHand k h less more (c ∷ (listed (kid s near) ++ (listed (kid (not s) near) ++ ns))) given)
-      (opened w (topOf near)) held
+      (fetchedTop w (topOf near)) held
   opened-near w s (stub l) ns f a = want-yields w ns f a
   opened-near w s (top c x y) ns f a =
       ends
@@ -175,31 +175,31 @@ module _ {k : ℕ} {less more : List Pair} where
   -- ---- one level up
   -- The place p with the subtree b.
   placed-at-hand : {h : ℕ} {held : List (Node ℕ)} (p : Step ℕ) (b : Sub ℕ) → AtHand k h less more (p .node ∷ nodesAt b) held
-      → LinkFits k (suc h) (linkOf b) → AtHand k (suc h) less more (placed p b ∷ nodesAt b) held
+      → LinkFits k (suc h) (linkOf b) → AtHand k (suc h) less more (withSubtree p b ∷ nodesAt b) held
   placed-at-hand p b a f = with-child-at-hand (p .way) (p .node) (linkOf b) (nodesAt b) f a
 
   pub rest-raised : {h : ℕ} {held : List (Node ℕ)} (p : Step ℕ) (b : Sub ℕ) → AtHand k h less more (p .node ∷ nodesAt b) held
       → LinkFits k (suc h) (linkOf b) → Raised k (suc h) less more (rest p b) held
   rest-raised p b a f =
-      seated-raised (p .way) (placed p b) (topOf b) none (kids b)
+      seated-raised (p .way) (withSubtree p b) (topOf b) none (kids b)
       (at-hand-perm
       (trans
-      (shuffle ((placed p b ∷ []) ∷ kids b ∷ listed (topOf b) ∷ []) (part 0 & (part 1 & part 2)) ((part 0 & part 2) & part 1) refl)
-      (perm-append-right (kids b) (perm-of-eq (ap (λ (l : List (Node ℕ)). placed p b ∷ l) (sym (append-nil (listed (topOf b))))))))
+      (shuffle ((withSubtree p b ∷ []) ∷ kids b ∷ listed (topOf b) ∷ []) (part 0 & (part 1 & part 2)) ((part 0 & part 2) & part 1) refl)
+      (perm-append-right (kids b) (perm-of-eq (ap (λ (l : List (Node ℕ)). withSubtree p b ∷ l) (sym (append-nil (listed (topOf b))))))))
       (placed-at-hand p b a f))
 
   raise-yields : {h : ℕ} {held : List (Node ℕ)} (p : Step ℕ) (b : Sub ℕ) → AtHand k h less more (p .node ∷ nodesAt b) held
       → LinkFits k (suc h) (linkOf b) → YieldsBy k mapTest (Raised k (suc (suc (suc (suc h)))) less more) (raise p b) held
   unfolding raise
   raise-yields {h} {held} p b a f =
-      yields-pick (tall true (placed p b)) (turned true)
-      (yields-pick (tall false (placed p b)) (turned false) (ends (raised-more (omega arith) (rest-raised p b a f))))
+      yields-pick (tall true (withSubtree p b)) (turned true)
+      (yields-pick (tall false (withSubtree p b)) (turned false) (ends (raised-more (omega arith) (rest-raised p b a f))))
     where
       turned : (s : Bool)
-          → YieldsBy k mapTest (Raised k (suc (suc (suc (suc h)))) less more) (turn p s (placed p b) (nearOn p b s) (othersOf p b s)) held
+          → YieldsBy k mapTest (Raised k (suc (suc (suc (suc h)))) less more) (turn p s (withSubtree p b) (nearOn p b s) (othersOf p b s)) held
       turned s =
-          turn-yields p s (placed p b) (nearOn p b s) (othersOf p b s)
-          (at-hand-perm (perm-append-left (placed p b ∷ []) (near-nodes p b s)) (placed-at-hand p b a f))
+          turn-yields p s (withSubtree p b) (nearOn p b s) (othersOf p b s)
+          (at-hand-perm (perm-append-left (withSubtree p b ∷ []) (near-nodes p b s)) (placed-at-hand p b a f))
 
 -- ---- the whole way up
 abbrev pub nodesOn : List (Step ℕ) → List (Node ℕ)

@@ -11,7 +11,7 @@ use borrow.Author.Tests.{ltb-false}
 use Rattle.list_laws.specs.ChoiceLaws.{pick-neither}
 use Rattle.method_spec.specs.Node.{Link, Node, child, withChild, heightOf}
 use Rattle.method_spec.specs.Prog.{side, Want}
-use Rattle.method_spec.specs.Map.{Step, Sub, stub, linkOf, nodesAt, tall, single, double, turn, placed, rest, nearOn, othersOf, raise, climb, mapTest}
+use Rattle.method_spec.specs.Map.{Step, Sub, stub, linkOf, nodesAt, tall, single, double, turn, withSubtree, rest, nearOn, othersOf, raise, climb, mapTest}
 use Rattle.run_laws.specs.BalanceLaws.{tall-heights}
 use Rattle.run_laws.specs.EnoughRounds.{tested-height}
 use Rattle.none_lost_laws.specs.Yields.{ends, yields-map, yields-when, yields-then, yields-keep}
@@ -72,8 +72,8 @@ module _ {k : ℕ} {l : Link ℕ} {held : List (Node ℕ)} where
   -- A step with the way written out.
   shrink-turn : (node : Node ℕ) (was : ℕ) (way : Bool) (low high : Option ℕ) (b : Sub ℕ) → Even node → linkOf b .height ≤ child way node .height → (s : Bool)
       → (let p : Step ℕ = record { node = node; was = was; way = way; low = low; high = high } in
-      Passed held p → tall s (placed p b) ≡ true
-      → Seeks k l (λ r given. linkOf (r .sub) .height ≤ heightOf node) (turn p s (placed p b) (nearOn p b s) (othersOf p b s)) held)
+      Passed held p → tall s (withSubtree p b) ≡ true
+      → Seeks k l (λ r given. linkOf (r .sub) .height ≤ heightOf node) (turn p s (withSubtree p b) (nearOn p b s) (othersOf p b s)) held)
   shrink-turn node was true low high b even lower true f e =
       let less = tall-higher true (withChild true node (linkOf b)) e in
       let z : ⊥ = omega (arith, even true) in
@@ -95,8 +95,8 @@ module _ {k : ℕ} {l : Link ℕ} {held : List (Node ℕ)} where
       → Seeks k l (λ r given. linkOf (r .sub) .height ≤ heightOf (p .node)) (raise p b) held
   unfolding raise
   shrink-seeks p b even lower f =
-      yields-when (tall true (placed p b)) (shrink-turn (p .node) (p .was) (p .way) (p .low) (p .high) b even lower true f)
-      (λ e. yields-when (tall false (placed p b)) (shrink-turn (p .node) (p .was) (p .way) (p .low) (p .high) b even lower false f)
+      yields-when (tall true (withSubtree p b)) (shrink-turn (p .node) (p .was) (p .way) (p .low) (p .high) b even lower true f)
+      (λ e. yields-when (tall false (withSubtree p b)) (shrink-turn (p .node) (p .was) (p .way) (p .low) (p .high) b even lower false f)
       (λ e. ends (rest-low (p .node) (p .was) (p .way) (p .low) (p .high) b lower)))
 
 -- ---- the whole way up

@@ -18,7 +18,7 @@ use Rattle.list_laws.specs.Shuffle.{part, _&_, shuffle}
 use Rattle.method_spec.specs.Node.{Link, Node}
 use Rattle.method_spec.specs.Prog.{Prog}
 use Rattle.method_spec.specs.Plain.{Pair}
-use Rattle.round_spec.specs.Round.{Wish, Hand, keysOf, readHalf, limit}
+use Rattle.round_spec.specs.Round.{Wish, Hand, keysOf, readHalf, stashLimit}
 use Rattle.leaf_spec.specs.Leaf.{leafFormat, ProperLeaf}
 use Rattle.bucket_call_spec.specs.Fetch.{Held, Going, revealing, written, total, tooMany, heldKeys, Round, on, shut, atClose, idleRound}
 use Rattle.round_spec.specs.Whole.{listed, IsTree, contents}
@@ -43,7 +43,7 @@ entriesIn k g = entriesWith k (g .tree) (g .waiting ++ nodesIn (g .held))
 
 -- The places that a round needs: for those that a round leaves, one new node and a path's. For sizes up to 8 they are 101.
 abbrev pub placesFor : ℕ → ℕ
-placesFor k = limit + 1 + 4 * (k + 1)
+placesFor k = stashLimit + 1 + 4 * (k + 1)
 
 -- A store between two rounds of a call whose root link was l, with these entries: its nodes are proper, no key is held twice, and each held
 -- node's link is present where it was followed.
@@ -146,7 +146,7 @@ module _ {A : Type 0} where
   -- It went on, with a program and held nodes as `Next` says; or it closed the store, with damage (8) or overflow (9). So many leaves were
   -- revealed in all, and there are places for all nodes.
   pub data After (k : ℕ) (l : Link ℕ) (all : List Pair) (shown : ℕ) (Next : List Held → Prog ℕ A → Type 0) : Round A → Type 0 where
-    goes : {g : Going} {q : Prog ℕ A} → Sound k l all g → total g ≤ limit → length (g .leaves) ≡ shown → Next (g .held) q → After k l all shown Next (on g q)
+    goes : {g : Going} {q : Prog ℕ A} → Sound k l all g → total g ≤ stashLimit → length (g .leaves) ≡ shown → Next (g .held) q → After k l all shown Next (on g q)
     closes : {m : ℕ} {g : Going} → (m ≡ 8) ⊎ (m ≡ 9) → Sound k l all g → total g ≤ placesFor k → length (g .leaves) ≤ shown → After k l all shown Next (shut m g)
 
   pub close-after : {k : ℕ} {l : Link ℕ} {all : List Pair} {shown : ℕ} {Next : List Held → Prog ℕ A → Type 0} {g : Going} (p : Prog ℕ A)
@@ -156,10 +156,10 @@ module _ {A : Type 0} where
     where
       go : (b : Bool) → tooMany g ≡ b → After k l all shown Next (pick b (shut 9 g) (on g p))
       go true e = closes (inr refl) sound room (omega arith)
-      go false e = goes sound (ltb-false limit (total g) e) seen next
+      go false e = goes sound (ltb-false stashLimit (total g) e) seen next
 
   module _ {k : ℕ} {l : Link ℕ} {all : List Pair} {Next : List Held → Prog ℕ A → Type 0} {g : Going} (sound : Sound k l all g)
-      (leaf : ℕ) (is-leaf : leaf < 2 ^ k) (few : total g ≤ limit + 1) where
+      (leaf : ℕ) (is-leaf : leaf < 2 ^ k) (few : total g ≤ stashLimit + 1) where
     pub damage-after : After k l all (suc (length (g .leaves))) Next (shut 8 (revealing leaf g))
     damage-after = closes (inl refl) (revealed-sound sound leaf is-leaf) (omega arith) (omega (arith, one-more (g .leaves) leaf))
 

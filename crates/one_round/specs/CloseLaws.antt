@@ -35,11 +35,11 @@ use Rattle.stash_laws.specs.WaitingLaws.{write-words, waiting-are, holds-them}
 use Rattle.bucket_call_spec.specs.Fetch.{Held, Going, total, on, shut, atClose, written, tooMany}
 use Rattle.bucket_call_spec.specs.Peak.{peakAt}
 use Rattle.peak_laws.specs.PeakLaws.{peak-close}
-use Rattle.one_round.specs.OneRound.{going, endedWith, Ready, Rests}
+use Rattle.one_round.specs.OneRound.{going, endedWith, RoundReady, Rests}
 use Rattle.one_round.specs.ReadyLaws.{ready-leaves}
 use Rattle.one_round.specs.HandLaws.{InHand}
 
-module _ {k leaf n : ℕ} {words scratch tree held after : List ℕ} (ready : Ready k leaf n words scratch tree held) where
+module _ {k leaf n : ℕ} {words scratch tree held after : List ℕ} (ready : RoundReady k leaf n words scratch tree held) where
   -- What the write half needs, after a read half that found no damage.
   pub looked-joint : (wish : Wish) (r : Looked) → LookedFor k leaf wish n words tree held after r → r .ok ≡ true
       → (want : Bool) (at : ℕ) → (want ≡ true → at < r .count) → Joint k leaf (r .count) want at after words tree
@@ -64,7 +64,7 @@ ended-at-close true g p = refl
 ended-at-close false g p = refl
 
 module _ {k leaf n : ℕ} {w : Option round.Wish} {words scratch tree held : List ℕ} {taken : Option Slot} {want : Bool} {at m : ℕ} {after scratch′ words′ tree′ : List ℕ} {left : ℕ}
-    (ready : Ready k leaf n words scratch tree held) (i : InHand k leaf n w words tree held taken (removed want at (take m (slotsOf after))))
+    (ready : RoundReady k leaf n words scratch tree held) (i : InHand k leaf n w words tree held taken (removed want at (take m (slotsOf after))))
     (settled : Settled k leaf m want at after tree scratch′ words′ tree′ left) (room : m ≤ places) where
   abbrev result : Written (Node ℕ)
   result = writeHalf leafFormat k leaf (i .hand .waiting) tree

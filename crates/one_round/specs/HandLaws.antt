@@ -34,7 +34,7 @@ use Rattle.path_reader.specs.declared.Looked.{Looked}
 use Rattle.path_reader.specs.declared.Wish.{Wish}
 use Rattle.stash_laws.specs.Waiting.{wordsFor, nodeIn, InWidths, waitingIn}
 use Rattle.stash_laws.specs.WaitingLaws.{leaf-carried, node-in-words, read-words}
-use Rattle.one_round.specs.OneRound.{Ready}
+use Rattle.one_round.specs.OneRound.{RoundReady}
 
 -- ---- widths of what is read
 module _ (k : ℕ) (tree : List ℕ) (is : IsTree k tree) (t : ℕ) (is-leaf : t < 2 ^ k) where
@@ -68,7 +68,7 @@ pub record InHand (k leaf n : ℕ) (w : Option round.Wish) (words tree held : Li
   pub taken-widths : All InWidths (listed (hand .taken))
   pub widths : All InWidths (hand .waiting)
 
-module _ {k leaf n : ℕ} {words scratch tree held after : List ℕ} (wish : Wish) (r : Looked) (ready : Ready k leaf n words scratch tree held)
+module _ {k leaf n : ℕ} {words scratch tree held after : List ℕ} (wish : Wish) (r : Looked) (ready : RoundReady k leaf n words scratch tree held)
     (looked : LookedFor k leaf wish n words tree held after r) where
   abbrev half : Option (Hand (Node ℕ))
   half = readHalf leafFormat k tree leaf (wishOf wish) held (waitingIn n words)

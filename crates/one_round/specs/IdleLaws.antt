@@ -23,7 +23,7 @@ use Rattle.bucket_call_spec.specs.Peak.{peakAt}
 use Rattle.peak_laws.specs.PeakLaws.{peak-damage}
 use Rattle.round_close.specs.declared.Close.{Close}
 use Rattle.bucket_call_spec.specs.Fetch.{Held, Going, shut, atClose, written, revealing, heldKeys, idleRound}
-use Rattle.one_round.specs.OneRound.{going, Ready, Rests, Idled}
+use Rattle.one_round.specs.OneRound.{going, RoundReady, Rests, Idled}
 use Rattle.one_round.specs.HandLaws.{looked-damage, looked-hand}
 use Rattle.one_round.specs.CloseLaws.{closing, settled-rests, settled-close, settled-counts}
 
@@ -39,12 +39,12 @@ module _ {A : Type 0} (k leaf : ℕ) (p : Prog ℕ A) (g : Going) where
   idle-undamaged h read = rw (read, idleRound)
 
 -- What waited and was held, waits and is held still, with other words in the scratch space.
-pub ready-rests : {k leaf n : ℕ} {words scratch tree held : List ℕ} → Ready k leaf n words scratch tree held → (scratch′ : List ℕ) → length scratch′ ≡ wordCount
+pub ready-rests : {k leaf n : ℕ} {words scratch tree held : List ℕ} → RoundReady k leaf n words scratch tree held → (scratch′ : List ℕ) → length scratch′ ≡ wordCount
     → Rests n words scratch′ held
 ready-rests ready scratch′ sized =
     record { holds = ready .holds; scratch-sized = sized; order = ready .order; apart = ready .apart }
 
-module _ {k leaf n : ℕ} {words scratch tree held after : List ℕ} (r : Looked) (ready : Ready k leaf n words scratch tree held)
+module _ {k leaf n : ℕ} {words scratch tree held after : List ℕ} (r : Looked) (ready : RoundReady k leaf n words scratch tree held)
     (looked : LookedFor k leaf Nothing n words tree held after r) where
   -- Damage: nothing was written.
   pub idle-damage : r .ok ≡ false → Idled k leaf n words tree held words after tree (record { mark = 8; waiting = n; count = 0 })

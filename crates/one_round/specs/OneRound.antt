@@ -38,7 +38,7 @@ keysWaiting n words = keysOf leafFormat (waitingIn n words)
 
 -- Before a round: the tree is one of that size, the leaf is in it, the waiting nodes' tags are leaves, their keys ascend and are
 -- not held, and there is room for a path's nodes.
-pub record Ready (k leaf n : ℕ) (words scratch tree held : List ℕ) : Type 0 where
+pub record RoundReady (k leaf n : ℕ) (words scratch tree held : List ℕ) : Type 0 where
   pub small : k ≤ 8
   pub is-leaf : leaf < 2 ^ k
   pub is-tree : IsTree k tree

@@ -16,7 +16,7 @@ use Rattle.slot_spec.specs.Row.{slotsOf}
 use Rattle.path_reader.specs.Look.{Fit}
 use Rattle.stash_laws.specs.Waiting.{wordsFor, InWidths, waitingIn}
 use Rattle.stash_laws.specs.WaitingLaws.{leaf-carried}
-use Rattle.one_round.specs.OneRound.{keysWaiting, Ready}
+use Rattle.one_round.specs.OneRound.{keysWaiting, RoundReady}
 
 -- ---- keys and tags of words
 keys-of-words : (ns : List (Node ℕ)) → All InWidths ns → keysOf wordsFormat (map wordsFor ns) ≡ keysOf leafFormat ns
@@ -31,7 +31,7 @@ leaves-of-words k ns r tags x m =
     subst (λ (y : Slot). wordsFormat .tag y < 2 ^ k) (q .2)
     (rw (leaf-carried .tag (q .0) (r (q .0) (q .1))) (tags (q .0) (q .1)))
 
-module _ {k leaf n : ℕ} {words scratch tree held : List ℕ} (ready : Ready k leaf n words scratch tree held) where
+module _ {k leaf n : ℕ} {words scratch tree held : List ℕ} (ready : RoundReady k leaf n words scratch tree held) where
   -- The words' keys are those of the waiting nodes.
   pub ready-keys : keysOf wordsFormat (take n (slotsOf words)) ≡ keysWaiting n words
   ready-keys = ap (keysOf wordsFormat) (ready .holds .exact) ∙ keys-of-words (waitingIn n words) (ready .holds .ranged)

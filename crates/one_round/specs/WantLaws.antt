@@ -32,7 +32,7 @@ use Rattle.bucket_call_spec.specs.Fetch.{Held, Going, shut, atClose, written, r
 use Rattle.state_spec.specs.Ticket.{structureOf}
 use Rattle.operation_spec.specs.declared.Want as want
 use Rattle.operation_spec.specs.Method.{toWant}
-use Rattle.one_round.specs.OneRound.{going, takenAs, Ready, Rests, Wanted}
+use Rattle.one_round.specs.OneRound.{going, takenAs, RoundReady, Rests, Wanted}
 use Rattle.one_round.specs.HandLaws.{InHand, looked-damage, looked-hand, taken-node}
 use Rattle.one_round.specs.CloseLaws.{closing, settled-rests, settled-close, settled-counts}
 use Rattle.one_round.specs.IdleLaws.{ready-rests}
@@ -61,7 +61,7 @@ abbrev pub wishOfWant : want.Want → wish.Wish
 wishOfWant w = wished.Node (w .link .key) (w .link .tag)
 
 module _ {k n : ℕ} {words scratch tree held after : List ℕ} (structure entries : ℕ) (w : want.Want) (r : Looked)
-    (ready : Ready k (w .link .tag) n words scratch tree held)
+    (ready : RoundReady k (w .link .tag) n words scratch tree held)
     (looked : LookedFor k (w .link .tag) (wishOfWant w) n words tree held after r) where
   abbrev leaf : ℕ
   leaf = w .link .tag

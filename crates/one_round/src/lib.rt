@@ -14,7 +14,7 @@ ghost use mathlib.Core.Path.{_≡_};
 ghost use Prim.Native.Nat.{_+_, _<_};
 ghost use Rattle.list_spec.specs.Ascending.{ascending};
 ghost use Rattle.stash_laws.specs.Waiting.{Holds};
-ghost use Rattle.one_round.specs.OneRound.{keysWaiting, Ready, Idled, Wanted};
+ghost use Rattle.one_round.specs.OneRound.{keysWaiting, RoundReady, Idled, Wanted};
 
 // How a round that wants none ended: mark 0, or 8 damage or 9 overflow, how many nodes wait then, and how many wait and are held at its
 // close, 0 with damage.
@@ -44,7 +44,7 @@ pub fn idle_round(
     leaf: usize,
     held: &[u32],
 ) -> Rounded
-    requires { ⌜ Ready size leaf n (now w) (now s) (now tree) (now held) ⌝ }
+    requires { ⌜ RoundReady size leaf n (now w) (now s) (now tree) (now held) ⌝ }
     ensures { λ r. ⌜ Idled size leaf n (now (w .entry)) (now (tree .entry)) (now (held .entry)) (now (w .exit)) (now (s .exit)) (now (tree .exit)) r ⌝ }
 {
     let mut from = [0u32; PATH_SLOTS];
@@ -78,7 +78,7 @@ pub fn want_round(
     size: usize,
     held: &[u32],
 ) -> Took
-    requires { ⌜ Ready size (want .link .tag) n (now w) (now s) (now tree) (now held) ⌝ }
+    requires { ⌜ RoundReady size (want .link .tag) n (now w) (now s) (now tree) (now held) ⌝ }
     ensures { λ r. ⌜ Wanted structure entries size n want (now (w .entry)) (now (tree .entry)) (now (held .entry)) (now (w .exit)) (now (s .exit)) (now (tree .exit)) r ⌝ }
 {
     let link = want.link;

@@ -40,18 +40,18 @@ toWant w =
     record { link = toLink (w .link); from = toFrom (w .from); low = toBound (w .low); high = toBound (w .high) }
 
 -- What a ticket asks, and of which structure.
-abbrev pub structureOf : op.Op → Structure
-structureOf (Get k) = method.map
-structureOf (Put k v) = method.map
-structureOf (Remove k) = method.map
-structureOf (Push v) = method.stack
-structureOf Pop = method.stack
-structureOf (Add v) = method.heap
-structureOf Take = method.heap
-structureOf (Enqueue v) = method.queue
-structureOf Dequeue = method.queue
+abbrev pub structureAsked : op.Op → Structure
+structureAsked (Get k) = method.map
+structureAsked (Put k v) = method.map
+structureAsked (Remove k) = method.map
+structureAsked (Push v) = method.stack
+structureAsked Pop = method.stack
+structureAsked (Add v) = method.heap
+structureAsked Take = method.heap
+structureAsked (Enqueue v) = method.queue
+structureAsked Dequeue = method.queue
 
-abbrev pub toOp : (o : op.Op) → Op (structureOf o)
+abbrev pub toOp : (o : op.Op) → Op (structureAsked o)
 toOp (Get k) = method.get k
 toOp (Put k v) = method.put k v
 toOp (Remove k) = method.remove k

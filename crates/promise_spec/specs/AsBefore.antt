@@ -14,7 +14,7 @@ use Rattle.method_spec.specs.Outcome.{Outcome}
 use Rattle.method_spec.specs.Prog.{start}
 use Rattle.method_spec.specs.Rounds.{rounds}
 use Rattle.method_spec.specs.Call.{capacity, program, spareTags}
-use Rattle.bucket_call_spec.specs.Fetch.{Left, Round, fetchRounds}
+use Rattle.bucket_call_spec.specs.Fetch.{CallLeft, Round, fetchRounds}
 use Rattle.bucket_call_spec.specs.Call.{Store, begun, aheadThen, afterFetches, drawOf, bucketCall}
 use Rattle.bucket_call_spec.specs.Peak.{peakOf, roundsWith}
 use Rattle.state_spec.specs.declared.State.{State}
@@ -72,7 +72,7 @@ module _ (programs : Programs) where
   fetchedWith {s} k F op draw st = fetchRounds s (st .entries) k draw F 0 (programWith k F op draw st) (begun st)
 
   -- A call over buckets, as `bucketCall`.
-  abbrev pub bucketCallWith : {s : Structure} → (size rounds : ℕ) → Op s → (draw : ℕ → ℕ) → Store → Left
+  abbrev pub bucketCallWith : {s : Structure} → (size rounds : ℕ) → Op s → (draw : ℕ → ℕ) → Store → CallLeft
   bucketCallWith {s} k F op draw st = afterFetches s k F draw st (aheadThen k F op draw st) (fetchedWith k F op draw st)
 
   -- Its peak, as `callPeak`.
@@ -103,7 +103,7 @@ pub record EarlierEnded : Type 0 where
 abbrev pub earlierRefusing : ℕ → State → (tree trace : List ℕ) → EarlierEnded
 earlierRefusing n s tree trace = record { state = s; reply = Refused n; leaves = 0; tree = tree; trace = trace }
 
-abbrev pub earlierEnding : State → List ℕ → Left → EarlierEnded
+abbrev pub earlierEnding : State → List ℕ → CallLeft → EarlierEnded
 earlierEnding s trace l =
     record {
       state = stateLeft s l;

@@ -18,7 +18,7 @@ use Rattle.method_spec.specs.Outcome.{Outcome}
 use Rattle.method_spec.specs.Rounds.{rounds}
 use Rattle.method_spec.specs.Call.{capacity}
 use Rattle.leaf_spec.specs.Leaf.{leafFormat}
-use Rattle.bucket_call_spec.specs.Fetch.{Left, heldKeys, Round, on, shut}
+use Rattle.bucket_call_spec.specs.Fetch.{CallLeft, heldKeys, Round, on, shut}
 use Rattle.bucket_call_spec.specs.Call.{drawOf, fetchedBy}
 use Rattle.state_spec.specs.declared.State.{State}
 use Rattle.state_spec.specs.Ticket.{opIn, structureOf}
@@ -85,7 +85,7 @@ pub data TwoAnswers (old : ℕ) : (mark : ℕ) → (earlier now : Option Answer)
 
 -- What the earlier call left and what the call leaves: the same mark, entries, root link and leaves, the same known ahead; the same nodes in the same
 -- places, but that one node, which has the key, has the put's value.
-pub record OnlyValue (k key value : ℕ) (earlier now : Left) : Type 0 where
+pub record OnlyValue (k key value : ℕ) (earlier now : CallLeft) : Type 0 where
   pub mark : now .mark ≡ earlier .mark
   pub entries : now .entries ≡ earlier .entries
   pub root : now .root ≡ earlier .root
@@ -105,5 +105,5 @@ pub data AsksPut (key value : ℕ) : (st : Structure) → Option (Op st) → Typ
 pub data Compares (s : State) (tree ticket tape trace : List ℕ) (st : Structure) (o : Option (Op st)) : (earlier now : Ended) → Type 0 where
   both-refused : (m : ℕ) → firstMet (checks st s tree ticket tape trace o) ≡ some m
       → Compares s tree ticket tape trace st o (refusing m s tree trace) (refusing m s tree trace)
-  other-value : (key value : ℕ) {earlier now : Left} {before peak : ℕ} → AsksPut key value st o → OnlyValue (s .size) key value earlier now → peak ≡ before
+  other-value : (key value : ℕ) {earlier now : CallLeft} {before peak : ℕ} → AsksPut key value st o → OnlyValue (s .size) key value earlier now → peak ≡ before
       → Compares s tree ticket tape trace st o (ending s trace earlier before) (ending s trace now peak)

@@ -18,7 +18,7 @@ use Rattle.method_spec.specs.Map.{walk, balanceOf, single, double, turn, raise,
 use Rattle.method_spec.specs.Rounds.{rounds, spare}
 use Rattle.method_spec.specs.Call.{program, aheadAfter, test}
 use Rattle.leaf_spec.specs.Leaf.{leafFormat, readLeaf}
-use Rattle.bucket_call_spec.specs.Fetch.{Left, movedLink, movedNode, closing, atClose, idleRound, tookRound, wantRound, fetchRound, fetchRounds}
+use Rattle.bucket_call_spec.specs.Fetch.{CallLeft, movedLink, movedNode, closing, atClose, idleRound, tookRound, wantRound, fetchRound, fetchRounds}
 use Rattle.bucket_call_spec.specs.Call.{Store, putRounds, afterPuts, afterFetches, fetchedBy, bucketCall}
 use Rattle.balance_spec.specs.Least.{least}
 use Rattle.balance_spec.specs.Shape.{shaped}
@@ -50,7 +50,7 @@ empty =
 abbrev zeros : ℕ → ℕ
 zeros d = 0
 
-abbrev leftBy : Left → Store
+abbrev leftBy : CallLeft → Store
 leftBy l = record { entries = l .entries; root = l .root; ahead = l .ahead; waiting = l .waiting; tree = l .tree }
 
 -- Where this unfolds, so does all that a call computes with.
@@ -67,10 +67,10 @@ unfolding holdsNine
 which = (refl, refl, refl, refl)
 
 -- Put 9 on the full map: it was 10; it is replaced, with the old value.
-abbrev earlier : Left
+abbrev earlier : CallLeft
 earlier = bucketCallWith earlierPrograms 1 3 (put 9 2) zeros holdsNine
 
-abbrev now : Left
+abbrev now : CallLeft
 now = bucketCall 1 3 (put 9 2) zeros holdsNine
 
 nine-twice : (earlier .answer ≡ some full) × (now .answer ≡ some (replaced 1))

@@ -24,7 +24,7 @@ use Rattle.lent_bytes_spec.specs.Numbers.{numbersOf}
 use Rattle.lent_bytes_spec.specs.StateBytes.{stateLength, stateIn, fitBytes}
 use Rattle.host_spec.specs.Result.{replyValue, resultBytes}
 use Rattle.host_spec.specs.Host.{HostEnded, lengthsGood, hostLeaving, hostCalled, hostOpened, readAs, hostReadOut}
-use Rattle.demand_spec.specs.History.{opsIn, tapesOf, pairsIn, numberOf}
+use Rattle.demand_spec.specs.History.{opsIn, tapesOf, pairsIn, structureNumber}
 use Rattle.demand_spec.specs.Demands.{NoneLost, RoundTrip, fetching}
 use Rattle.promise_spec.specs.HostHistory.{HostBrought, broughtBy, HostStore, markIn, hostCallOn, hostHistory, hostFinally, hostUntilClosed, changesNoByte, hostCounted, hostReplies, hostReplyOf, hostTraceOf}
 
@@ -71,7 +71,7 @@ module _ (state tree ticket tape trace result : List ℕ) where
 -- The bytes that an opening of a state buffer and a tree leaves.
 abbrev pub hostStart : Structure → ℕ → (state tree : List ℕ) → HostStore
 hostStart st k state tree =
-    record { state = hostOpened (numberOf st) k state tree .state; tree = hostOpened (numberOf st) k state tree .tree }
+    record { state = hostOpened (structureNumber st) k state tree .state; tree = hostOpened (structureNumber st) k state tree .tree }
 
 module _ (st : Structure) (k : ℕ) (s : HostStore) (cs : List HostBrought) where
   -- The tickets and the tapes of the calls that count, and the method run on them.
@@ -123,7 +123,7 @@ module _ (st : Structure) (k : ℕ) (state tree : List ℕ) (cs : List HostBroug
 
   pub record HostDemand2 : Type 0 where
     pub slots : RoundTrip k
-    pub opens : hostOpened (numberOf st) k state tree .number ≡ 0
+    pub opens : hostOpened (structureNumber st) k state tree .number ≡ 0
     -- Until the store closes every answer is the plain machine's, and trace and bytes are those of the method.
     pub answers : hostReplies (hostHistory (hostStart st k state tree) hostBefore)
         ≡ map (λ a. hostReplyOf (replyOf a)) (plainAnswers (capacity k) (hostAsked st k (hostStart st k state tree) hostBefore) (nothing st))

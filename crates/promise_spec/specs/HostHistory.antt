@@ -13,8 +13,8 @@ use Rattle.call_spec.specs.Store.{Ended}
 use Rattle.lent_bytes_spec.specs.Numbers.{numbersOf}
 use Rattle.lent_bytes_spec.specs.StateBytes.{stateLength, headIn, stateBytes}
 use Rattle.host_spec.specs.Result.{replyNumber, replyValue}
-use Rattle.host_spec.specs.Host.{HostEnded, lengthsGood, hostLeaving, endedAs, hostCalled}
-use Rattle.demand_spec.specs.History.{Brought, Kept, callOn, leftBy, history, finally, untilClosed, changesNothing, counted, replies, traceOf}
+use Rattle.host_spec.specs.Host.{HostEnded, lengthsGood, hostLeaving, hostEndedAs, hostCalled}
+use Rattle.demand_spec.specs.History.{Brought, StateAndTree, callOn, leftBy, history, finally, untilClosed, changesNothing, counted, replies, traceOf}
 
 -- What a C host brings with a call; and, read as numbers, what the existing call brings.
 pub record HostBrought : Type 0 where
@@ -36,7 +36,7 @@ pub record HostStore : Type 0 where
   pub state : List ℕ
   pub tree : List ℕ
 
-abbrev pub bytesOf : Kept → HostStore
+abbrev pub bytesOf : StateAndTree → HostStore
 bytesOf s = record { state = stateBytes (s .state); tree = s .tree }
 
 abbrev pub markIn : List ℕ → ℕ
@@ -113,16 +113,16 @@ heard [] = []
 heard (b ∷ bs) = pick (lengthsPass b) (broughtBy b ∷ heard bs) (heard bs)
 
 -- One whose lengths do not pass gets 18 and changes nothing; the others are the existing calls, over bytes.
-unfoldable pub hostOutcomes : Kept → List HostBrought → List HostEnded
+unfoldable pub hostOutcomes : StateAndTree → List HostBrought → List HostEnded
 hostOutcomes s [] = []
 hostOutcomes s (b ∷ bs) =
     pick (lengthsPass b)
-    (endedAs (b .result) (callOn s (broughtBy b)) ∷ hostOutcomes (leftBy (callOn s (broughtBy b))) bs)
+    (hostEndedAs (b .result) (callOn s (broughtBy b)) ∷ hostOutcomes (leftBy (callOn s (broughtBy b))) bs)
     (hostLeaving 18 (stateBytes (s .state)) (s .tree) (b .trace) (b .result) ∷ hostOutcomes s bs)
 
 -- A list of calls from C on a byte store is the list of existing calls that were heard, on a state and its tree: every number and every lent byte; the
 -- store at the end; and, of the calls that count, the replies and the trace.
-pub record HostAs (h : HostStore) (s : Kept) (bs : List HostBrought) : Type 0 where
+pub record HostAs (h : HostStore) (s : StateAndTree) (bs : List HostBrought) : Type 0 where
   pub outcomes : hostHistory h bs ≡ hostOutcomes s bs
   pub end : hostFinally h bs ≡ bytesOf (finally s (heard bs))
   pub until : heard (hostUntilClosed h bs) ≡ untilClosed s (heard bs)

@@ -7,3 +7,4 @@ pub mod UnusedFieldExamples
 pub mod ReadsOut
 pub mod HostHistory
 pub mod HostDemands
+pub mod HostExamples

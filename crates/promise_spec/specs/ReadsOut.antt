@@ -14,12 +14,12 @@ use Rattle.call_spec.specs.declared.Reply.the-variants.{Refused}
 use Rattle.readout_spec.specs.Taken.{pairOfEntry, entries, report}
 use Rattle.readout_spec.specs.ReadOut.{fileOf, writing, readOut}
 use Rattle.readout_spec.specs.ReadBack.{readBack}
-use Rattle.demand_spec.specs.History.{Brought, Kept, callOn, finally}
+use Rattle.demand_spec.specs.History.{Brought, StateAndTree, callOn, finally}
 use Rattle.demand_spec.specs.Demands.{fetching, start, before, asked, left}
 
 module _ (st : Structure) (k : ℕ) (tree : List ℕ) (bs : List Brought) where
   -- The store at the end, which the call that met 9 left.
-  abbrev pub closed : Kept
+  abbrev pub closed : StateAndTree
   closed = finally (start st k tree bs) bs
 
   -- What the plain machine held before that call.

@@ -12,7 +12,7 @@ use Rattle.state_spec.specs.declared.State.{State}
 use Rattle.state_spec.specs.Ticket.{ticketLength, opIn, structureOf, strayFields}
 use Rattle.call_spec.specs.Store.{Ended, refusing, Check, checks, firstMet}
 use Rattle.host_spec.specs.Host.{HostEnded, hostCalledBy}
-use Rattle.demand_spec.specs.History.{Brought, Kept, leftBy}
+use Rattle.demand_spec.specs.History.{Brought, StateAndTree, leftBy}
 use Rattle.ticket_copy_spec.specs.Copy.{ticketCopy}
 use Rattle.promise_spec.specs.AsBefore.{calledBeforeUnusedFields}
 
@@ -36,10 +36,10 @@ module _ (s : State) (tree ticket tape trace : List ℕ) where
 
 -- ---- lists of calls
 -- As `history`, each call being that of before.
-abbrev pub earlierOn : Kept → Brought → Ended
+abbrev pub earlierOn : StateAndTree → Brought → Ended
 earlierOn s b = calledBeforeUnusedFields (s .state) (s .tree) (b .ticket) (b .tape) (b .trace)
 
-unfoldable pub earlierHistory : Kept → List Brought → List Ended
+unfoldable pub earlierHistory : StateAndTree → List Brought → List Ended
 earlierHistory s [] = []
 earlierHistory s (b ∷ bs) = earlierOn s b ∷ earlierHistory (leftBy (earlierOn s b)) bs
 

@@ -28,7 +28,7 @@ use Rattle.call_ending.specs.declared.Ran.{Ran}
 use Rattle.call_core.specs.Run.{StandsFor, leftOf, CallsAs}
 use Rattle.host_calls.specs.Left.{coreHead, Saves}
 use Rattle.host_spec.specs.Result.{replyNumber, replyValue, resultBytes}
-use Rattle.host_spec.specs.Host.{hostLeaving, lengthsGood, endedAs, hostCalled}
+use Rattle.host_spec.specs.Host.{hostLeaving, lengthsGood, hostEndedAs, hostCalled}
 
 -- ---- the refusals
 module _ (state tree ticket tape trace result : List ℕ) where
@@ -155,6 +155,6 @@ module _ (state tree ticket tape trace result : List ℕ) where
           unfolding hostCalled
           call-ends number left filled en el ef =
               let g = good-lengths (length state) (length tape) (length trace) (length result) lengths in
-              let made-so : hostLeaving number left tree′ trace′ filled ≡ endedAs result (leftOf s r words′ tree′ (numbersOf trace′)) =
+              let made-so : hostLeaving number left tree′ trace′ filled ≡ hostEndedAs result (leftOf s r words′ tree′ (numbersOf trace′)) =
               rw (en, el ∙ state-left (g .state-long), ef, ← trace-left-so (g .trace-even)) in
-              made-so ∙ ap (endedAs result) (sym ended) ∙ rw (lengths, eq-eqb (h .mark) 0 (p .unmarked), fits-whole)
+              made-so ∙ ap (hostEndedAs result) (sym ended) ∙ rw (lengths, eq-eqb (h .mark) 0 (p .unmarked), fits-whole)

@@ -13,7 +13,7 @@ use Rattle.slot_spec.specs.Tree.{slotLength, bucketLength, treeLength}
 use Rattle.state_spec.specs.Fit.{inRange, largestStructure, largestSize, places, noPlace}
 use Rattle.state_spec.specs.Opening.{Opened, empty, closedWith, fresh, opened}
 use Rattle.state_laws.specs.FitLaws.{in-range-true}
-use Rattle.call_spec.specs.Store.{placed}
+use Rattle.call_spec.specs.Store.{waitingPlaces}
 use Rattle.word_round_laws.specs.Words.{wordCount}
 use Rattle.stash_laws.specs.Waiting.{waitingIn, Holds}
 use Rattle.stash.specs.StashLaws.{holds-none}
@@ -121,7 +121,7 @@ tree-clears size tree small sized =
 pub none-hold : Holds 0 (replicate wordCount 0)
 none-hold = holds-none (replicate wordCount 0) refl
 
-none-placed : take places (placed (waitingIn 0 (replicate wordCount 0))) ≡ replicate places noPlace
+none-placed : take places (waitingPlaces (waitingIn 0 (replicate wordCount 0))) ≡ replicate places noPlace
 none-placed = refl
 
 abbrev pub emptyHead : (mark structure size : ℕ) → StateHead
@@ -136,7 +136,7 @@ empty-head mark structure size = go (eqb structure 4)
     go false = refl
 
 pub empty-written : (state : List ℕ) (mark structure size : ℕ) → length state ≡ stateLength → (part left : List ℕ)
-    → part ≡ placesBytes (take places (placed (waitingIn 0 (replicate wordCount 0)))) ++ drop (slotLength * places) (take (length state - headLength) (drop headLength state))
+    → part ≡ placesBytes (take places (waitingPlaces (waitingIn 0 (replicate wordCount 0)))) ++ drop (slotLength * places) (take (length state - headLength) (drop headLength state))
     → left ≡ headBytes (emptyHead mark structure size) ++ drop headLength (take headLength state ++ (part ++ drop (length state - headLength) (drop headLength state)))
     → left ≡ stateBytes (empty mark structure size)
 unfolding stateBytes
@@ -144,7 +144,7 @@ empty-written state mark structure size sized part left ep el =
     let all = take (length state - headLength) (drop headLength state) in
     let none : drop (slotLength * places) all ≡ [] = drop-of-length-le all {i = slotLength * places} (omega (arith, slots-part state sized)) in
     let is-part : part ≡ placesBytes (replicate places noPlace) =
-    ep ∙ ap (λ (xs : List ℕ). placesBytes (take places (placed (waitingIn 0 (replicate wordCount 0)))) ++ xs) none ∙ append-nil (placesBytes (take places (placed (waitingIn 0 (replicate wordCount 0)))))
+    ep ∙ ap (λ (xs : List ℕ). placesBytes (take places (waitingPlaces (waitingIn 0 (replicate wordCount 0)))) ++ xs) none ∙ append-nil (placesBytes (take places (waitingPlaces (waitingIn 0 (replicate wordCount 0)))))
     ∙ ap placesBytes none-placed in
     slots-then-head state sized (emptyHead mark structure size) part left el
     ∙ ap₂ (λ (xs ys : List ℕ). xs ++ ys) (ap headBytes (empty-head mark structure size)) is-part

@@ -11,7 +11,7 @@ use Rattle.state_spec.specs.declared.State.{State}
 use Rattle.state_spec.specs.Fit.{largestSize, places}
 use Rattle.readout_spec.specs.declared.ReadOut.{ReadOut}
 use Rattle.readout_spec.specs.Seen.{mostItems}
-use Rattle.readout_spec.specs.ReadOut.{Left, leaving, readOut, fileOf, numberOf, lengthOf}
+use Rattle.readout_spec.specs.ReadOut.{ReadOutLeft, leaving, readOut, fileOf, readOutNumber, lengthOf}
 use Rattle.survey_laws.specs.Items.{slotsIn, slotsFile, fitting}
 use Rattle.survey_laws.specs.StoreLaws.{tree-slots, few-items, bytes-file}
 use Rattle.store_readout.specs.Refusal.{knownNumbers, refusalOf}
@@ -43,12 +43,12 @@ module _ (state tree out : List ℕ) where
   read-bad-length n = rw (ne-eqb (length state) stateLength n)
 
   module _ (sized : length state ≡ stateLength) where
-    as-read : (l : Left) → l ≡ readOut s tree out → readAs l ≡ hostReadOut state tree out
+    as-read : (l : ReadOutLeft) → l ≡ readOut s tree out → readAs l ≡ hostReadOut state tree out
     unfolding hostReadOut
     as-read l e = rw (eq-eqb (length state) stateLength sized) (ap readAs (e ∙ ap (λ (x : State). readOut x tree out) same-state))
 
     pub read-refused : (number ≡ 0 → ⊥) → hostReading number 0 out ≡ hostReadOut state tree out
-    unfolding numberOf lengthOf
+    unfolding readOutNumber lengthOf
     read-refused n = as-read _ (refused s tree out n)
 
     module _ (none : number ≡ 0) where
@@ -70,7 +70,7 @@ module _ (state tree out : List ℕ) where
           (omega (arith, sizes .0), t .1, omega (arith, long), omega (arith, long, t .0, few-items (h .size) (h .waiting) (sizes .0) (sizes .1)))
 
       pub read-file : (r : ReadOut) (after : List ℕ) → leaving r after ≡ fitting (slotsFile (h .size) tree waiting) out
-          → hostReading (numberOf r) (lengthOf r) after ≡ hostReadOut state tree out
+          → hostReading (readOutNumber r) (lengthOf r) after ≡ hostReadOut state tree out
       read-file r after e =
           let slots-long : length slots ≡ slotLength * places = length-drop headLength state ∙ omega (arith, sized) in
           as-read (leaving r after) (e ∙ ap (λ (f : List ℕ). fitting f out) (sym (bytes-file s tree slots (checked .1) slots-long (sizes .1) refl)) ∙ sym (checked .2))

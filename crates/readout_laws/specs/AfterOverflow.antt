@@ -21,14 +21,14 @@ use Rattle.simulation_laws.specs.Entries.{entries-perm}
 use Rattle.state_spec.specs.declared.State.{State}
 use Rattle.state_spec.specs.Ticket.{opIn}
 use Rattle.call_spec.specs.declared.Reply.the-variants.{Refused}
-use Rattle.demand_spec.specs.History.{Brought, Kept, callOn, leftBy, finally, pairsIn}
+use Rattle.demand_spec.specs.History.{Brought, StateAndTree, callOn, leftBy, finally, pairsIn}
 use Rattle.demand_spec.specs.Demands.{fetching, openedStore, method, start, before, asked, left, ClosedBy, Ending, stays-open, closes}
 use Rattle.list_spec.specs.Ascending.{ascending}
 use Rattle.demand_laws.specs.OpenedRuns.{method-held}
 use Rattle.demand_laws.specs.UntilClosed.{overflows, closed-at, remains-of, before-bytes, of-left}
 use Rattle.demand_laws.specs.Proved.{demand2}
 use Rattle.readout_spec.specs.Taken.{Omitted, pairOfEntry, entries, report}
-use Rattle.readout_spec.specs.ReadOut.{Left, fileOf, writing, readOut}
+use Rattle.readout_spec.specs.ReadOut.{ReadOutLeft, fileOf, writing, readOut}
 use Rattle.readout_spec.specs.ReadBack.{readBack}
 use Rattle.promise_spec.specs.ReadsOut.{closed, plainBefore, ReadsOut}
 use Rattle.readout_laws.specs.Whole.{whole-entries, whole-report}
@@ -48,7 +48,7 @@ read-back-out : (s : State) (tree : List ℕ) → s .mark ≡ 9 → Readable s t
     → readBack (length (fileOf s tree)) (readOut s tree out .out) ≡ record { entries = map pairOfEntry (entries s tree); report = [] }
 read-back-out s tree mark readable out room =
     ranged-read-back s tree out (length (fileOf s tree)) (readable .bytes) (readable .ranged)
-    (ap (λ (l : Left). l .result) (written-out s tree mark readable out room))
+    (ap (λ (l : ReadOutLeft). l .result) (written-out s tree mark readable out room))
     ∙ ap (λ (os : List Omitted). record { entries = map pairOfEntry (entries s tree); report = os }) (whole-report s tree (readable .whole))
 
 module _ (st : Structure) (k : ℕ) (positive : 1 ≤ k) (small : k ≤ 8) (tree : List ℕ) (sized : length tree ≡ treeLength k)
@@ -82,13 +82,13 @@ module _ (st : Structure) (k : ℕ) (positive : 1 ≤ k) (small : k ≤ 8) (tree
     readable =
         let ticket : Bytes (b .ticket) =
         all-right {P = λ b. Bytes (b .ticket)} (before st k tree bs) (rw e at bytes) b (List·Memᴰ·head refl) in
-        let marked : callOn (left st k tree bs) b .state .mark ≡ 9 = ap (λ (x : Kept). x .state .mark) (sym as-left) ∙ mark in
-        subst⁻¹ (λ (x : Kept). Readable (x .state) (x .tree)) as-left (call-readable b ticket (λ z. omega arith))
+        let marked : callOn (left st k tree bs) b .state .mark ≡ 9 = ap (λ (x : StateAndTree). x .state .mark) (sym as-left) ∙ mark in
+        subst⁻¹ (λ (x : StateAndTree). Readable (x .state) (x .tree)) as-left (call-readable b ticket (λ z. omega arith))
 
     -- The pairs that it left are those of the entries.
     all-entries : Perm (pairsIn (callOn (left st k tree bs) b .state) (callOn (left st k tree bs) b .tree)) (map pairOfEntry (entries s lent))
     all-entries =
-        subst (λ (x : Kept). Perm (pairsIn (x .state) (x .tree)) (map pairOfEntry (entries s lent))) as-left
+        subst (λ (x : StateAndTree). Perm (pairsIn (x .state) (x .tree)) (map pairOfEntry (entries s lent))) as-left
         (whole-entries s lent (readable .whole))
 
     -- So all of the statement holds.

@@ -24,7 +24,7 @@ use Rattle.method_spec.specs.Call.{capacity, Memory, call}
 use Rattle.method_laws.specs.Represented.{Held, represents}
 use Rattle.leaf_spec.specs.Entries.{pairOf}
 use Rattle.leaf_spec.specs.Leaf.{ProperLeaf}
-use Rattle.bucket_call_spec.specs.Fetch.{Left, Round}
+use Rattle.bucket_call_spec.specs.Fetch.{CallLeft, Round}
 use Rattle.bucket_call_spec.specs.Call.{Store, drawOf}
 use Rattle.bucket_call_spec.specs.Simulates.{Simulates, Remains, as-before, as-after}
 use Rattle.none_lost_laws.specs.Ends.{FitStore, Keeps, keeps-room, ends-kept, highest}
@@ -89,7 +89,7 @@ module _ (st : Structure) (k : ℕ) (positive : 1 ≤ k) (small : k ≤ 8) (s : 
 
   module _ (b : Brought) (x : Overflows st k s m b) where
     -- What the rounds left.
-    abbrev l : Left
+    abbrev l : CallLeft
     l = leaving st k s b (x .op)
 
     -- The waiting nodes left are proper and have places, and the tree is a tree.

@@ -12,12 +12,12 @@ use Rattle.list_spec.specs.Choice.{pick}
 use Rattle.slot_spec.specs.Tree.{treeLength}
 use Rattle.state_spec.specs.declared.State.{State}
 use Rattle.readout_spec.specs.declared.ReadOut.the-variants.{Written, Refused}
-use Rattle.readout_spec.specs.ReadOut.{fileOf, closedMark, known, Left, refusing, writing, readOut}
+use Rattle.readout_spec.specs.ReadOut.{fileOf, closedMark, known, ReadOutLeft, readOutRefusing, writing, readOut}
 
 -- The four checks and what is left, with each test's value in the place of the test.
-abbrev byTests : (a b c d : Bool) → (bytes out : List ℕ) → Left
+abbrev byTests : (a b c d : Bool) → (bytes out : List ℕ) → ReadOutLeft
 byTests a b c d bytes out =
-    pick a (refusing 14 out) (pick b (refusing 2 out) (pick c (refusing 3 out) (pick d (refusing 15 out) (writing bytes out))))
+    pick a (readOutRefusing 14 out) (pick b (readOutRefusing 2 out) (pick c (readOutRefusing 3 out) (pick d (readOutRefusing 15 out) (writing bytes out))))
 
 -- The refusals' numbers.
 abbrev RefusalNumber : ℕ → Type 0

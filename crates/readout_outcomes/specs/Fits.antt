@@ -10,19 +10,19 @@ use Rattle.slot_spec.specs.Tree.{treeLength}
 use Rattle.state_spec.specs.declared.State.{State}
 use Rattle.readout_spec.specs.declared.ReadOut.{ReadOut}
 use Rattle.readout_spec.specs.declared.ReadOut.the-variants.{Written, Refused}
-use Rattle.readout_spec.specs.ReadOut.{Left, readOut, fileOf, closedMark, known, leaving, refusing, writing, numberOf, lengthOf}
+use Rattle.readout_spec.specs.ReadOut.{ReadOutLeft, readOut, fileOf, closedMark, known, leaving, readOutRefusing, writing, readOutNumber, lengthOf}
 use Rattle.list_spec.specs.Choice.{pick}
 
-record Fits (l : Left) : Type 0 where
+record Fits (l : ReadOutLeft) : Type 0 where
   within : (n : ℕ) → l .result ≡ Written n → n ≤ length (l .out)
 
-refused-fits : (number : ℕ) (out : List ℕ) → Fits (refusing number out)
+refused-fits : (number : ℕ) (out : List ℕ) → Fits (readOutRefusing number out)
 refused-fits number out = record { within = λ n e. let z : _≡_ {A = ℕ} 0 1 = cc in absurd (omega arith) }
 
 written-fits : (file out : List ℕ) → Fits (writing file out)
 written-fits file out = record { within = λ n e. let h : length file ≡ n = cc in rw length-append (omega arith) }
 
-either-fits : (b : Bool) {x y : Left} → Fits x → Fits y → Fits (pick b x y)
+either-fits : (b : Bool) {x y : ReadOutLeft} → Fits x → Fits y → Fits (pick b x y)
 either-fits true p q = p
 either-fits false p q = q
 
@@ -38,19 +38,19 @@ all-fit s tree out =
 module _ (s : State) (tree before after : List ℕ) (r : ReadOut) (is : leaving r after ≡ readOut s tree before) where
   pub file-within : (n : ℕ) → r ≡ Written n → n ≤ length after
   file-within n e =
-      rw (ap (λ (l : Left). l .out) is) (all-fit s tree before .within n (sym (ap (λ (l : Left). l .result) is) ∙ e))
+      rw (ap (λ (l : ReadOutLeft). l .out) is) (all-fit s tree before .within n (sym (ap (λ (l : ReadOutLeft). l .result) is) ∙ e))
 
   result-is : r ≡ readOut s tree before .result
-  result-is = ap (λ (l : Left). l .result) is
+  result-is = ap (λ (l : ReadOutLeft). l .result) is
 
   pub bytes-are : after ≡ readOut s tree before .out
-  bytes-are = ap (λ (l : Left). l .out) is
+  bytes-are = ap (λ (l : ReadOutLeft). l .out) is
 
   -- The two numbers, of a file and of a refusal.
-  pub written-numbers : (n : ℕ) → r ≡ Written n → (0 ≡ numberOf (readOut s tree before .result)) × (n ≡ lengthOf (readOut s tree before .result))
-  unfolding numberOf lengthOf
+  pub written-numbers : (n : ℕ) → r ≡ Written n → (0 ≡ readOutNumber (readOut s tree before .result)) × (n ≡ lengthOf (readOut s tree before .result))
+  unfolding readOutNumber lengthOf
   written-numbers n e = rw (← result-is, e) (refl, refl)
 
-  pub refused-numbers : (n : ℕ) → r ≡ Refused n → (n ≡ numberOf (readOut s tree before .result)) × (0 ≡ lengthOf (readOut s tree before .result))
-  unfolding numberOf lengthOf
+  pub refused-numbers : (n : ℕ) → r ≡ Refused n → (n ≡ readOutNumber (readOut s tree before .result)) × (0 ≡ lengthOf (readOut s tree before .result))
+  unfolding readOutNumber lengthOf
   refused-numbers n e = rw (← result-is, e) (refl, refl)

@@ -17,7 +17,7 @@ use Rattle.readout_spec.specs.declared.ReadOut.the-variants.{Written, Re
 use Rattle.readout_spec.specs.Seen.{slotsFrom, waitingFrom}
 use Rattle.readout_spec.specs.Taken.{goodAt, goodIn, others, firsts, omittedAt, omittedIn, Omitted}
 use Rattle.readout_spec.specs.File.{index, valuesPart, reportPart, file}
-use Rattle.readout_spec.specs.ReadOut.{readOut, refusing, writing, numberOf, lengthOf}
+use Rattle.readout_spec.specs.ReadOut.{readOut, readOutRefusing, writing, readOutNumber, lengthOf}
 use Rattle.readout_spec.specs.ReadBack.{entriesAt, reportAt, readBack}
 use Rattle.method_spec.specs.Plain.{Pair}
 
@@ -92,17 +92,17 @@ pub record Worked : Type 0 where
   pub written : readOut (store 8 1 1 4) tree (out 100) ≡ writing expected (out 100)
   pub length-and-rest : writing expected (out 100) ≡ record { result = Written 96; out = expected ++ out 4 }
   -- The numbers, in the order of the checks; none writes a byte.
-  pub open-store : readOut (store 0 9 9 102) [] (out 5) ≡ refusing 14 (out 5)
-  pub refused-opening : readOut (store 3 1 1 4) tree (out 100) ≡ refusing 14 (out 100)
-  pub no-structure : readOut (store 9 5 1 4) [] (out 5) ≡ refusing 2 (out 5)
-  pub no-size : readOut (store 9 1 9 4) [] (out 5) ≡ refusing 2 (out 5)
-  pub too-many-wait : readOut (store 9 1 1 102) [] (out 5) ≡ refusing 2 (out 5)
-  pub other-length : readOut (store 9 1 1 4) (drop 1 tree) (out 5) ≡ refusing 3 (out 5)
-  pub too-short : readOut (store 9 1 1 4) tree (out 95) ≡ refusing 15 (out 95)
+  pub open-store : readOut (store 0 9 9 102) [] (out 5) ≡ readOutRefusing 14 (out 5)
+  pub refused-opening : readOut (store 3 1 1 4) tree (out 100) ≡ readOutRefusing 14 (out 100)
+  pub no-structure : readOut (store 9 5 1 4) [] (out 5) ≡ readOutRefusing 2 (out 5)
+  pub no-size : readOut (store 9 1 9 4) [] (out 5) ≡ readOutRefusing 2 (out 5)
+  pub too-many-wait : readOut (store 9 1 1 102) [] (out 5) ≡ readOutRefusing 2 (out 5)
+  pub other-length : readOut (store 9 1 1 4) (drop 1 tree) (out 5) ≡ readOutRefusing 3 (out 5)
+  pub too-short : readOut (store 9 1 1 4) tree (out 95) ≡ readOutRefusing 15 (out 95)
   -- The sort keeps those with one number in their order.
   pub stable : sortBy (λ (p : Pair). p .key) (pair 2 1 ∷ pair 1 5 ∷ pair 2 0 ∷ []) ≡ pair 1 5 ∷ pair 2 1 ∷ pair 2 0 ∷ []
   -- What is returned, as two numbers.
-  pub two-numbers : (numberOf (Written 96) ≡ 0) × (lengthOf (Written 96) ≡ 96) × (numberOf (Refused 15) ≡ 15) × (lengthOf (Refused 15) ≡ 0)
+  pub two-numbers : (readOutNumber (Written 96) ≡ 0) × (lengthOf (Written 96) ≡ 96) × (readOutNumber (Refused 15) ≡ 15) × (lengthOf (Refused 15) ≡ 0)
   -- Read back: the file alone, or with bytes after it.
   pub read-back : readBack 96 (expected ++ out 4)
       ≡ record {
@@ -111,7 +111,7 @@ pub record Worked : Type 0 where
       }
 
 pub worked : Worked
-unfolding readOut file index valuesPart reportPart goodAt goodIn others firsts omittedAt omittedIn slotsFrom waitingFrom insertBy sortBy placesFrom readSlot bad wellFormed fieldsIn fieldsOf nodeOf encode fields pack value bytes allZero halvings among entriesAt reportAt readBack numberOf lengthOf
+unfolding readOut file index valuesPart reportPart goodAt goodIn others firsts omittedAt omittedIn slotsFrom waitingFrom insertBy sortBy placesFrom readSlot bad wellFormed fieldsIn fieldsOf nodeOf encode fields pack value bytes allZero halvings among entriesAt reportAt readBack readOutNumber lengthOf
 worked =
     record {
       written = refl;

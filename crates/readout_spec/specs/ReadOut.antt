@@ -28,34 +28,34 @@ known s =
     inRange (s .structure) largestStructure && (inRange (s .size) largestSize && leb (s .count) places)
 
 -- ---- the operation
-pub record Left : Type 0 where
+pub record ReadOutLeft : Type 0 where
   pub result : ReadOut
   pub out : List ℕ
 
 -- What a function that returns r leaves of the output buffer.
-abbrev pub leaving : ReadOut → List ℕ → Left
+abbrev pub leaving : ReadOut → List ℕ → ReadOutLeft
 leaving r out = record { result = r; out = out }
 
 -- "None of them writes a byte."
-abbrev pub refusing : ℕ → List ℕ → Left
-refusing n out = leaving (Refused n) out
+abbrev pub readOutRefusing : ℕ → List ℕ → ReadOutLeft
+readOutRefusing n out = leaving (Refused n) out
 
 -- "It returns the file's length and changes no other byte."
-abbrev pub writing : List ℕ → List ℕ → Left
+abbrev pub writing : List ℕ → List ℕ → ReadOutLeft
 writing bytes out = leaving (Written (length bytes)) (bytes ++ drop (length bytes) out)
 
-unfoldable pub readOut : State → (tree out : List ℕ) → Left
+unfoldable pub readOut : State → (tree out : List ℕ) → ReadOutLeft
 readOut s tree out =
-    pick (not (closedMark (s .mark))) (refusing 14 out)
-    (pick (not (known s)) (refusing 2 out)
-    (pick (not (eqb (length tree) (treeLength (s .size)))) (refusing 3 out)
-    (pick (ltb (length out) (length (fileOf s tree))) (refusing 15 out) (writing (fileOf s tree) out))))
+    pick (not (closedMark (s .mark))) (readOutRefusing 14 out)
+    (pick (not (known s)) (readOutRefusing 2 out)
+    (pick (not (eqb (length tree) (treeLength (s .size)))) (readOutRefusing 3 out)
+    (pick (ltb (length out) (length (fileOf s tree))) (readOutRefusing 15 out) (writing (fileOf s tree) out))))
 
 -- ---- what is returned, as two numbers
 -- 0 where a file was written, or the number of the refusal.
-unfoldable pub numberOf : ReadOut → ℕ
-numberOf (Written n) = 0
-numberOf (Refused n) = n
+unfoldable pub readOutNumber : ReadOut → ℕ
+readOutNumber (Written n) = 0
+readOutNumber (Refused n) = n
 
 -- The file's length, or 0.
 unfoldable pub lengthOf : ReadOut → ℕ

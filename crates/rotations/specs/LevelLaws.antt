@@ -10,7 +10,7 @@ use lib.ListN.{length, length-append}
 use Rattle.list_spec.specs.Choice.{pick}
 use Rattle.method_spec.specs.Node.{Node, child}
 use Rattle.method_spec.specs.Prog.{Want, done}
-use Rattle.method_spec.specs.Map.{Step, Sub, stub, Built, listed, topOf, kid, kids, nodesAt, seat, beside, below, stepAt, tall, leansOut, rotate, opened, single, double, turn, placed, rest, nearOn, othersOf, raise}
+use Rattle.method_spec.specs.Map.{Step, Sub, stub, Built, listed, topOf, kid, kids, nodesAt, seat, beside, below, stepAt, tall, leansOut, rotate, fetchedTop, single, double, turn, withSubtree, rest, nearOn, othersOf, raise}
 use Rattle.node_rows.specs.Heights.{Low, Lows}
 use Rattle.map_nodes.specs.Heights.{LowKid, LowSub}
 use Rattle.map_nodes.specs.Upward.{weight}
@@ -21,7 +21,7 @@ use Rattle.operations.specs.ResumeLaws.{ends-bind, ends-done, ends-pick, ends-m
 
 module _ {T : Type 0} where
   -- What is asked of a level that comes to its end: low heights, and how many nodes there are in all.
-  pub record Kept (most total : ℕ) (r : Built T) (ns : List (Node T)) : Type 0 where
+  pub record LevelKept (most total : ℕ) (r : Built T) (ns : List (Node T)) : Type 0 where
     pub low : LowSub most (r .sub)
     pub room : length (r .out) + weight (r .sub) + length ns ≤ total
 
@@ -29,7 +29,7 @@ module _ {T : Type 0} where
     ends-opened : (P : Node T → List (Node T) → Type 0) (w : Want T) (k : Option (Node T)) (ns : List (Node T))
         → LowKid most k → Lows most ns
         → ((n : Node T) (rest : List (Node T)) → Low most n → Lows most rest → length (listed k) + length ns ≡ suc (length rest) → P n rest)
-        → Ends P (resume (opened w k) ns)
+        → Ends P (resume (fetchedTop w k) ns)
     unfolding resume
     ends-opened P w none [] h l f = tt
     ends-opened P w none (n ∷ ns) h l f = f n ns (l .0) (l .1) (omega arith)
@@ -71,7 +71,7 @@ module _ {T : Type 0} where
 
   module _ (most : ℕ) (p : Step T) (s : Bool) (n : Node T) (near : Sub T) (others : List (Node T)) (low : Low (suc most) n) (low-near : LowSub most near) where
     single-kept : (c : Node T) (ns end : List (Node T)) → Low most c → length (listed (topOf near)) + length ns ≡ suc (length end)
-        → Kept (2 + most) (total near others ns) (single s n c (kid s near) (kid (not s) near) others) end
+        → LevelKept (2 + most) (total near others ns) (single s n c (kid s near) (kid (not s) near) others) end
     unfolding single
     single-kept c ns end h e =
         let d = low-more {more = suc most} c h (omega arith) in
@@ -92,7 +92,7 @@ module _ {T : Type 0} where
 
     double-kept : (c g : Node T) (ns mid end : List (Node T)) → Low most c → Low most g
         → length (listed (topOf near)) + length ns ≡ suc (length mid) → length (listed (kid (not s) near)) + length mid ≡ suc (length end)
-        → Kept (2 + most) (total near others ns) (double s n c g (kid s near) others) end
+        → LevelKept (2 + most) (total near others ns) (double s n c g (kid s near) others) end
     double-kept c g ns mid end h k e f =
         let r = rotate (not s) c g in
         let u = low-up {most = most} (not s) c g h k in
@@ -112,18 +112,18 @@ module _ {T : Type 0} where
               );
         }
 
-    turn-kept : (ns : List (Node T)) → Lows most ns → Ends (Kept (2 + most) (total near others ns)) (resume (turn p s n near others) ns)
+    turn-kept : (ns : List (Node T)) → Lows most ns → Ends (LevelKept (2 + most) (total near others ns)) (resume (turn p s n near others) ns)
     unfolding turn
     turn-kept ns lows =
-        let K = Kept (2 + most) (total near others ns) in
+        let K = LevelKept (2 + most) (total near others ns) in
         let inward : Node T → Want T = λ c. below (stepAt (beside p s (child s n)) c (not s)) in
-        ends-bind K (opened (beside p s (child s n)) (topOf near)) _ ns
+        ends-bind K (fetchedTop (beside p s (child s n)) (topOf near)) _ ns
         (ends-opened most _ (beside p s (child s n)) (topOf near) ns (low-top most near low-near) lows
         (λ c mid h l e.
         ends-pick K (leansOut s c)
         (done (single s n c (kid s near) (kid (not s) near) others)) _ mid
         (ends-done K (single s n c (kid s near) (kid (not s) near) others) mid (single-kept c ns mid h e))
-        (ends-bind K (opened (inward c) (kid (not s) near)) _ mid
+        (ends-bind K (fetchedTop (inward c) (kid (not s) near)) _ mid
         (ends-opened most _ (inward c) (kid (not s) near) mid (low-kid most (not s) near low-near) l
         (λ g end k m f.
         ends-done K (double s n c g (kid s near) others) end (double-kept c g ns mid end h k e f))))))
@@ -131,29 +131,29 @@ module _ {T : Type 0} where
   -- ---- a level
 
   module _ (most : ℕ) (p : Step T) (b : Sub T) (low : Low most (p .node)) (low-sub : LowSub most b) where
-    pub rest-kept : (ns : List (Node T)) → Kept (2 + most) (suc (weight b + length ns)) (rest p b) ns
+    pub rest-kept : (ns : List (Node T)) → LevelKept (2 + most) (suc (weight b + length ns)) (rest p b) ns
     rest-kept ns =
         record {
           low =
-              low-seat (2 + most) (p .way) (placed p b) (topOf b) none
-              (low-more (placed p b) (low-placed most p b low low-sub) (omega arith))
+              low-seat (2 + most) (p .way) (withSubtree p b) (topOf b) none
+              (low-more (withSubtree p b) (low-placed most p b low low-sub) (omega arith))
               (low-kid-more most (2 + most) (omega arith) (topOf b) (low-top most b low-sub)) tt;
-          room = omega (arith, weight-seat (p .way) (placed p b) (topOf b) none, kid-size (topOf b));
+          room = omega (arith, weight-seat (p .way) (withSubtree p b) (topOf b) none, kid-size (topOf b));
         }
 
     turned-kept : (s : Bool) (ns : List (Node T)) → Lows most ns
-        → Ends (Kept (2 + most) (suc (weight b + length ns))) (resume (turn p s (placed p b) (nearOn p b s) (othersOf p b s)) ns)
+        → Ends (LevelKept (2 + most) (suc (weight b + length ns))) (resume (turn p s (withSubtree p b) (nearOn p b s) (othersOf p b s)) ns)
     turned-kept s ns lows =
         ends-more (λ r end k. record { low = k .low; room = omega (arith, k .room, near-size p b s) })
-        (resume (turn p s (placed p b) (nearOn p b s) (othersOf p b s)) ns)
-        (turn-kept most p s (placed p b) (nearOn p b s) (othersOf p b s) (low-placed most p b low low-sub) (low-near most p b s low low-sub) ns lows)
+        (resume (turn p s (withSubtree p b) (nearOn p b s) (othersOf p b s)) ns)
+        (turn-kept most p s (withSubtree p b) (nearOn p b s) (othersOf p b s) (low-placed most p b low low-sub) (low-near most p b s low low-sub) ns lows)
 
-    pub raise-kept : (ns : List (Node T)) → Lows most ns → Ends (Kept (2 + most) (suc (weight b + length ns))) (resume (raise p b) ns)
+    pub raise-kept : (ns : List (Node T)) → Lows most ns → Ends (LevelKept (2 + most) (suc (weight b + length ns))) (resume (raise p b) ns)
     unfolding raise
     raise-kept ns lows =
-        let K = Kept (2 + most) (suc (weight b + length ns)) in
-        ends-pick K (tall true (placed p b)) (turn p true (placed p b) (nearOn p b true) (othersOf p b true)) _ ns
+        let K = LevelKept (2 + most) (suc (weight b + length ns)) in
+        ends-pick K (tall true (withSubtree p b)) (turn p true (withSubtree p b) (nearOn p b true) (othersOf p b true)) _ ns
         (turned-kept true ns lows)
-        (ends-pick K (tall false (placed p b)) (turn p false (placed p b) (nearOn p b false) (othersOf p b false)) _ ns
+        (ends-pick K (tall false (withSubtree p b)) (turn p false (withSubtree p b) (nearOn p b false) (othersOf p b false)) _ ns
         (turned-kept false ns lows)
         (ends-done K (rest p b) ns (rest-kept ns)))

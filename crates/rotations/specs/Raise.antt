@@ -8,7 +8,7 @@ use lib.ListN.{drop}
 use Rattle.list_spec.specs.Choice.{pick}
 use Rattle.method_spec.specs.Node.{Node, child}
 use Rattle.method_spec.specs.Prog.{Want, Prog, done, bind}
-use Rattle.method_spec.specs.Map.{Step, Sub, Built, Rotated, kid, beside, below, stepAt, listed, leansOut, opened, single, double, raise, rest}
+use Rattle.method_spec.specs.Map.{Step, Sub, Built, Rotated, kid, beside, below, stepAt, listed, leansOut, fetchedTop, single, double, raise, rest}
 use Rattle.leaf_spec.specs.Convert.{toNode}
 use Rattle.operations.specs.Resume.{Resumed, missing, finished, resume, resumedAs}
 use Rattle.node_rows.specs.Held.{Held, nodesOf}
@@ -28,7 +28,7 @@ openedAs w none ns = missing w
 openedAs w (some n) ns = finished n ns
 
 pub record Opens (k : Option (Node ℕ)) (h : Held) (next : ℕ) (r : Opened) : Type 0 where
-  pub resumes : (w : Want ℕ) → resume (opened w k) (drop next (nodesOf h)) ≡ openedAs w (toKid (r .node)) (drop (r .next) (nodesOf h))
+  pub resumes : (w : Want ℕ) → resume (fetchedTop w k) (drop next (nodesOf h)) ≡ openedAs w (toKid (r .node)) (drop (r .next) (nodesOf h))
   pub within : r .next ≤ h .count
   pub low : LowKid 250 (toKid (r .node))
 
@@ -49,7 +49,7 @@ unfoldable pub turnOver : Step ℕ → Bool → Node ℕ → Node ℕ → Sub �
 turnOver p s n c near others =
     pick (leansOut s c)
     (done (single s n c (kid s near) (kid (not s) near) others))
-    (bind (opened (below (stepAt (beside p s (child s n)) c (not s))) (kid (not s) near))
+    (bind (fetchedTop (below (stepAt (beside p s (child s n)) c (not s))) (kid (not s) near))
     (λ g. done (double s n c g (kid s near) others)))
 
 -- A level with rotations, or without.

@@ -9,7 +9,7 @@ use mathlib.Core.Option.{Option, none, some}
 use lib.ListN.{length, getD, drop}
 use Rattle.method_spec.specs.Node.{Node, child}
 use Rattle.method_spec.specs.Prog.{Want, Prog, done, want}
-use Rattle.method_spec.specs.Map.{Step, Sub, Built, listed, kid, topOf, beside, below, stepAt, tall, leansOut, opened, single, double, turn, placed, rest, nearOn, othersOf, seat, raise}
+use Rattle.method_spec.specs.Map.{Step, Sub, Built, listed, kid, topOf, beside, below, stepAt, tall, leansOut, fetchedTop, single, double, turn, withSubtree, rest, nearOn, othersOf, seat, raise}
 use Rattle.slot_spec.specs.declared.Node as node
 use Rattle.map_nodes.specs.declared.Sub as sub
 use Rattle.operation_spec.specs.declared.Want as want
@@ -70,9 +70,9 @@ module _ (p : Step ℕ) (s : Bool) (n c : Node ℕ) (near : Sub ℕ) (others : L
 
   turn-inward : (ns : List (Node ℕ)) → leansOut s c ≡ false
       → resume (turnOver p s n c near others) ns
-      ≡ follow (resume (opened inward (kid (not s) near)) ns) (λ g rest. finished (record { sub = double s n c g none [] .sub; out = listed (kid s near) ++ others }) rest)
+      ≡ follow (resume (fetchedTop inward (kid (not s) near)) ns) (λ g rest. finished (record { sub = double s n c g none [] .sub; out = listed (kid s near) ++ others }) rest)
   unfolding turnOver double
-  turn-inward ns e = rw e (resume-map (opened inward (kid (not s) near)) (λ g. double s n c g (kid s near) others) ns)
+  turn-inward ns e = rw e (resume-map (fetchedTop inward (kid (not s) near)) (λ g. double s n c g (kid s near) others) ns)
 
 module _ (p : Step ℕ) (s : Bool) (n c : Node ℕ) (near : Sub ℕ) (others : Others) (h : Held) (next : ℕ) where
   pub raises-single : {b : sub.Sub} {inner : Kid} → toKid inner ≡ kid (not s) near → leansOut s c ≡ true
@@ -112,7 +112,7 @@ module _ (p : Step ℕ) (s : Bool) (n : Node ℕ) (near : Sub ℕ) (others : Oth
         (λ c rest. resume (turnOver p s n c near (listOf others)) rest)
     unfolding turn turnOver
     resumes-turn =
-        resume-bind (opened (beside p s (child s n)) (topOf near)) (λ c. turnOver p s n c near (listOf others)) (drop next (nodesOf h))
+        resume-bind (fetchedTop (beside p s (child s n)) (topOf near)) (λ c. turnOver p s n c near (listOf others)) (drop next (nodesOf h))
         ∙ rw (opens .resumes (beside p s (child s n)))
 
     pub raises-missing : {w : want.Want} {r : Raised} → toKid (o .node) ≡ none
@@ -128,25 +128,25 @@ module _ (p : Step ℕ) (s : Bool) (n : Node ℕ) (near : Sub ℕ) (others : Oth
 -- ---- a level
 
 module _ (p : Step ℕ) (b : Sub ℕ) where
-  pub low-turn : (s : Bool) {n : Node ℕ} {near : Sub ℕ} → n ≡ placed p b → near ≡ nearOn p b s → Low 250 (p .node) → LowSub 250 b
+  pub low-turn : (s : Bool) {n : Node ℕ} {near : Sub ℕ} → n ≡ withSubtree p b → near ≡ nearOn p b s → Low 250 (p .node) → LowSub 250 b
       → Low 253 n × LowSub 250 near
   low-turn s d e low low-sub =
-      (rw d (low-more (placed p b) (low-placed 250 p b low low-sub) (omega arith)), rw e (low-near 250 p b s low low-sub))
+      (rw d (low-more (withSubtree p b) (low-placed 250 p b low low-sub) (omega arith)), rw e (low-near 250 p b s low low-sub))
 
-  raise-left : tall true (placed p b) ≡ true → raise p b ≡ turn p true (placed p b) (nearOn p b true) (othersOf p b true)
+  raise-left : tall true (withSubtree p b) ≡ true → raise p b ≡ turn p true (withSubtree p b) (nearOn p b true) (othersOf p b true)
   unfolding raise
   raise-left e = rw e
 
-  raise-right : tall true (placed p b) ≡ false → tall false (placed p b) ≡ true
-      → raise p b ≡ turn p false (placed p b) (nearOn p b false) (othersOf p b false)
+  raise-right : tall true (withSubtree p b) ≡ false → tall false (withSubtree p b) ≡ true
+      → raise p b ≡ turn p false (withSubtree p b) (nearOn p b false) (othersOf p b false)
   unfolding raise
   raise-right d e = rw (d, e)
 
-  raise-rest : tall true (placed p b) ≡ false → tall false (placed p b) ≡ false → raise p b ≡ done (rest p b)
+  raise-rest : tall true (withSubtree p b) ≡ false → tall false (withSubtree p b) ≡ false → raise p b ≡ done (rest p b)
   unfolding raise
   raise-rest d e = rw (d, e)
 
-  pub rest-is : {n : Node ℕ} {top left right : Option (Node ℕ)} {c : Sub ℕ} → n ≡ placed p b → top ≡ topOf b → c ≡ seat (p .way) n top none
+  pub rest-is : {n : Node ℕ} {top left right : Option (Node ℕ)} {c : Sub ℕ} → n ≡ withSubtree p b → top ≡ topOf b → c ≡ seat (p .way) n top none
       → left ≡ kid true b → right ≡ kid false b
       → _≡_ {A = Built ℕ} (record { sub = c; out = (listed left ++ listed right) ++ [] }) (rest p b)
   rest-is d e f g i = rw (append-nil, f, d, e, g, i)
@@ -156,7 +156,7 @@ module _ (p : Step ℕ) (b : Sub ℕ) where
     raises-rest d e f k =
         record { resumes = resume-done (rest p b) (drop next (nodesOf h)) ∙ rw (d, ← e, f); within = rw f k }
 
-    module _ {n : Node ℕ} (at : n ≡ placed p b) {near : Sub ℕ} (others : Others) where
+    module _ {n : Node ℕ} (at : n ≡ withSubtree p b) {near : Sub ℕ} (others : Others) where
       pub raises-left : tall true n ≡ true → near ≡ nearOn p b true → listOf others ≡ othersOf p b true
           → Raises (turn p true n near (listOf others)) h next r → Raises (raise p b) h next r
       raises-left d e f =
@@ -167,7 +167,7 @@ module _ (p : Step ℕ) (b : Sub ℕ) where
       raises-right d t e f =
           subst (λ (q : Prog ℕ (Built ℕ)). Raises q h next r) (cc (raise-right (rw (← at) d) (rw (← at) t)))
 
-    pub raises-level-rest : {n : Node ℕ} → n ≡ placed p b → tall true n ≡ false → tall false n ≡ false
+    pub raises-level-rest : {n : Node ℕ} → n ≡ withSubtree p b → tall true n ≡ false → tall false n ≡ false
         → Raises (done (rest p b)) h next r → Raises (raise p b) h next r
     raises-level-rest at d t =
         subst (λ (q : Prog ℕ (Built ℕ)). Raises q h next r) (sym (raise-rest (rw (← at) d) (rw (← at) t)))

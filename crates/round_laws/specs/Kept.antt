@@ -14,7 +14,7 @@ use lib.ListN.{take, drop, replicate, length-replicate}
 use Rattle.slot_spec.specs.Tree.{path, slotLength, bucketStart, treeLength}
 use Rattle.round_spec.specs.Format.{Format, Read, full, empty, bad}
 use Rattle.round_spec.specs.Round.{Wish, Hand, Written, slotAt, keysOf, readBuckets, join, readHalf, writeHalf}
-use Rattle.round_spec.specs.Whole.{allBuckets, goodOnes, listed, IsTree, contents, Kept, InTree}
+use Rattle.round_spec.specs.Whole.{allBuckets, goodOnes, listed, IsTree, contents, KeptStore, InTree}
 use Rattle.round_laws.specs.Lawful.{Lawful}
 use Rattle.round_laws.specs.Paths.{all-in-tree, path-in-tree, path-distinct, path-and-others, others-off, others-in-tree}
 use Rattle.round_laws.specs.Places.{zeroSlot, zero-bytes, slot-fits}
@@ -25,21 +25,21 @@ use Rattle.round_laws.specs.NothingLost.{write-is-tree, write-off-path, 
 
 module _ {E : Type 0} (F : Format E) {Proper : ℕ → E → Type 0} (k : ℕ) (tree : List ℕ) where
   -- ---- what waits and what is held
-  module _ (waiting : List E) (held : List ℕ) (kept : Kept F Proper k tree waiting held) where
+  module _ (waiting : List E) (held : List ℕ) (kept : KeptStore F Proper k tree waiting held) where
     -- Other keys are held.
-    pub kept-holding : (others : List ℕ) → Distinct (keysOf F (contents F k tree) ++ (keysOf F waiting ++ others)) → Kept F Proper k tree waiting others
+    pub kept-holding : (others : List ℕ) → Distinct (keysOf F (contents F k tree) ++ (keysOf F waiting ++ others)) → KeptStore F Proper k tree waiting others
     kept-holding others d =
         record { is-tree = kept .is-tree; none-bad = kept .none-bad; none-twice = d; proper = kept .proper }
 
     -- The held keys in another order.
-    pub kept-perm : {others : List ℕ} → Perm held others → Kept F Proper k tree waiting others
+    pub kept-perm : {others : List ℕ} → Perm held others → KeptStore F Proper k tree waiting others
     kept-perm {others} p =
         kept-holding others
         (distinct-perm (perm-append-left (keysOf F (contents F k tree)) (perm-append-left (keysOf F waiting) p)) (kept .none-twice))
 
   -- Held elements come to wait.
-  pub kept-returned : (waiting es : List E) (held : List ℕ) → Kept F Proper k tree waiting (keysOf F es ++ held) → All (Proper k) es
-      → Kept F Proper k tree (join F es waiting) held
+  pub kept-returned : (waiting es : List E) (held : List ℕ) → KeptStore F Proper k tree waiting (keysOf F es ++ held) → All (Proper k) es
+      → KeptStore F Proper k tree (join F es waiting) held
   kept-returned waiting es held kept p =
       let keys : Perm (keysOf F (join F es waiting)) (keysOf F es ++ keysOf F waiting) = rw map-append at (perm-map (F .key) (join-perm F es waiting)) in
       record {
@@ -56,8 +56,8 @@ module _ {E : Type 0} (F : Format E) {Proper : ℕ → E → Type 0} (k : ℕ) (
       }
 
   -- New elements come to wait, with keys that are nowhere else, and none is held any more.
-  pub kept-joined : (waiting es : List E) (held : List ℕ) → Kept F Proper k tree waiting held → All (Proper k) es
-      → Distinct (keysOf F (contents F k tree) ++ (keysOf F waiting ++ keysOf F es)) → Kept F Proper k tree (join F es waiting) []
+  pub kept-joined : (waiting es : List E) (held : List ℕ) → KeptStore F Proper k tree waiting held → All (Proper k) es
+      → Distinct (keysOf F (contents F k tree) ++ (keysOf F waiting ++ keysOf F es)) → KeptStore F Proper k tree (join F es waiting) []
   kept-joined waiting es held kept p d =
       kept-returned waiting es [] (kept-holding waiting held kept (keysOf F es ++ []) (rw append-nil d)) p
 
@@ -78,13 +78,13 @@ module _ {E : Type 0} (F : Format E) {Proper : ℕ → E → Type 0} (lawful : L
       (all-append {P = NotBad} (readBuckets F k after (path k t))
       (evict-none-bad F lawful k (path k t) ws tree (path-in-tree k t leaf) (path-distinct k t) is p) before))
 
-  module _ (waiting : List E) (held : List ℕ) (kept : Kept F Proper k tree waiting held) (w : Option Wish) (h : Hand E)
+  module _ (waiting : List E) (held : List ℕ) (kept : KeptStore F Proper k tree waiting held) (w : Option Wish) (h : Hand E)
       (read : readHalf F k tree t w held waiting ≡ some h) where
     abbrev closed : Written E
     closed = writeHalf F k t (h .waiting) tree
 
     -- The key of what was taken is held, before the others.
-    pub kept-round : Kept F Proper k (closed .tree) (closed .waiting) (keysOf F (listed (h .taken)) ++ held)
+    pub kept-round : KeptStore F Proper k (closed .tree) (closed .waiting) (keysOf F (listed (h .taken)) ++ held)
     unfolding contents
     kept-round =
         let is = kept .is-tree in
@@ -147,7 +147,7 @@ module _ {E : Type 0} (F : Format E) {Proper : ℕ → E → Type 0} (lawful : L
   fresh-empty = empty-good (readBuckets F k fresh (allBuckets k)) (fresh-readings (allBuckets k) (all-in-tree k))
 
   -- The store that a good opening leaves is kept.
-  pub fresh-kept : Kept F Proper k fresh [] []
+  pub fresh-kept : KeptStore F Proper k fresh [] []
   unfolding contents
   fresh-kept =
       record {

@@ -15,7 +15,7 @@ use Rattle.slot_laws.specs.TreeLaws.{among-member}
 use Rattle.round_spec.specs.Format.{Format, full}
 use Rattle.round_spec.specs.Round.{Wish, Hand, keysOf, readBuckets, join, takeFirst, granted, readHalf}
 use Rattle.round_laws.specs.Lawful.{Lawful}
-use Rattle.round_spec.specs.Whole.{allBuckets, goodOnes, IsTree, contents, Kept}
+use Rattle.round_spec.specs.Whole.{allBuckets, goodOnes, IsTree, contents, KeptStore}
 use Rattle.round_laws.specs.Paths.{all-in-tree, path-and-others}
 use Rattle.round_laws.specs.Readings.{NotBad, member-good, all-good-says, readings-append, readings-perm, reading-there, buckets-hold}
 use Rattle.round_laws.specs.Lists.{join-perm, take-finds}
@@ -38,7 +38,7 @@ module _ {E : Type 0} (F : Format E) {Proper : ℕ → E → Type 0} (lawful : L
         (reading-there F k tree (path k (F .tag e)) (r .0) (full e) (among-member (r .0) (path k (F .tag e)) (r .4)) (r .2))
 
   -- ---- in a kept store
-  module _ (waiting : List E) (held : List ℕ) (kept : Kept F Proper k tree waiting held) where
+  module _ (waiting : List E) (held : List ℕ) (kept : KeptStore F Proper k tree waiting held) where
     none-bad-at-all : All NotBad (readBuckets F k tree (allBuckets k))
     none-bad-at-all = all-good-says (readBuckets F k tree (allBuckets k)) (contents F k tree) (kept .none-bad) .0
 

@@ -138,8 +138,8 @@ module _ {E : Type 0} (F : Format E) where
   writeHalf k t ws tree = evict k (path k t) ws tree
 
 -- At a round's close at most 64 nodes wait and are held.
-abbrev pub limit : ℕ
-limit = 64
+abbrev pub stashLimit : ℕ
+stashLimit = 64
 
 abbrev pub exceedsLimit : (waiting held : ℕ) → Bool
-exceedsLimit waiting held = ltb limit (waiting + held)
+exceedsLimit waiting held = ltb stashLimit (waiting + held)

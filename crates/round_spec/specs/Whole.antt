@@ -48,7 +48,7 @@ module _ {E : Type 0} (F : Format E) where
   contents k tree = goodOnes (readBuckets F k tree (allBuckets k))
 
   -- A kept store: no slot is bad, and no key is twice among tree, waiting and held.
-  pub record Kept (Proper : ℕ → E → Type 0) (k : ℕ) (tree : List ℕ) (waiting : List E) (held : List ℕ) : Type 0 where
+  pub record KeptStore (Proper : ℕ → E → Type 0) (k : ℕ) (tree : List ℕ) (waiting : List E) (held : List ℕ) : Type 0 where
     pub is-tree : IsTree k tree
     pub none-bad : allGood (readBuckets F k tree (allBuckets k)) ≡ some (contents k tree)
     pub none-twice : Distinct (keysOf F (contents k tree) ++ (keysOf F waiting ++ held))

@@ -15,7 +15,7 @@ use Rattle.method_spec.specs.Node.{Node, Link, Ahead, child, heightOf}
 use Rattle.method_spec.specs.Prog.{Want, Prog, done, want, bind, start}
 use Rattle.method_spec.specs.Answer as answer
 use Rattle.method_spec.specs.Answer.{Structure, Op}
-use Rattle.method_spec.specs.Map.{Step, Sub, stub, Spot, gap, hit, stepAt, below, walk, tall, leansOut, topOf, kid, beside, double, opened, turn, placed, nearOn, othersOf, raise, climb, putStep, getProg, putProg, lowest, swapped, takeOut, removeStep, removeProg, mapTest}
+use Rattle.method_spec.specs.Map.{Step, Sub, stub, Spot, gap, hit, stepAt, below, walk, tall, leansOut, topOf, kid, beside, double, fetchedTop, turn, withSubtree, nearOn, othersOf, raise, climb, putStep, getProg, putProg, lowest, swapped, takeOut, removeStep, removeProg, mapTest}
 use Rattle.method_spec.specs.Stack.{pushProg, popProg, stackTest}
 use Rattle.method_spec.specs.Queue.{enqueueProg, dequeueProg, queueTest}
 use Rattle.method_spec.specs.Call.{program, test}
@@ -47,7 +47,7 @@ module _ {T : Type 0} where
   -- ---- upward: two at most for each level
 
   module _ {test : Want T → Node T → Bool} where
-    opened-within : (w : Want T) (o : Option (Node T)) → Within test 1 (opened w o)
+    opened-within : (w : Want T) (o : Option (Node T)) → Within test 1 (fetchedTop w o)
     opened-within w none = asks (λ m passed. stops)
     opened-within w (some n) = stops
 
@@ -64,9 +64,9 @@ module _ {T : Type 0} where
     raise-within : (p : Step T) (b : Sub T) → Within test 2 (raise p b)
     unfolding raise
     raise-within p b =
-        within-pick (tall true (placed p b)) (turn-within p true (placed p b) (nearOn p b true) (othersOf p b true))
-        (within-pick (tall false (placed p b))
-        (turn-within p false (placed p b) (nearOn p b false) (othersOf p b false)) stops)
+        within-pick (tall true (withSubtree p b)) (turn-within p true (withSubtree p b) (nearOn p b true) (othersOf p b true))
+        (within-pick (tall false (withSubtree p b))
+        (turn-within p false (withSubtree p b) (nearOn p b false) (othersOf p b false)) stops)
 
     pub climb-within : (path : List (Step T)) (b : Sub T) (out : List (Node T)) → Within test (2 * length path) (climb path b out)
     unfolding climb

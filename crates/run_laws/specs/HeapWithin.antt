@@ -12,7 +12,7 @@ use Rattle.list_spec.specs.Choice.{pick}
 use Rattle.method_spec.specs.Node.{Node, Link, Ahead, absent, child, withChild, linkOne}
 use Rattle.method_spec.specs.Prog.{Want, Prog, bind, start}
 use Rattle.method_spec.specs.Answer.{heap, Op, add, take}
-use Rattle.method_spec.specs.Heap.{childPosition, linkGood, heapTest, Pass, Lower, childless, lower, turnsTo, wayTo, beneath, descend, addProg, downward, childOf, smaller, above, sunk, sink, replaceRoot, takeProg}
+use Rattle.method_spec.specs.Heap.{childPosition, heapLinkGood, heapTest, Pass, Lower, childless, lower, turnsTo, wayTo, beneath, descend, addProg, downward, childOf, smaller, above, sunk, sink, replaceRoot, takeProg}
 use Rattle.method_spec.specs.Call.{program}
 use Rattle.run_laws.specs.Safe.{Within, stops, asks}
 use Rattle.run_laws.specs.SafeLaws.{within-more, within-pick, within-bind, WithinTo, stops-with, asks-with, withinTo-then, within-map}
@@ -23,7 +23,7 @@ module _ {T : Type 0} where
   abbrev LinkFor : (entries i : ℕ) → Link T → Type 0
   LinkFor entries i l = (i ≤ entries → (l .height ≡ 1) × (l .key ≡ i)) × (l .height ≤ 1)
 
-  link-tested : (entries i : ℕ) (l : Link T) → linkGood entries i l ≡ true → LinkFor entries i l
+  link-tested : (entries i : ℕ) (l : Link T) → heapLinkGood entries i l ≡ true → LinkFor entries i l
   link-tested entries i l e = go (leb i entries) refl e
     where
       go : (b : Bool) → leb i entries ≡ b → pick b (eqb (l .height) 1 && eqb (l .key) i) (eqb (l .height) 0) ≡ true → LinkFor entries i l
@@ -39,10 +39,10 @@ module _ {T : Type 0} where
   pub heap-tested : (entries : ℕ) (w : Want T) (n : Node T) → heapTest entries w n ≡ true → (s : Bool) → LinkFor entries (childPosition s (n .key)) (child s n)
   unfolding heapTest
   heap-tested entries w n e s =
-      let both = and-eq-true-iff (linkGood entries (childPosition true (n .key)) (n .left)) (linkGood entries (childPosition false (n .key)) (n .right)) .0 e in
+      let both = and-eq-true-iff (heapLinkGood entries (childPosition true (n .key)) (n .left)) (heapLinkGood entries (childPosition false (n .key)) (n .right)) .0 e in
       go s both
     where
-      go : (s : Bool) → (linkGood entries (childPosition true (n .key)) (n .left) ≡ true) × (linkGood entries (childPosition false (n .key)) (n .right) ≡ true)
+      go : (s : Bool) → (heapLinkGood entries (childPosition true (n .key)) (n .left) ≡ true) × (heapLinkGood entries (childPosition false (n .key)) (n .right) ≡ true)
           → LinkFor entries (childPosition s (n .key)) (child s n)
       go true both = link-tested entries (childPosition true (n .key)) (n .left) (both .0)
       go false both = link-tested entries (childPosition false (n .key)) (n .right) (both .1)

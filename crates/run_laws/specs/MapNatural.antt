@@ -10,7 +10,7 @@ use Rattle.method_spec.specs.Node.{Node, Link, absent, child, withChild, withVa
 use Rattle.method_spec.specs.Prog.{Want, start}
 use Rattle.method_spec.specs.Answer as answer
 use Rattle.method_spec.specs.Answer.{Answer, found, replaced, new, removed, full}
-use Rattle.method_spec.specs.Map.{Step, Sub, stub, top, Built, Spot, gap, hit, Lowest, linkOf, listed, topOf, kid, kids, nodesAt, seat, stepAt, beside, below, walk, balanceOf, tall, leansOut, single, double, opened, turn, placed, rest, nearOn, othersOf, raise, climb, unwind, unwound, finish, getStep, getProg, putStep, putProg, lowest, swapped, takeOut, removeStep, removeProg}
+use Rattle.method_spec.specs.Map.{Step, Sub, stub, top, Built, Spot, gap, hit, Lowest, linkOf, listed, topOf, kid, kids, nodesAt, seat, stepAt, beside, below, walk, balanceOf, tall, leansOut, single, double, fetchedTop, turn, withSubtree, rest, nearOn, othersOf, raise, climb, unwind, unwound, finish, getStep, getProg, putStep, putProg, lowest, swapped, takeOut, removeStep, removeProg}
 use Rattle.method_spec.specs.Call.{program}
 use Rattle.run_laws.specs.Natural.{mapLink, mapNode, mapNodes, mapWant, mapOutcome, Same, both-done, both-want, same-bind, same-pick, SameOutcome, Natural}
 
@@ -136,7 +136,7 @@ module _ {T S : Type 0} (f : T → S) where
   double-natural true n c g outer others = rw (listed-too outer others)
   double-natural false n c g outer others = rw (listed-too outer others)
 
-  opened-natural : (w : Want T) (o : Option (Node T)) → Same f (λ a b. b ≡ mapNode f a) (opened w o) (opened (mapWant f w) (Option·map (mapNode f) o))
+  opened-natural : (w : Want T) (o : Option (Node T)) → Same f (λ a b. b ≡ mapNode f a) (fetchedTop w o) (fetchedTop (mapWant f w) (Option·map (mapNode f) o))
   opened-natural w none = both-want (λ n. both-done refl)
   opened-natural w (some n) = both-done refl
 
@@ -156,12 +156,12 @@ module _ {T S : Type 0} (f : T → S) where
       (opened-natural (below (stepAt (beside p s (child s n)) c (not s))) (kid (not s) near))
       (λ g h e′. rw e′ (both-done (double-natural s n c g (kid s near) others)))))))
 
-  placed-natural : (p : Step T) (b : Sub T) → placed (mapStep p) (mapSub b) ≡ mapNode f (placed p b)
+  placed-natural : (p : Step T) (b : Sub T) → withSubtree (mapStep p) (mapSub b) ≡ mapNode f (withSubtree p b)
   placed-natural p b = rw (linkOf-natural b) (withChild-natural (p .way) (p .node) (linkOf b))
 
   rest-placed : (p : Step T) (b : Sub T)
-      → record { sub = seat (p .way) (mapNode f (placed p b)) (topOf (mapSub b)) none; out = kids (mapSub b) } ≡ mapBuilt (rest p b)
-  rest-placed p b = rw (topOf-natural b, kids-natural b, seat-natural (p .way) (placed p b) (topOf b) none)
+      → record { sub = seat (p .way) (mapNode f (withSubtree p b)) (topOf (mapSub b)) none; out = kids (mapSub b) } ≡ mapBuilt (rest p b)
+  rest-placed p b = rw (topOf-natural b, kids-natural b, seat-natural (p .way) (withSubtree p b) (topOf b) none)
 
   rest-natural : (p : Step T) (b : Sub T) → rest (mapStep p) (mapSub b) ≡ mapBuilt (rest p b)
   rest-natural p b = rw (placed-natural p b) (rest-placed p b)
@@ -183,11 +183,11 @@ module _ {T S : Type 0} (f : T → S) where
   pub raise-natural : (p : Step T) (b : Sub T) → Same f SameBuilt (raise p b) (raise (mapStep p) (mapSub b))
   unfolding raise
   raise-natural p b =
-      rw (placed-natural p b, balance-natural (placed p b), nearOn-natural p b true, nearOn-natural p b false, othersOf-natural p b true, othersOf-natural p b false)
-      (same-pick f (tall true (placed p b))
-      (turn-natural p true (placed p b) (nearOn p b true) (othersOf p b true))
-      (same-pick f (tall false (placed p b))
-      (turn-natural p false (placed p b) (nearOn p b false) (othersOf p b false)) (both-done (rest-placed p b))))
+      rw (placed-natural p b, balance-natural (withSubtree p b), nearOn-natural p b true, nearOn-natural p b false, othersOf-natural p b true, othersOf-natural p b false)
+      (same-pick f (tall true (withSubtree p b))
+      (turn-natural p true (withSubtree p b) (nearOn p b true) (othersOf p b true))
+      (same-pick f (tall false (withSubtree p b))
+      (turn-natural p false (withSubtree p b) (nearOn p b false) (othersOf p b false)) (both-done (rest-placed p b))))
 
   -- ---- upward
 

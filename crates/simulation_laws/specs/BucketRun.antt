@@ -5,7 +5,7 @@ use mathlib.Core.Option.{Option}
 use lib.Dec.{eqb}
 use Rattle.list_spec.specs.Choice.{pick}
 use Rattle.method_spec.specs.Answer.{Structure, Op, Answer}
-use Rattle.bucket_call_spec.specs.Fetch.{Left}
+use Rattle.bucket_call_spec.specs.Fetch.{CallLeft}
 use Rattle.bucket_call_spec.specs.Call.{Store, bucketCall}
 use Rattle.leaf_spec.specs.Entries.{KeyLeft}
 use Rattle.simulation_laws.specs.Relation.{leftBy}
@@ -17,10 +17,10 @@ pub record BucketRan : Type 0 where
   pub leaves : List ℕ
   pub store : Store
 
-abbrev pub last : Left → BucketRan
+abbrev pub last : CallLeft → BucketRan
 last l = record { mark = l .mark; answers = l .answer ∷ []; leaves = l .leaves; store = leftBy l }
 
-abbrev pub andThen : Left → BucketRan → BucketRan
+abbrev pub andThen : CallLeft → BucketRan → BucketRan
 andThen l q =
     record {
       mark = q .mark;

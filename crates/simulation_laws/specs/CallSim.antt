@@ -23,7 +23,7 @@ use Rattle.run_laws.specs.Answers.{represents-call}
 use Rattle.method_laws.specs.Represented.{Held, represents}
 use Rattle.leaf_spec.specs.Leaf.{leafFormat, ProperLeaf}
 use Rattle.bucket_call_spec.specs.Fetch as fetch
-use Rattle.bucket_call_spec.specs.Fetch.{Going, Left, movedLink, closing, Round, on, shut}
+use Rattle.bucket_call_spec.specs.Fetch.{Going, CallLeft, movedLink, closing, Round, on, shut}
 use Rattle.bucket_call_spec.specs.Call as buckets
 use Rattle.bucket_call_spec.specs.Call.{Store, putRounds, afterPuts, afterFetches, fetchedBy, aheadThen, bucketCall}
 use Rattle.round_laws.specs.NoDamage.{there-proper}
@@ -64,7 +64,7 @@ moved-key [] l = refl
 moved-key (h ∷ hs) l = moved-first (h .from) (h .node) hs l (λ j. moved-key hs j)
 
 -- What a call leaves has the entries, the root's key and what is known ahead of a memory.
-pub record HeadOf (m : Memory ℕ) (l : Left) : Type 0 where
+pub record HeadOf (m : Memory ℕ) (l : CallLeft) : Type 0 where
   pub entries : l .entries ≡ m .entries
   pub key : l .root .key ≡ m .root .key
   pub ahead : l .ahead ≡ m .ahead

@@ -19,7 +19,7 @@ use Rattle.run_laws.specs.Leaves.{leaves-revealed}
 use Rattle.method_laws.specs.Represented.{Held, held-empty}
 use Rattle.method_laws.specs.Theorems as theorems
 use Rattle.method_spec.specs.Call as method
-use Rattle.bucket_call_spec.specs.Fetch.{Left, Round}
+use Rattle.bucket_call_spec.specs.Fetch.{CallLeft, Round}
 use Rattle.bucket_call_spec.specs.Call.{Store, fetchedBy, bucketCall}
 use Rattle.leaf_spec.specs.Entries.{OpFits, KeyLeft}
 use Rattle.simulation_laws.specs.ProperCall.{call-held}
@@ -51,7 +51,7 @@ RunSimulates k b r = RunOverflowed b r ⊎ RunMatches k b r
 -- ---- a call, and then others
 
 module _ {s : Structure} (k F : ℕ) (draw : ℕ → ℕ → ℕ) (c : ℕ) (op : Op s) (ops : List (Op s)) (st : Store) where
-  abbrev first : Left
+  abbrev first : CallLeft
   first = bucketCall k F op (draw c) st
 
   run-goes : first .mark ≡ 0 → bucketRun k F draw c (op ∷ ops) st ≡ andThen first (bucketRun k F draw (suc c) ops (leftBy first))
@@ -63,7 +63,7 @@ module _ {s : Structure} (k F : ℕ) (draw : ℕ → ℕ → ℕ) (c : ℕ) (op 
   run-stops e = rw e
 
 -- The end of a list of calls from that of its first call and that of the others.
-module _ {k : ℕ} {l : Left} {r : Called ℕ} where
+module _ {k : ℕ} {l : CallLeft} {r : Called ℕ} where
   goes-on : {b : BucketRan} {q : Ran ℕ} → Matches k l r → RunSimulates k b q → RunSimulates k (andThen l b) (method.andThen r q)
   goes-on {b} {q} x (inl y) =
       inl (record {
@@ -120,7 +120,7 @@ module _ {s : Structure} (k : ℕ) (positive : 1 ≤ k) (small : k ≤ 16) (draw
       F : ℕ
       F = rounds s k
 
-      l : Left
+      l : CallLeft
       l = bucketCall k F op (draw c) st
 
       r : Called ℕ

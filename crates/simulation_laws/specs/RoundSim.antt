@@ -18,7 +18,7 @@ use Rattle.method_spec.specs.Answer.{Structure}
 use Rattle.method_spec.specs.Plain.{Pair}
 use Rattle.method_spec.specs.Call.{test}
 use Rattle.run_laws.specs.Fetches.{keys, Met}
-use Rattle.round_spec.specs.Round.{Wish, Hand, keysOf, readHalf, writeHalf, limit}
+use Rattle.round_spec.specs.Round.{Wish, Hand, keysOf, readHalf, writeHalf, stashLimit}
 use Rattle.leaf_spec.specs.Leaf.{leafFormat}
 use Rattle.bucket_call_spec.specs.Fetch.{Held, Going, written, tooMany, heldKeys, wishFor, Round, on, shut, atClose, idleRound, tookRound, wantRound}
 use Rattle.round_spec.specs.Whole.{listed, contents}
@@ -45,8 +45,8 @@ module _ {A : Type 0} where
   close-went {k} {all} {g} {ns} p st = go (tooMany g) refl
     where
       go : (b : Bool) → tooMany g ≡ b → Went k all p ns (g .leaves) (pick b (shut 9 g) (on g p))
-      go true e = overflowed g ns [] st (ltb-true limit (length (g .waiting) + length (g .held)) e) (sym (append-nil (g .leaves)))
-      go false e = went g st (ltb-false limit (length (g .waiting) + length (g .held)) e) refl
+      go true e = overflowed g ns [] st (ltb-true stashLimit (length (g .waiting) + length (g .held)) e) (sym (append-nil (g .leaves)))
+      go false e = went g st (ltb-false stashLimit (length (g .waiting) + length (g .held)) e) refl
 
 cancel-listed : {A : Type 0} (o : Option A) {xs ys : List A} → Perm (listed o ++ xs) (listed o ++ ys) → Perm xs ys
 cancel-listed none p = p

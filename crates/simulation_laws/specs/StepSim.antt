@@ -21,7 +21,7 @@ use Rattle.method_spec.specs.Call.{Memory, drawsFrom, stepped, Called}
 use Rattle.run_laws.specs.Fetches.{keys}
 use Rattle.run_laws.specs.Calls.{memoryOf}
 use Rattle.method_laws.specs.Represented.{Held}
-use Rattle.round_spec.specs.Round.{keysOf, join, limit}
+use Rattle.round_spec.specs.Round.{keysOf, join, stashLimit}
 use Rattle.leaf_spec.specs.Leaf.{leafFormat, ProperLeaf}
 use Rattle.bucket_call_spec.specs.Fetch.{Going, movedNode, movedNodes, closing, heldKeys, Round, on}
 use Rattle.bucket_call_spec.specs.Fetch as fetch
@@ -66,7 +66,7 @@ closing-entries {k} {all} {g} {ns} st mark entries root a =
     (perm-append-left (map pairOf tree) (perm-sym waits)))))
 
 -- The held nodes wait too.
-closing-many : (g : Going) → Many g → (mark entries : ℕ) (root : Link ℕ) (a : Ahead ℕ) → limit < length (closing mark entries root a g .waiting)
+closing-many : (g : Going) → Many g → (mark entries : ℕ) (root : Link ℕ) (a : Ahead ℕ) → stashLimit < length (closing mark entries root a g .waiting)
 unfolding closing
 closing-many g many mark entries root a =
     let joined = join-length leafFormat (movedNodes (g .held)) (g .waiting) in

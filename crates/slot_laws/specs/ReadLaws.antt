@@ -16,7 +16,7 @@ use Rattle.slot_spec.specs.LittleEndian.{value, Bytes}
 use Rattle.slot_spec.specs.Layout.{fields, pack, total}
 use Rattle.slot_laws.specs.LayoutLaws.{pack-fields}
 use Rattle.slot_spec.specs.Tree.{passes}
-use Rattle.slot_spec.specs.Slot.{Fields, widths, numbers, fieldsIn, fieldsOf, nodeOf, encode, allZero, zeroNotZero, absentHasMore, tagTooLarge, linkGood, bad, wellFormed, readSlot, slotBytes, Ranged}
+use Rattle.slot_spec.specs.Slot.{Fields, widths, numbers, fieldsIn, fieldsOf, nodeOf, encode, allZero, zeroNotZero, absentHasMore, tagTooLarge, slotLinkGood, bad, wellFormed, readSlot, slotBytes, Ranged}
 use Rattle.slot_laws.specs.SlotLaws.{Words, all-zero-replicate, fields-encoded, node-fields, fieldsOfWords, fields-in-words}
 use Rattle.slot_spec.specs.declared.Link.{Link}
 use Rattle.slot_spec.specs.declared.Node.{Node}
@@ -36,7 +36,7 @@ reordered false false false true t2 = refl
 reordered false false false false t2 = refl
 
 pub well-formed-order : (k : ℕ) (n : Node)
-    → wellFormed k n ≡ pick (tagTooLarge k (n .tag)) false (pick (linkGood k (n .left)) (linkGood k (n .right)) false)
+    → wellFormed k n ≡ pick (tagTooLarge k (n .tag)) false (pick (slotLinkGood k (n .left)) (slotLinkGood k (n .right)) false)
 unfolding wellFormed
 well-formed-order k n =
     reordered (absentHasMore (n .left .height) (n .left .key) (n .left .tag))
@@ -47,17 +47,17 @@ well-formed-order k n =
 
 -- ---- links and nodes, test by test
 module _ (k : ℕ) (l : Link) where
-  pub absent-with-key : l .height ≡ 0 → (l .key ≡ 0 → ⊥) → linkGood k l ≡ false
+  pub absent-with-key : l .height ≡ 0 → (l .key ≡ 0 → ⊥) → slotLinkGood k l ≡ false
   absent-with-key h f = rw (eq-eqb (l .height) 0 h, ne-eqb (l .key) 0 f)
 
-  pub absent-without-key : l .height ≡ 0 → l .key ≡ 0 → linkGood k l ≡ eqb (l .tag) 0
+  pub absent-without-key : l .height ≡ 0 → l .key ≡ 0 → slotLinkGood k l ≡ eqb (l .tag) 0
   absent-without-key h e = rw (eq-eqb (l .height) 0 h, eq-eqb (l .key) 0 e) (go (eqb (l .tag) 0) refl)
     where
       go : (t : Bool) → eqb (l .tag) 0 ≡ t → not (not t || leb (2 ^ k) (l .tag)) ≡ t
       go true e = let z = eqb-true (l .tag) 0 e in rw (lt-leb (2 ^ k) (l .tag) (rw z (pow-pos k)))
       go false e = refl
 
-  pub link-present : (l .height ≡ 0 → ⊥) → linkGood k l ≡ ltb (l .tag) (2 ^ k)
+  pub link-present : (l .height ≡ 0 → ⊥) → slotLinkGood k l ≡ ltb (l .tag) (2 ^ k)
   link-present h = rw (ne-eqb (l .height) 0 h) (go (leb (2 ^ k) (l .tag)) refl)
     where
       go : (t : Bool) → leb (2 ^ k) (l .tag) ≡ t → not t ≡ ltb (l .tag) (2 ^ k)
@@ -75,10 +75,10 @@ module _ (k : ℕ) (n : Node) where
       go (yes h) = let f = own-tag-too-large h in let z : _≡_ {A = ℕ} 0 1 = cc in absurd (omega arith)
       go (no h) = omega arith
 
-  pub left-link-bad : n .tag < 2 ^ k → linkGood k (n .left) ≡ false → wellFormed k n ≡ false
+  pub left-link-bad : n .tag < 2 ^ k → slotLinkGood k (n .left) ≡ false → wellFormed k n ≡ false
   left-link-bad h e = well-formed-order k n ∙ rw (lt-leb (2 ^ k) (n .tag) h, e)
 
-  pub left-link-good : n .tag < 2 ^ k → linkGood k (n .left) ≡ true → wellFormed k n ≡ linkGood k (n .right)
+  pub left-link-good : n .tag < 2 ^ k → slotLinkGood k (n .left) ≡ true → wellFormed k n ≡ slotLinkGood k (n .right)
   left-link-good h e = well-formed-order k n ∙ rw (lt-leb (2 ^ k) (n .tag) h, e)
 
 causes : (z l r t t1 t2 p : Bool) (x : Reading)

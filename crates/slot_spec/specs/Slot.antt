@@ -150,8 +150,8 @@ bad k b bs f =
     || missesBucket k b f)))))))
 
 -- A link that no slot would be bad for.
-abbrev pub linkGood : ℕ → Link → Bool
-linkGood k l = not (absentHasMore (l .height) (l .key) (l .tag) || tagTooLarge k (l .tag))
+abbrev pub slotLinkGood : ℕ → Link → Bool
+slotLinkGood k l = not (absentHasMore (l .height) (l .key) (l .tag) || tagTooLarge k (l .tag))
 
 -- A node that no slot would be bad for, its bucket not asked about.
 unfoldable pub wellFormed : ℕ → Node → Bool

@@ -9,12 +9,12 @@ use tree_paths::leaves;
 use tree_paths::passes_bucket;
 ghost use mathlib.Core.Path.{_≡_};
 ghost use Prim.Native.Nat.{_≤_};
-ghost use Rattle.slot_spec.specs.Slot.{slotBytes, linkGood, wellFormed, readSlot};
+ghost use Rattle.slot_spec.specs.Slot.{slotBytes, slotLinkGood, wellFormed, readSlot};
 
 // A link that no slot is bad for: an absent one has no key or tag, and the tag is a leaf of a tree of that size.
 fn link_good(size: usize, link: Link) -> bool
     requires { ⌜ size ≤ 16 ⌝ }
-    ensures { λ r. ⌜ r ≡ linkGood size link ⌝ }
+    ensures { λ r. ⌜ r ≡ slotLinkGood size link ⌝ }
 {
     if link.height == 0 {
         if link.key != 0 {

@@ -15,7 +15,7 @@ use Rattle.slot_spec.specs.declared.Link.{Link}
 use Rattle.slot_spec.specs.declared.Ahead.{Ahead}
 use Rattle.slot_spec.specs.declared.Node as node
 use Rattle.method_spec.specs.Node.{Node}
-use Rattle.round_spec.specs.Round.{limit}
+use Rattle.round_spec.specs.Round.{stashLimit}
 use Rattle.leaf_spec.specs.Convert.{fromNode}
 use Rattle.slot_spec.specs.Row.{slotsOf, zeroSlot}
 use Rattle.stash_laws.specs.Waiting.{nodeIn, waitingIn, Holds}
@@ -24,7 +24,7 @@ use Rattle.state_spec.specs.declared.Place.{Place}
 use Rattle.state_spec.specs.declared.State.{State}
 use Rattle.state_spec.specs.Fit.{zeroLink, zeroNode, zeroPlace, allOf, placeGood, keysIn, places, noPlace, placesFrom, used, unused, fits}
 use Rattle.list_spec.specs.Ascending.{ascending}
-use Rattle.call_spec.specs.Store.{placed}
+use Rattle.call_spec.specs.Store.{waitingPlaces}
 use Rattle.state_laws.specs.FitLaws.{fit-parts}
 use Rattle.stash.specs.Stash.{saved}
 
@@ -77,7 +77,7 @@ drop-replicate (suc m) (suc n) a = let e : suc n - suc m ≡ n - m = omega arith
 
 -- What a fit state says of its places.
 pub record Places (s : State) : Type 0 where
-  pub few : s .count ≤ limit
+  pub few : s .count ≤ stashLimit
   pub blank : allOf zeroPlace (unused s) ≡ true
 
 pub fit-places : (s : State) → fits s ≡ true → Places s
@@ -127,7 +127,7 @@ withPlaces s ps =
 
 -- The first i places as they are saved, and the others as they were.
 abbrev pub savedTo : (i n : ℕ) (words : List ℕ) → State → State
-savedTo i n words s = withPlaces s (take i (placed (waitingIn n words)) ++ drop i (s .places))
+savedTo i n words s = withPlaces s (take i (waitingPlaces (waitingIn n words)) ++ drop i (s .places))
 
 module _ (n : ℕ) (words : List ℕ) (h : Holds n words) where
   abbrev nodes : List (Node ℕ)
@@ -136,22 +136,22 @@ module _ (n : ℕ) (words : List ℕ) (h : Holds n words) where
   many : length (map holding nodes) ≡ n
   many = length-map nodes holding ∙ waiting-length h
 
-  pub placed-count : length (placed nodes) ≡ places
+  pub placed-count : length (waitingPlaces nodes) ≡ places
   placed-count = simp (length-append, length-replicate) (omega (arith, many, waiting-length h, h .few))
 
   -- What stands in a place: a node, or from n on nothing.
   pub holds-node : (i : ℕ) (x : Slot) (m : node.Node) → i < n → x ≡ getD (slotsOf words) i zeroSlot → m ≡ nodeOf (fieldsIn (slotBytes x))
-      → record { full = true; node = m } ≡ getD (placed nodes) i noPlace
+      → record { full = true; node = m } ≡ getD (waitingPlaces nodes) i noPlace
   holds-node i x m b e f =
       let d = holding (nodeIn zeroSlot) in
       sym
-      (any-default (placed nodes) i noPlace d (omega (arith, placed-count, h .few))
+      (any-default (waitingPlaces nodes) i noPlace d (omega (arith, placed-count, h .few))
       ∙ List·getD-append (map holding nodes) (replicate (places - length nodes) noPlace) d i (omega (arith, many))
       ∙ List·getD-map holding nodes i (nodeIn zeroSlot)
       ∙ ap holding (List·getD-map nodeIn (take n (slotsOf words)) i zeroSlot ∙ ap nodeIn (getD-take n (slotsOf words) i zeroSlot b))
       ∙ rw (f, e))
 
-  pub holds-none : (i : ℕ) → n ≤ i → i < places → noPlace ≡ getD (placed nodes) i noPlace
+  pub holds-none : (i : ℕ) → n ≤ i → i < places → noPlace ≡ getD (waitingPlaces nodes) i noPlace
   holds-none i a b =
       let e : i ≡ length (map holding nodes) + (i - n) = omega (arith, many) in
       sym
@@ -159,27 +159,27 @@ module _ (n : ℕ) (words : List ℕ) (h : Holds n words) where
 
   module _ (s : State) (fit : fits s ≡ true) (sized : length (s .places) ≡ places) where
     -- One more place is as it is saved.
-    pub saved-more : (i : ℕ) (after : State) (p : Place) → i < places → after ≡ savedTo i n words s → p ≡ getD (placed nodes) i noPlace
+    pub saved-more : (i : ℕ) (after : State) (p : Place) → i < places → after ≡ savedTo i n words s → p ≡ getD (waitingPlaces nodes) i noPlace
         → withPlaces after (set (after .places) i p) ≡ savedTo (i + 1) n words s
     saved-more i after p b e q =
         let rest = drop (suc i) (s .places) in
         rw (e, q, add-one i, drop-cons (s .places) i noPlace (omega arith))
         (ap (withPlaces s)
-        (set-at (take i (placed nodes)) (getD (s .places) i noPlace) rest (getD (placed nodes) i noPlace) i (length-take-le i (placed nodes) (omega (arith, placed-count)))
-        ∙ sym (append-snoc (take i (placed nodes)) (getD (placed nodes) i noPlace) rest)
-        ∙ ap (λ (ps : List Place). ps ++ rest) (sym (take-suc (placed nodes) i noPlace (omega (arith, placed-count))))))
+        (set-at (take i (waitingPlaces nodes)) (getD (s .places) i noPlace) rest (getD (waitingPlaces nodes) i noPlace) i (length-take-le i (waitingPlaces nodes) (omega (arith, placed-count)))
+        ∙ sym (append-snoc (take i (waitingPlaces nodes)) (getD (waitingPlaces nodes) i noPlace) rest)
+        ∙ ap (λ (ps : List Place). ps ++ rest) (sym (take-suc (waitingPlaces nodes) i noPlace (omega (arith, placed-count))))))
 
     -- Past the nodes that wait and those that waited, nothing is left to save.
-    pub nothing-left : (i : ℕ) → n ≤ i → s .count ≤ i → i ≤ places → take i (placed nodes) ++ drop i (s .places) ≡ placed nodes
+    pub nothing-left : (i : ℕ) → n ≤ i → s .count ≤ i → i ≤ places → take i (waitingPlaces nodes) ++ drop i (s .places) ≡ waitingPlaces nodes
     nothing-left i a b few =
         let e : i ≡ length (map holding nodes) + (i - n) = omega (arith, many) in
         let f : places - length nodes - (i - n) ≡ places - i = omega (arith, waiting-length h) in
-        let left : drop i (placed nodes) ≡ replicate (places - i) noPlace =
-        ap (λ (k : ℕ). drop k (placed nodes)) e
+        let left : drop i (waitingPlaces nodes) ≡ replicate (places - i) noPlace =
+        ap (λ (k : ℕ). drop k (waitingPlaces nodes)) e
         ∙ drop-append-add (map holding nodes) (replicate (places - length nodes) noPlace) (i - n)
         ∙ drop-replicate (i - n) (places - length nodes) noPlace
         ∙ ap (λ (k : ℕ). replicate k noPlace) f in
-        ap (λ (ps : List Place). take i (placed nodes) ++ ps) (blank-from s i (fit-places s fit) sized b few ∙ sym left) ∙ take-append-drop i (placed nodes)
+        ap (λ (ps : List Place). take i (waitingPlaces nodes) ++ ps) (blank-from s i (fit-places s fit) sized b few ∙ sym left) ∙ take-append-drop i (waitingPlaces nodes)
 
     pub saved-all : (i : ℕ) (after : State) (mark entries : ℕ) (root : Link) (ahead : Ahead) → after ≡ savedTo i n words s → n ≤ i → s .count ≤ i → i ≤ places
         → _≡_ {A = State} (record { mark = mark; structure = after .structure; size = after .size; entries = entries; root = root; ahead = ahead; count = n; places = after .places })

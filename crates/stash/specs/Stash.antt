@@ -19,7 +19,7 @@ use Rattle.stash_laws.specs.Waiting.{wordsFor, InWidths, waitingIn, Holds}
 use Rattle.state_spec.specs.declared.Place.{Place}
 use Rattle.state_spec.specs.declared.State.{State}
 use Rattle.state_spec.specs.Fit.{used, placeGood}
-use Rattle.call_spec.specs.Store.{placed}
+use Rattle.call_spec.specs.Store.{waitingPlaces}
 
 -- The first r slots of the words are the waiting nodes of a state.
 pub record Loaded (s : State) (words : List ℕ) (r : ℕ) : Type 0 where
@@ -51,5 +51,5 @@ saved structure size mark entries root ahead waiting =
       root = root;
       ahead = ahead;
       count = length waiting;
-      places = placed waiting;
+      places = waitingPlaces waiting;
     }

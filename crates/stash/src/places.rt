@@ -13,7 +13,7 @@ ghost use Prim.Native.Nat.{_≤_, _<_};
 ghost use lib.Dec.{leb};
 ghost use lib.ListN.{length, getD};
 ghost use Rattle.state_spec.specs.Fit.{placeGood, noPlace};
-ghost use Rattle.call_spec.specs.Store.{placed};
+ghost use Rattle.call_spec.specs.Store.{waitingPlaces};
 ghost use Rattle.word_round_laws.specs.Words.{places, wordCount};
 ghost use Rattle.stash_laws.specs.Waiting.{waitingIn, Holds};
 ghost use Rattle.stash.specs.Stash.{PlaceLoaded};
@@ -45,7 +45,7 @@ pub fn load_place(w: &mut [u64; WORDS], i: usize, p: Place, size: usize, least: 
 // Place i as it is saved, where n nodes wait in the words.
 pub fn saved_place(w: &[u64; WORDS], n: usize, i: usize) -> Place
     requires { ⌜ Holds n (now w) × (i < places) ⌝ }
-    ensures { λ r. ⌜ r ≡ getD (placed (waitingIn n (now (w .entry)))) i noPlace ⌝ }
+    ensures { λ r. ⌜ r ≡ getD (waitingPlaces (waitingIn n (now (w .entry)))) i noPlace ⌝ }
 {
     if n <= i {
         return no_place();

@@ -14,7 +14,7 @@ use Rattle.slot_spec.specs.declared.Link.{Link}
 use Rattle.slot_spec.specs.declared.Ahead.{Ahead}
 use Rattle.slot_spec.specs.declared.Node.{Node}
 use Rattle.slot_laws.specs.SlotLaws.{or-zero}
-use Rattle.round_spec.specs.Round.{limit}
+use Rattle.round_spec.specs.Round.{stashLimit}
 use Rattle.state_spec.specs.declared.Place.{Place}
 use Rattle.state_spec.specs.declared.State.{State}
 use Rattle.state_spec.specs.Fit.{largestStructure, largestSize, zeroLink, zeroNode, allOf, inRange, placesFrom, noPlace, keysIn, rootGood, aheadGood, placesFit, headFits, fits}
@@ -125,7 +125,7 @@ pub record Head (structure size entries count : ℕ) (root : Link) (ahead : Ahea
   pub structures : (1 ≤ structure) × (structure ≤ largestStructure)
   pub sizes : (1 ≤ size) × (size ≤ largestSize)
   pub few : entries ≤ 2 ^ size - 1
-  pub waiting : count ≤ limit
+  pub waiting : count ≤ stashLimit
   pub root-tag : root .tag < 2 ^ size
   pub rooted : rootGood structure entries (ahead .key) root ≡ true
   pub known : aheadGood structure size entries ahead ≡ true
@@ -137,14 +137,14 @@ head-true structure size entries count root ahead e =
     let a = and-eq-true-iff (inRange structure largestStructure) _ .0 e in
     let b = and-eq-true-iff (inRange size largestSize) _ .0 (a .1) in
     let c = and-eq-true-iff (leb entries (2 ^ size - 1)) _ .0 (b .1) in
-    let d = and-eq-true-iff (leb count limit) _ .0 (c .1) in
+    let d = and-eq-true-iff (leb count stashLimit) _ .0 (c .1) in
     let f = and-eq-true-iff (ltb (root .tag) (2 ^ size)) _ .0 (d .1) in
     let g = and-eq-true-iff (rootGood structure entries (ahead .key) root) _ .0 (f .1) in
     record {
       structures = in-range-true structure largestStructure (a .0);
       sizes = in-range-true size largestSize (b .0);
       few = leb-true entries (2 ^ size - 1) (c .0);
-      waiting = leb-true count limit (d .0);
+      waiting = leb-true count stashLimit (d .0);
       root-tag = ltb-true (root .tag) (2 ^ size) (f .0);
       rooted = g .0;
       known = g .1;

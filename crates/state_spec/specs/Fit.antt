@@ -11,7 +11,7 @@ use Rattle.slot_spec.specs.Slot.{noNode, wellFormed}
 use Rattle.slot_spec.specs.declared.Link.{Link}
 use Rattle.slot_spec.specs.declared.Ahead.{Ahead}
 use Rattle.slot_spec.specs.declared.Node.{Node}
-use Rattle.round_spec.specs.Round.{limit}
+use Rattle.round_spec.specs.Round.{stashLimit}
 use Rattle.state_spec.specs.declared.Place.{Place}
 use Rattle.state_spec.specs.declared.State.{State}
 
@@ -95,7 +95,7 @@ headFits structure size entries count root ahead =
     inRange structure largestStructure
     && (inRange size largestSize
     && (leb entries (2 ^ size - 1)
-    && (leb count limit
+    && (leb count stashLimit
     && (ltb (root .tag) (2 ^ size)
     && (rootGood structure entries (ahead .key) root && aheadGood structure size entries ahead)))))
 

@@ -11,7 +11,7 @@ use Rattle.list_spec.specs.Choice.{pick}
 use Rattle.slot_spec.specs.Tree.{treeLength}
 use Rattle.state_spec.specs.declared.State.{State}
 use Rattle.state_spec.specs.Fit.{inRange, largestStructure, largestSize, places}
-use Rattle.readout_spec.specs.ReadOut.{closedMark, known, refusing, readOut, fileOf}
+use Rattle.readout_spec.specs.ReadOut.{closedMark, known, readOutRefusing, readOut, fileOf}
 use Rattle.survey_laws.specs.Items.{fitting}
 use Rattle.store_readout.specs.Refusal.{knownNumbers, refusalOf}
 
@@ -31,13 +31,13 @@ module _ (s : State) (tree out : List ℕ) where
   number = refusalOf (s .mark) (s .structure) (s .size) (s .count) (length tree)
 
   -- A refusal's number is the definition's, and none writes a byte.
-  pub refused : (number ≡ 0 → ⊥) → refusing number out ≡ readOut s tree out
+  pub refused : (number ≡ 0 → ⊥) → readOutRefusing number out ≡ readOut s tree out
   unfolding refusalOf readOut fitting
   refused some = go (closedMark (s .mark)) (known s) (eqb (length tree) (treeLength (s .size))) some
     where
       go : (a b c : Bool) → (numbered a b c ≡ 0 → ⊥)
-          → refusing (numbered a b c) out
-          ≡ pick (not a) (refusing 14 out) (pick (not b) (refusing 2 out) (pick (not c) (refusing 3 out) (fitting (fileOf s tree) out)))
+          → readOutRefusing (numbered a b c) out
+          ≡ pick (not a) (readOutRefusing 14 out) (pick (not b) (readOutRefusing 2 out) (pick (not c) (readOutRefusing 3 out) (fitting (fileOf s tree) out)))
       go false b c some = refl
       go true false c some = refl
       go true true false some = refl
@@ -51,7 +51,7 @@ module _ (s : State) (tree out : List ℕ) where
     where
       go : (a b c : Bool) → known s ≡ b → eqb (length tree) (treeLength (s .size)) ≡ c → numbered a b c ≡ 0
           → (known s ≡ true) × (length tree ≡ treeLength (s .size))
-          × (pick (not a) (refusing 14 out) (pick (not b) (refusing 2 out) (pick (not c) (refusing 3 out) (fitting (fileOf s tree) out))) ≡ fitting (fileOf s tree) out)
+          × (pick (not a) (readOutRefusing 14 out) (pick (not b) (readOutRefusing 2 out) (pick (not c) (readOutRefusing 3 out) (fitting (fileOf s tree) out))) ≡ fitting (fileOf s tree) out)
       go false b c e f none = let z : ⊥ = omega (arith, none) in absurd z
       go true false c e f none = let z : ⊥ = omega (arith, none) in absurd z
       go true true false e f none = let z : ⊥ = omega (arith, none) in absurd z

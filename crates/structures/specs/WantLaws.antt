@@ -15,7 +15,7 @@ use Rattle.method_spec.specs.Node.{Link, Node, Ahead, child, withChild, heightO
 use Rattle.method_spec.specs.Prog.{Want, Prog, done, want, bind, after, start}
 use Rattle.method_spec.specs.Answer as method
 use Rattle.method_spec.specs.Outcome.{Outcome}
-use Rattle.method_spec.specs.Map.{Step, Sub, stub, top, Built, Spot, gap, hit, Lowest, linkOf, topOf, kid, seat, stepAt, beside, below, walk, tall, leansOut, rotate, single, double, opened, turn, placed, rest, nearOn, othersOf, raise, climb, getStep, getProg, putStep, putProg, lowest, swapped, takeOut, removeStep, removeProg, mapTest}
+use Rattle.method_spec.specs.Map.{Step, Sub, stub, top, Built, Spot, gap, hit, Lowest, linkOf, topOf, kid, seat, stepAt, beside, below, walk, tall, leansOut, rotate, single, double, fetchedTop, turn, withSubtree, rest, nearOn, othersOf, raise, climb, getStep, getProg, putStep, putProg, lowest, swapped, takeOut, removeStep, removeProg, mapTest}
 use Rattle.method_spec.specs.Stack.{pushProg, popProg, stackTest}
 use Rattle.method_spec.specs.Heap.{Pass, Reached, lower, wayTo, beneath, descend, addProg, downward, childOf, smaller, above, sunk, sink, replaceRoot, takeProg, heapTest}
 use Rattle.method_spec.specs.Queue.{enqueueProg, dequeueProg, queueTest}
@@ -70,11 +70,11 @@ module _ {T : Type 0} (most : ℕ) where
   open-kids n l r h true = h .0
   open-kids n l r h false = h .1
 
-  open-top : (w : Want T) (near : Sub T) → OpenLow near → OpenAt (topOf near) (w .link) → AsksLow (Opened near) (opened w (topOf near))
+  open-top : (w : Want T) (near : Sub T) → OpenLow near → OpenAt (topOf near) (w .link) → AsksLow (Opened near) (fetchedTop w (topOf near))
   open-top w (stub l) h k = asks-low k (λ m low. ends-low (λ s. low-child s m low))
   open-top w (top n l r) h k = ends-low (open-kids n l r h)
 
-  open-kid : (w : Want T) (k : Option (Node T)) → OpenAt k (w .link) → AsksLow (λ g. Unit {0}) (opened w k)
+  open-kid : (w : Want T) (k : Option (Node T)) → OpenAt k (w .link) → AsksLow (λ g. Unit {0}) (fetchedTop w k)
   open-kid w none h = asks-low h (λ m low. ends-low tt)
   open-kid w (some n) h = ends-low tt
 
@@ -117,7 +117,7 @@ module _ {T : Type 0} (most : ℕ) where
 
   -- What is at hand on a side of a place, and the link to it there.
   open-near : (p : Step T) (b : Sub T) (s : Bool) → Low most (p .node) → OpenLow b
-      → OpenLow (nearOn p b s) × OpenAt (topOf (nearOn p b s)) (child s (placed p b))
+      → OpenLow (nearOn p b s) × OpenAt (topOf (nearOn p b s)) (child s (withSubtree p b))
   open-near p b s low h = go s (p .way)
     where
       go : (s way : Bool)
@@ -138,10 +138,10 @@ module _ {T : Type 0} (most : ℕ) where
   low-raise : (p : Step T) (b : Sub T) → Low most (p .node) → OpenLow b → AsksLow (λ (r : Built T). OpenLow (r .sub)) (raise p b)
   unfolding raise
   low-raise p b low h =
-      let turned : (s : Bool) → AsksLow (λ (r : Built T). OpenLow (r .sub)) (turn p s (placed p b) (nearOn p b s) (othersOf p b s)) =
-      λ s. low-turn p s (placed p b) (nearOn p b s) (othersOf p b s) (open-near p b s low h .0) (open-near p b s low h .1) in
-      low-pick (tall true (placed p b)) (turned true)
-      (low-pick (tall false (placed p b)) (turned false) (ends-low (open-rest p b low h)))
+      let turned : (s : Bool) → AsksLow (λ (r : Built T). OpenLow (r .sub)) (turn p s (withSubtree p b) (nearOn p b s) (othersOf p b s)) =
+      λ s. low-turn p s (withSubtree p b) (nearOn p b s) (othersOf p b s) (open-near p b s low h .0) (open-near p b s low h .1) in
+      low-pick (tall true (withSubtree p b)) (turned true)
+      (low-pick (tall false (withSubtree p b)) (turned false) (ends-low (open-rest p b low h)))
 
   -- ---- whole operations
 

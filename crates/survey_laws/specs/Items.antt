@@ -14,7 +14,7 @@ use Rattle.slot_spec.specs.declared.Reading.the-variants.{Full, Empty, Bad}
 use Rattle.readout_spec.specs.Seen.{slotPlace, bucketOf, slotBytesAt}
 use Rattle.readout_spec.specs.Taken.{Omitted, Entry, isBad, isRepeated}
 use Rattle.readout_spec.specs.File.{file}
-use Rattle.readout_spec.specs.ReadOut.{Left, refusing, writing}
+use Rattle.readout_spec.specs.ReadOut.{ReadOutLeft, readOutRefusing, writing}
 
 -- The key of an item; 0 for a number past the keys.
 abbrev pub keyIn : List ℕ → ℕ → ℕ
@@ -125,5 +125,5 @@ slotsFile k tree waiting =
     (cleared (takenItems (slotsIn tree) (allKeys tree waiting) (allMarks k tree waiting)) (allMarks k tree waiting))
 
 -- What is left of an output buffer for a file: 15 where it is too short.
-unfoldable pub fitting : List ℕ → List ℕ → Left
-fitting f out = pick (ltb (length out) (length f)) (refusing 15 out) (writing f out)
+unfoldable pub fitting : List ℕ → List ℕ → ReadOutLeft
+fitting f out = pick (ltb (length out) (length f)) (readOutRefusing 15 out) (writing f out)

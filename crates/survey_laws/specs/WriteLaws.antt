@@ -10,13 +10,13 @@ use Rattle.slot_spec.specs.LittleEndian.{bytes}
 use Rattle.slot_laws.specs.LittleEndianLaws.{length-bytes}
 use Rattle.readout_spec.specs.Taken.{Entry}
 use Rattle.readout_spec.specs.File.{countWidth, reportWidth, index, valuesPart, reportPart, valuesStart, reportStart, file}
-use Rattle.readout_spec.specs.ReadOut.{leaving, refusing}
+use Rattle.readout_spec.specs.ReadOut.{leaving, readOutRefusing}
 use Rattle.readout_spec.specs.declared.ReadOut.the-variants.{Written}
 use Rattle.survey_laws.specs.Items.{keyIn, slotsIn, valueIn, takenItems, cleared, entryFor, omittedBy, allKeys, allMarks, itemsFile, slotsFile, fitting}
 use Rattle.survey_laws.specs.FileLaws.{index-length, values-length, report-length, file-length}
 
 -- ---- a buffer that is too short, or long enough
-pub too-short : (f out : List ℕ) (n : ℕ) → length f ≡ n → length out < n → refusing 15 out ≡ fitting f out
+pub too-short : (f out : List ℕ) (n : ℕ) → length f ≡ n → length out < n → readOutRefusing 15 out ≡ fitting f out
 unfolding fitting
 too-short f out n e short = rw (lt-ltb (length out) (length f) (omega (arith, e, short)))
 

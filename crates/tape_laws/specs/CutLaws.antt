@@ -10,7 +10,7 @@ use lib.ListN.{length, take, drop, length-take, length-append, length-drop}
 use lib.Seq.{take-append-seam, getD-take}
 use Rattle.method_spec.specs.Answer.{Structure, Op}
 use Rattle.method_spec.specs.Rounds.{rounds, draws}
-use Rattle.bucket_call_spec.specs.Fetch.{Left}
+use Rattle.bucket_call_spec.specs.Fetch.{CallLeft}
 use Rattle.bucket_call_spec.specs.Call.{drawOf, bucketCall}
 use Rattle.bucket_call_spec.specs.Peak.{callPeak}
 use Rattle.state_spec.specs.declared.State.{State}
@@ -57,7 +57,7 @@ module _ (s : State) (tree trace trace′ : List ℕ) where
   refuses : (n : ℕ) → Cuts trace (refusing n s tree trace′) (refusing n s tree trace)
   refuses n = record { same = refl; within = λ h. omega arith }
 
-  ends : (l : Left) (peak : ℕ) → Cuts trace (ending s trace′ l peak) (ending s trace l peak)
+  ends : (l : CallLeft) (peak : ℕ) → Cuts trace (ending s trace′ l peak) (ending s trace l peak)
   ends l peak =
       let n = length (l .leaves) in
       record {

@@ -20,7 +20,7 @@ use Rattle.path_reader.specs.declared.Wish.{Wish}
 use Rattle.test_rounds.specs.declared.Closed.{Closed}
 
 -- What a round leaves: its mark, what waits, and the tree.
-pub record Left : Type 0 where
+pub record RoundLeft : Type 0 where
   pub mark : ℕ
   pub waiting : List Slot
   pub tree : List ℕ
@@ -31,7 +31,7 @@ heldCount none = 0
 heldCount (some x) = 1
 
 -- The round's close, of what its read half has in hand: damage leaves all as it was.
-unfoldable pub closing : (size leaf : ℕ) (waiting : List Slot) (tree : List ℕ) → Option (Hand Slot) → Left
+unfoldable pub closing : (size leaf : ℕ) (waiting : List Slot) (tree : List ℕ) → Option (Hand Slot) → RoundLeft
 closing k t ws tree none = record { mark = 8; waiting = ws; tree = tree }
 closing k t ws tree (some h) =
     record {
@@ -43,7 +43,7 @@ closing k t ws tree (some h) =
 abbrev pub reading : (size leaf : ℕ) → Option round.Wish → List Slot → List ℕ → Option (Hand Slot)
 reading k t wish ws tree = readHalf wordsFormat k tree t wish [] ws
 
-abbrev pub roundOf : (size leaf : ℕ) → Option round.Wish → List Slot → List ℕ → Left
+abbrev pub roundOf : (size leaf : ℕ) → Option round.Wish → List Slot → List ℕ → RoundLeft
 roundOf k t wish ws tree = closing k t ws tree (reading k t wish ws tree)
 
 -- The first n slots wait: their keys ascend, their tags are leaves, and a path's nodes have room beside them.

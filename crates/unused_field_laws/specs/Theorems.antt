@@ -20,7 +20,7 @@ use Rattle.call_spec.specs.Store.{Ended, refusing, byRounds, checks, firstMet, 
 use Rattle.lent_bytes_spec.specs.Numbers.{numbersOf}
 use Rattle.lent_bytes_spec.specs.StateBytes.{stateIn}
 use Rattle.host_spec.specs.Host.{hostCalled}
-use Rattle.demand_spec.specs.History.{Brought, Kept, leftBy, history}
+use Rattle.demand_spec.specs.History.{Brought, StateAndTree, leftBy, history}
 use Rattle.ticket_copy_spec.specs.Copy.{ticketCopy}
 use Rattle.ticket_copy_laws.specs.CopyLaws.{copy-length, copy-clean, copy-asks}
 use Rattle.promise_spec.specs.AsBefore.{without, calledBeforeUnusedFields}
@@ -105,7 +105,7 @@ copy-answered s tree ticket tape trace = go (either s tree (ticketCopy ticket) t
 
 -- ---- lists of calls
 -- The calls of a file's tickets after it was copied are those of before: every outcome, and so every state, tree and trace.
-pub copied-run : (s : Kept) (bs : List Brought) → history s (map copiedTicket bs) ≡ earlierHistory s bs
+pub copied-run : (s : StateAndTree) (bs : List Brought) → history s (map copiedTicket bs) ≡ earlierHistory s bs
 unfolding history earlierHistory
 copied-run s [] = refl
 copied-run s (b ∷ bs) =

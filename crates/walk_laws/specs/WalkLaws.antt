@@ -17,21 +17,21 @@ use Rattle.state_spec.specs.Fetching.{roundsOf, drawsOf, mostDraws}
 use Rattle.walk_spec.specs.Input.{ticketIn, tapeIn}
 use Rattle.walk_spec.specs.Walk.{callIn, callLine, Printed}
 
-pub record Kept (s : State) (e : Ended) : Type 0 where
+pub record CallKept (s : State) (e : Ended) : Type 0 where
   pub structure : e .state .structure ≡ s .structure
   pub size : e .state .size ≡ s .size
   pub leaves : e .leaves ≤ length (e .trace)
 
-refused-keeps : {n : ℕ} {s : State} {tree trace : List ℕ} → Kept s (refusing n s tree trace)
+refused-keeps : {n : ℕ} {s : State} {tree trace : List ℕ} → CallKept s (refusing n s tree trace)
 refused-keeps = record { structure = refl; size = refl; leaves = omega arith }
 
-rounds-keep : (st : Structure) (op : Op st) (s : State) (tree tape trace : List ℕ) → Kept s (byRounds st op s tree tape trace)
+rounds-keep : (st : Structure) (op : Op st) (s : State) (tree tape trace : List ℕ) → CallKept s (byRounds st op s tree tape trace)
 rounds-keep st op s tree tape trace = record { structure = refl; size = refl; leaves = rw length-append (omega arith) }
 
-pub call-keeps : (s : State) (tree ticket tape trace : List ℕ) → Kept s (called s tree ticket tape trace)
+pub call-keeps : (s : State) (tree ticket tape trace : List ℕ) → CallKept s (called s tree ticket tape trace)
 call-keeps s tree ticket tape trace = go (how-decided s tree ticket tape trace)
   where
-    go : {e : Ended} → Decided s tree ticket tape trace e → Kept s e
+    go : {e : Ended} → Decided s tree ticket tape trace e → CallKept s e
     go (refused n first e) = rw e refused-keeps
     go (rounded op first asked e) = rw e (rounds-keep (structureOf (s .structure)) op s tree tape trace)
 

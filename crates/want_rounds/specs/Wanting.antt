@@ -17,7 +17,7 @@ use Rattle.none_lost_laws.specs.Ends.{FitStore}
 use Rattle.leaf_spec.specs.Entries.{OpFits, KeyLeft}
 use Rattle.state_spec.specs.Ticket as ticket
 use Rattle.leaf_spec.specs.Convert.{toLink, toAhead}
-use Rattle.operation_spec.specs.Method.{toOp, structureOf, programFor, wantedIn}
+use Rattle.operation_spec.specs.Method.{toOp, structureAsked, programFor, wantedIn}
 use Rattle.node_rows.specs.Row.{places, words as rowWords, fetches, fromsIn}
 use Rattle.node_rows.specs.Held.{Held, nodesOf}
 use Rattle.node_rows.specs.Heights.{Lows}
@@ -34,7 +34,7 @@ heldBy h froms = heldOf (fromsIn (h .count) froms) (nodesOf h)
 
 -- ---- the call
 abbrev pub structureIn : Job → Structure
-structureIn j = structureOf (j .op)
+structureIn j = structureAsked (j .op)
 
 abbrev pub programOf : Job → Prog ℕ (Outcome ℕ)
 programOf j = programFor (j .op) (j .spares) (j .limit) (j .entries) (toLink (j .root))

@@ -23,7 +23,7 @@ use Rattle.method_spec.specs.Outcome.{Outcome}
 use Rattle.method_spec.specs.Rounds.{rounds, spare}
 use Rattle.method_spec.specs.Call.{capacity, program, spareTags, test}
 use Rattle.run_laws.specs.Calls.{AgreeOn, program-agrees, ahead-agrees}
-use Rattle.round_spec.specs.Round.{Hand, readHalf, limit}
+use Rattle.round_spec.specs.Round.{Hand, readHalf, stashLimit}
 use Rattle.leaf_spec.specs.Leaf.{leafFormat, ProperLeaf}
 use Rattle.bucket_call_spec.specs.Call.{putRounds, aheadThen}
 use Rattle.round_spec.specs.Whole.{IsTree}
@@ -55,7 +55,7 @@ use Rattle.state_laws.specs.FetchingLaws.{rounds-most}
 use Rattle.structures.specs.WantLaws.{wanted-low, tested-low}
 use Rattle.stash_laws.specs.WaitingLaws.{waiting-length}
 use Rattle.one_round.specs.declared.Took.{Took}
-use Rattle.one_round.specs.OneRound.{going, endedWith, Ready, heldToo, takenAs, Wanted}
+use Rattle.one_round.specs.OneRound.{going, endedWith, RoundReady, heldToo, takenAs, Wanted}
 
 -- ---- programs after some nodes
 module _ {A : Type 0} where
@@ -148,7 +148,7 @@ two-spare answer.queue = omega arith
 pub record Midway (k i : ℕ) (g : Going) (q : Prog ℕ (Outcome ℕ)) : Type 0 where
   pub is-tree : IsTree k (g .tree)
   pub proper : All (ProperLeaf k) (g .waiting)
-  pub few : total g ≤ limit
+  pub few : total g ≤ stashLimit
   pub seen : length (g .leaves) ≡ i
   pub leads : (w : Want ℕ) (c : Node ℕ → Prog ℕ (Outcome ℕ)) → q ≡ want w c → w .link .tag < 2 ^ k
 
@@ -260,7 +260,7 @@ module _ (j : Job) (draw : ℕ → ℕ) (is-leaf : (d : ℕ) → draw d < 2 ^ j 
     there = wants (after (programOf j) (nodesOf h)) (toWant want) asked
 
     -- The round can begin.
-    pub want-ready : Ready (j .size) (want .link .tag) m words scratch tree (take (h .count) keys)
+    pub want-ready : RoundReady (j .size) (want .link .tag) m words scratch tree (take (h .count) keys)
     want-ready = between-ready walked-between (want .link .tag) (now-midway .leads (toWant want) (there .then) (there .is))
 
     module _ {words′ scratch′ tree′ : List ℕ} {r : Took} (more : h .count < j .rounds)

@@ -8,7 +8,7 @@ use mathlib.Core.Bool.{true}
 use Rattle.state_spec.specs.Fit.{largestSize, places}
 use Rattle.store_readout.specs.Refusal.{knownNumbers}
 use Rattle.slot_spec.specs.Tree.{slotLength, treeLength}
-use Rattle.readout_spec.specs.ReadOut.{refusing, readOut, fileOf}
+use Rattle.readout_spec.specs.ReadOut.{readOutRefusing, readOut, fileOf}
 use Rattle.survey_laws.specs.Items.{slotsFile, fitting}
 use Rattle.survey_laws.specs.StoreLaws.{tree-slots, few-items, store-file}
 use Rattle.store_readout.specs.RefusalLaws.{known-size, refused, passed}
@@ -46,7 +46,7 @@ returns : tie.Need-returns Inv-loop μ-loop
 returns c =
     let a = c .before .before .before .before .args in
     let r = c .before .refusal in
-    ap (λ (n : ℕ). refusing n (a .out .now)) (r .ensures)
+    ap (λ (n : ℕ). readOutRefusing n (a .out .now)) (r .ensures)
     ∙ refused (a .t1) (a .tree .now) (a .out .now) (λ z. c .if1 .taken (r .ensures ∙ z))
 
 cast-n : tie.Need-cast-n Inv-loop μ-loop

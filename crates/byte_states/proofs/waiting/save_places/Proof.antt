@@ -7,7 +7,7 @@ use lib.Seq.{length-sets}
 use Rattle.slot_spec.specs.Tree.{slotLength}
 use Rattle.slot_spec.specs.Slot.{slotBytes}
 use Rattle.state_spec.specs.Fit.{places}
-use Rattle.call_spec.specs.Store.{placed}
+use Rattle.call_spec.specs.Store.{waitingPlaces}
 use Rattle.stash_laws.specs.Waiting.{waitingIn}
 use Rattle.lent_bytes_spec.specs.StateBytes.{placesBytes}
 use Rattle.byte_states.specs.SavingLaws.{saved-start, saved-so}
@@ -21,7 +21,7 @@ use Rattle.byte_states.proofs.waiting.saved_slot.Reads as saved-slot-re
 use Rattle.slot_words.proofs.store.Reads as store-reads
 
 abbrev Inv-loop : tie.InvT-loop
-Inv-loop slots₀ w n end j₀ slots j = (slots ≡ placesBytes (take j (placed (waitingIn n w))) ++ drop (slotLength * j) slots₀) × ((length slots ≡ slotLength * places) × (j ≤ end))
+Inv-loop slots₀ w n end j₀ slots j = (slots ≡ placesBytes (take j (waitingPlaces (waitingIn n w))) ++ drop (slotLength * j) slots₀) × ((length slots ≡ slotLength * places) × (j ≤ end))
 
 abbrev μ-loop : tie.MeasureT-loop
 μ-loop slots₀ w n end j₀ slots j = end - j
@@ -76,7 +76,7 @@ returns c =
     let b = c .before .before .before in
     let l = c .before .loop in
     let e : l .j ≡ b .args .end = omega (arith, c .loop-test .left, l .inv .1 .1) in
-    l .inv .0 ∙ ap (λ (k : ℕ). placesBytes (take k (placed (waitingIn (b .args .n) (b .args .w .now)))) ++ drop (slotLength * k) (b .args .slots .now)) e
+    l .inv .0 ∙ ap (λ (k : ℕ). placesBytes (take k (waitingPlaces (waitingIn (b .args .n) (b .args .w .now)))) ++ drop (slotLength * k) (b .args .slots .now)) e
 
 pub save-places-spec : {M : Type 1} → statement M
 save-places-spec =

@@ -6,7 +6,7 @@ use lib.ListN.{length, take, drop}
 use Rattle.slot_spec.specs.Tree.{slotLength}
 use Rattle.state_spec.specs.Fit.{places}
 use Rattle.readout_spec.specs.declared.ReadOut.{ReadOut}
-use Rattle.readout_spec.specs.ReadOut.{numberOf, lengthOf}
+use Rattle.readout_spec.specs.ReadOut.{readOutNumber, lengthOf}
 use Rattle.survey_laws.specs.Items.{slotsFile, fitting}
 use Rattle.store_readout.specs.Refusal.{refusalOf}
 use Rattle.lent_bytes_spec.specs.declared.StateHead.{StateHead}
@@ -49,7 +49,7 @@ part-is c =
 read-so : (c : tie.After-read-out-slots)
     → (let a = c .before .before .before .before .before .before .before .before .before .before .before .before .args in
     let o = c .read-out-slots in
-    hostReading (numberOf (o .result)) (lengthOf (o .result)) (o .last .1 .1 .1 .0) ≡ hostReadOut (a .state .now) (a .tree .now) (a .out .now))
+    hostReading (readOutNumber (o .result)) (lengthOf (o .result)) (o .last .1 .1 .1 .0) ≡ hostReadOut (a .state .now) (a .tree .now) (a .out .now))
 read-so c =
     let a = c .before .before .before .before .before .before .before .before .before .before .before .before .args in
     let o = c .read-out-slots in
@@ -136,11 +136,11 @@ same-length c = search needs
 
 -- src/readouts.rt:13:1
 returns-3 : tie.Need-returns-3
-unfolding numberOf lengthOf
+unfolding readOutNumber lengthOf
 returns-3 c =
     let a = c .before .before .before .before .before .before .before .before .before .before .before .before .before .before .before .before .before .args in
     let o = c .before .before .before .before .before .read-out-slots in
-    ap (λ (x : ReadOut). hostReading (numberOf x) (lengthOf x) (o .last .1 .1 .1 .0)) (sym (c .before .r .given .1)) ∙ read-so (c .before .before .before .before .before)
+    ap (λ (x : ReadOut). hostReading (readOutNumber x) (lengthOf x) (o .last .1 .1 .1 .0)) (sym (c .before .r .given .1)) ∙ read-so (c .before .before .before .before .before)
 
 -- src/readouts.rt:13:1
 same-length-2 : tie.Need-same-length-2
@@ -148,11 +148,11 @@ same-length-2 c = search needs
 
 -- src/readouts.rt:13:1
 returns-4 : tie.Need-returns-4
-unfolding numberOf lengthOf
+unfolding readOutNumber lengthOf
 returns-4 c =
     let a = c .before .before .before .before .before .before .before .before .before .before .before .before .before .before .before .before .before .args in
     let o = c .before .before .before .before .before .read-out-slots in
-    ap (λ (x : ReadOut). hostReading (numberOf x) (lengthOf x) (o .last .1 .1 .1 .0)) (sym (c .before .r2 .given .1)) ∙ read-so (c .before .before .before .before .before)
+    ap (λ (x : ReadOut). hostReading (readOutNumber x) (lengthOf x) (o .last .1 .1 .1 .0)) (sym (c .before .r2 .given .1)) ∙ read-so (c .before .before .before .before .before)
 
 pub puzlorig-read-out-spec : {M : Type 1} → statement M
 puzlorig-read-out-spec =

@@ -16,7 +16,7 @@ use Rattle.method_spec.specs.Answer.{Structure, Op}
 use Rattle.state_spec.specs.declared.State.{State}
 use Rattle.state_spec.specs.Fit.{fits}
 use Rattle.state_spec.specs.Ticket.{ticketLength, opIn, structureOf, strayFields}
-use Rattle.call_spec.specs.Store.{Ended, refusing, byRounds, checks, firstMet, decided, called}
+use Rattle.call_spec.specs.Store.{Ended, refusing, byRounds, asksNothing, checks, firstMet, decided, called}
 use Rattle.lent_bytes_spec.specs.Numbers.{numbersOf}
 use Rattle.lent_bytes_spec.specs.StateBytes.{stateIn}
 use Rattle.host_spec.specs.Host.{hostCalled}
@@ -70,6 +70,19 @@ module _ (s : State) (tree ticket tape trace : List ℕ) where
         asked,
       )
 
+  -- And what they make sure of.
+  pub heard-so : Heard s tree ticket tape trace
+      → (s .mark ≡ 0) × (fits s ≡ true) × (length tree ≡ treeLength (s .size)) × (length ticket ≡ ticketLength) × (asksNothing (opIn st ticket) ≡ false)
+  unfolding checks checkedBefore
+  heard-so h =
+      let passed : (n : ℕ) → metOf n (checkedBefore 19 (causes s tree ticket tape trace)) ≡ false = λ n. none-met n (checkedBefore 19 (causes s tree ticket tape trace)) h in (
+        eqb-true (s .mark) 0 (not-false (eqb (s .mark) 0) (passed 1)),
+        not-false (fits s) (passed 2),
+        eqb-true (length tree) (treeLength (s .size)) (not-false (eqb (length tree) (treeLength (s .size))) (passed 3)),
+        eqb-true (length ticket) ticketLength (not-false (eqb (length ticket) ticketLength) (passed 4)),
+        passed 5,
+      )
+
   -- And only then is a call other than before.
   pub either : Comes s tree ticket tape trace (called s tree ticket tape trace) (calledBeforeUnusedFields s tree ticket tape trace)
   either = go (either-way 19 (causes s tree ticket tape trace))
@@ -79,19 +92,14 @@ module _ (s : State) (tree ticket tape trace : List ℕ) where
       go (inr h) = nineteen (h .0) (sym stray-is ∙ h .1) (stray-refused (h .0) (sym stray-is ∙ h .1))
 
   -- ---- a copied ticket
-  -- A copy is heard only where it is whole, and then its unused fields are zero.
-  copy-quiet : Heard s tree (ticketCopy ticket) tape trace → strayFields (ticketCopy ticket) ≡ false
-  unfolding checks checkedBefore
-  copy-quiet h =
-      copy-clean ticket
-      (sym (copy-length ticket)
-      ∙ eqb-true (length (ticketCopy ticket)) ticketLength
-      (not-false (eqb (length (ticketCopy ticket)) ticketLength) (none-met 4 (checkedBefore 19 (causes s tree (ticketCopy ticket) tape trace)) h)))
-
   -- The call of before asks of a copy what it asks of the ticket.
   copy-before : calledBeforeUnusedFields s tree (ticketCopy ticket) tape trace ≡ calledBeforeUnusedFields s tree ticket tape trace
   unfolding calledBeforeUnusedFields checks without
   copy-before = rw (copy-length ticket, copy-asks st ticket)
+
+-- A copy is heard only where it is whole, and then its unused fields are zero.
+copy-quiet : (s : State) (tree ticket tape trace : List ℕ) → Heard s tree (ticketCopy ticket) tape trace → strayFields (ticketCopy ticket) ≡ false
+copy-quiet s tree ticket tape trace h = copy-clean ticket (sym (copy-length ticket) ∙ heard-so s tree (ticketCopy ticket) tape trace h .3)
 
 -- What the program writes of a ticket is answered as the store of before answered the ticket.
 pub copy-answered : (s : State) (tree ticket tape trace : List ℕ)

@@ -37,7 +37,7 @@ use Rattle.demand_laws.specs.HistorySteps.{closed-call}
 use Rattle.host_spec.specs.Result.{resultBytes}
 use Rattle.host_spec.specs.Result as result
 use Rattle.host_spec.specs.Host.{HostEnded, HostOpened, lengthsGood, hostLeaving, hostEndedAs, hostCalled, hostOpened, openedAs}
-use Rattle.promise_spec.specs.HostHistory.{HostBrought, broughtBy, LentBytes, HostStore, bytesOf, markIn, hostCallOn, hostLeftBy, hostHistory, hostFinally, hostUntilClosed, hostEarly, hostCounted, hostReplyIn, hostReplyOf, hostReplies, leavesIn, hostTraceOf, lengthsPass, heard, hostOutcomes, HostAs}
+use Rattle.promise_spec.specs.HostHistory.{HostBrought, broughtBy, LentBytes, HostStore, bytesOf, markIn, hostCallOn, hostLeftBy, hostHistory, hostFinally, hostUntilClosed, hostEarly, hostCounted, hostReplyIn, hostReplyOf, hostReplies, leavesRead, hostTraceOf, lengthsPass, heard, hostOutcomes, HostAs}
 use Rattle.promise_spec.specs.HostDemands.{hostStart}
 use Rattle.host_laws.specs.LengthLaws.{good-lengths}
 use Rattle.host_laws.specs.KeptStates.{grown-kept}
@@ -56,7 +56,7 @@ finally-more s (c ∷ bs) b = finally-more (leftBy (callOn s c)) bs b
 pub data Reads (c : HostBrought) (e : Ended) : Type 0 where
   quiet : early (e .reply) ≡ true → hostEarly (hostEndedAs (c .result) e) ≡ true → e .leaves ≡ 0 → Reads c e
   tells : early (e .reply) ≡ false → hostEarly (hostEndedAs (c .result) e) ≡ false → hostReplyIn (hostEndedAs (c .result) e) ≡ hostReplyOf (e .reply)
-      → leavesIn (hostEndedAs (c .result) e) ≡ take (e .leaves) (e .trace) → Reads c e
+      → leavesRead (hostEndedAs (c .result) e) ≡ take (e .leaves) (e .trace) → Reads c e
 
 -- A call counts for a C host exactly where it counts.
 early-as : (r : Reply) → ((n : ℕ) → r ≡ Refused n → ((1 ≤ n) × (n ≤ 10)) ⊎ Later n)
@@ -81,7 +81,7 @@ early-as (Refused n) one = rw (lt-ltb 0 n (some (one n refl)), ne-eqb n 18 (othe
 
 -- The result bytes, where they are filled.
 result-reads : (c : HostBrought) (e : Ended) → 1 ≤ e .leaves → e .leaves < 256 → All (λ (t : ℕ). t < 65536) (e .trace)
-    → (hostReplyIn (hostEndedAs (c .result) e) ≡ hostReplyOf (e .reply)) × (leavesIn (hostEndedAs (c .result) e) ≡ take (e .leaves) (e .trace))
+    → (hostReplyIn (hostEndedAs (c .result) e) ≡ hostReplyOf (e .reply)) × (leavesRead (hostEndedAs (c .result) e) ≡ take (e .leaves) (e .trace))
 unfolding resultBytes pack bytes
 result-reads c e at-least few low =
     let shown : eqb (e .leaves) 0 ≡ false = ne-eqb (e .leaves) 0 (λ z. omega arith) in
@@ -141,7 +141,7 @@ module _ (st : Structure) (k : ℕ) (positive : 1 ≤ k) (small : k ≤ 8) (tree
             called-left (at ps .state) (f .0 .0) (f .1) (omega (arith, fit-state (at ps .state) (f .0 .1) .few)) (at ps .tree) (c .ticket) (numbersOf (c .tape)) (numbersOf (c .trace)) (tree-bytes m) (lent .ticket)
 
         step-reads : lengthsPass c ≡ true → early (e .reply) ≡ false
-            → (hostReplyIn (hostEndedAs (c .result) e) ≡ hostReplyOf (e .reply)) × (leavesIn (hostEndedAs (c .result) e) ≡ take (e .leaves) (e .trace))
+            → (hostReplyIn (hostEndedAs (c .result) e) ≡ hostReplyOf (e .reply)) × (leavesRead (hostEndedAs (c .result) e) ≡ take (e .leaves) (e .trace))
         step-reads pass late =
             let f = grown-kept st k positive small tree sized ps bytes m in
             let fit = fit-state (at ps .state) (f .0 .1) in

@@ -96,12 +96,12 @@ hostReplies [] = []
 hostReplies (e ∷ es) = pick (hostEarly e) (hostReplies es) (hostReplyIn e ∷ hostReplies es)
 
 -- The leaves: as many of the trace's numbers as the second result byte says.
-abbrev pub leavesIn : HostEnded → List ℕ
-leavesIn e = take (getD (e .result) 1 0) (numbersOf (e .trace))
+abbrev pub leavesRead : HostEnded → List ℕ
+leavesRead e = take (getD (e .result) 1 0) (numbersOf (e .trace))
 
 unfoldable pub hostTraceOf : List HostEnded → List ℕ
 hostTraceOf [] = []
-hostTraceOf (e ∷ es) = pick (hostEarly e) (hostTraceOf es) (leavesIn e ++ hostTraceOf es)
+hostTraceOf (e ∷ es) = pick (hostEarly e) (hostTraceOf es) (leavesRead e ++ hostTraceOf es)
 
 -- ---- the same list by the existing calls
 abbrev pub lengthsPass : HostBrought → Bool

@@ -11,7 +11,7 @@ use Rattle.state_spec.specs.declared.State.{State}
 use Rattle.state_spec.specs.Fit.{largestSize, places}
 use Rattle.readout_spec.specs.declared.ReadOut.{ReadOut}
 use Rattle.readout_spec.specs.Seen.{mostItems}
-use Rattle.readout_spec.specs.ReadOut.{ReadOutLeft, leaving, readOut, fileOf, readOutNumber, lengthOf}
+use Rattle.readout_spec.specs.ReadOut.{ReadOutLeft, readOutLeaving, readOut, fileOf, readOutNumber, lengthOf}
 use Rattle.survey_laws.specs.Items.{slotsIn, slotsFile, fitting}
 use Rattle.survey_laws.specs.StoreLaws.{tree-slots, few-items, bytes-file}
 use Rattle.store_readout.specs.Refusal.{knownNumbers, refusalOf}
@@ -69,8 +69,8 @@ module _ (state tree out : List ℕ) where
           let t = tree-slots (h .size) tree (checked .1) in
           (omega (arith, sizes .0), t .1, omega (arith, long), omega (arith, long, t .0, few-items (h .size) (h .waiting) (sizes .0) (sizes .1)))
 
-      pub read-file : (r : ReadOut) (after : List ℕ) → leaving r after ≡ fitting (slotsFile (h .size) tree waiting) out
+      pub read-file : (r : ReadOut) (after : List ℕ) → readOutLeaving r after ≡ fitting (slotsFile (h .size) tree waiting) out
           → hostReading (readOutNumber r) (lengthOf r) after ≡ hostReadOut state tree out
       read-file r after e =
           let slots-long : length slots ≡ slotLength * places = length-drop headLength state ∙ omega (arith, sized) in
-          as-read (leaving r after) (e ∙ ap (λ (f : List ℕ). fitting f out) (sym (bytes-file s tree slots (checked .1) slots-long (sizes .1) refl)) ∙ sym (checked .2))
+          as-read (readOutLeaving r after) (e ∙ ap (λ (f : List ℕ). fitting f out) (sym (bytes-file s tree slots (checked .1) slots-long (sizes .1) refl)) ∙ sym (checked .2))

@@ -22,7 +22,7 @@ ghost use lib.ListN.{length};
 ghost use lib.Seq.{sets};
 ghost use Rattle.slot_spec.specs.Tree.{slotLength};
 ghost use Rattle.readout_spec.specs.Seen.{mostItems};
-ghost use Rattle.readout_spec.specs.ReadOut.{leaving};
+ghost use Rattle.readout_spec.specs.ReadOut.{readOutLeaving};
 ghost use Rattle.survey_laws.specs.Items.{slotsIn, goodOrder, firstSorted, takenItems, cleared, allKeys, allMarks, itemsFile, slotsFile, fitting};
 
 // The keys and the marks of all items: the tree's slots, then those of the waiting nodes.
@@ -81,7 +81,7 @@ fn write_file(
     out: &mut [u8],
 ) -> ReadOut
     requires { ⌜ (length (now taken) ≤ mostItems) × (length (now marks) ≤ mostItems) ⌝ }
-    ensures { λ r. ⌜ leaving r (now (out .exit)) ≡ fitting (itemsFile (now (tree .entry)) (now (waiting .entry)) (now (keys .entry)) (now (taken .entry)) (now (marks .entry))) (now (out .entry)) ⌝ }
+    ensures { λ r. ⌜ readOutLeaving r (now (out .exit)) ≡ fitting (itemsFile (now (tree .entry)) (now (waiting .entry)) (now (keys .entry)) (now (taken .entry)) (now (marks .entry))) (now (out .entry)) ⌝ }
 {
     let values = COUNT_WIDTH + INDEX_WIDTH * taken.len();
     let report = values + VALUE_WIDTH * taken.len();
@@ -107,7 +107,7 @@ fn read_out_with(
     out: &mut [u8],
 ) -> ReadOut
     requires { ⌜ (size ≤ 16) × (length (now tree) ≡ slotLength * slotsIn (now tree)) × (length (now waiting) ≡ slotLength * slotsIn (now waiting)) × (length (now keys) ≡ slotsIn (now tree) + slotsIn (now waiting)) × (length (now marks) ≡ length (now keys)) × (length (now keys) ≤ mostItems) × (mostItems ≤ length (now taken)) ⌝ }
-    ensures { λ r. ⌜ leaving r (now (out .exit)) ≡ fitting (slotsFile size (now (tree .entry)) (now (waiting .entry))) (now (out .entry)) ⌝ }
+    ensures { λ r. ⌜ readOutLeaving r (now (out .exit)) ≡ fitting (slotsFile size (now (tree .entry)) (now (waiting .entry))) (now (out .entry)) ⌝ }
 {
     survey_all(size, tree, waiting, keys, marks);
     let count = take_items(keys, tree.len() / SLOT_LENGTH, marks, taken);
@@ -117,7 +117,7 @@ fn read_out_with(
 // Reads out a tree of that size and the slots of the waiting nodes.
 pub fn read_out_slots(size: usize, tree: &[u8], waiting: &[u8], out: &mut [u8]) -> ReadOut
     requires { ⌜ (size ≤ 16) × (length (now tree) ≡ slotLength * slotsIn (now tree)) × (length (now waiting) ≡ slotLength * slotsIn (now waiting)) × (slotsIn (now tree) + slotsIn (now waiting) ≤ mostItems) ⌝ }
-    ensures { λ r. ⌜ leaving r (now (out .exit)) ≡ fitting (slotsFile size (now (tree .entry)) (now (waiting .entry))) (now (out .entry)) ⌝ }
+    ensures { λ r. ⌜ readOutLeaving r (now (out .exit)) ≡ fitting (slotsFile size (now (tree .entry)) (now (waiting .entry))) (now (out .entry)) ⌝ }
 {
     let n = tree.len() / SLOT_LENGTH + waiting.len() / SLOT_LENGTH;
     let mut keys = [0u64; MOST_ITEMS];

@@ -10,7 +10,7 @@ use Rattle.slot_spec.specs.Tree.{treeLength}
 use Rattle.state_spec.specs.declared.State.{State}
 use Rattle.readout_spec.specs.declared.ReadOut.{ReadOut}
 use Rattle.readout_spec.specs.declared.ReadOut.the-variants.{Written, Refused}
-use Rattle.readout_spec.specs.ReadOut.{ReadOutLeft, readOut, fileOf, closedMark, known, leaving, readOutRefusing, writing, readOutNumber, lengthOf}
+use Rattle.readout_spec.specs.ReadOut.{ReadOutLeft, readOut, fileOf, closedMark, known, readOutLeaving, readOutRefusing, writing, readOutNumber, lengthOf}
 use Rattle.list_spec.specs.Choice.{pick}
 
 record Fits (l : ReadOutLeft) : Type 0 where
@@ -35,7 +35,7 @@ all-fit s tree out =
     (either-fits (ltb (length out) (length (fileOf s tree))) (refused-fits 15 out) (written-fits (fileOf s tree) out))))
 
 -- ---- from the contract's equation
-module _ (s : State) (tree before after : List ℕ) (r : ReadOut) (is : leaving r after ≡ readOut s tree before) where
+module _ (s : State) (tree before after : List ℕ) (r : ReadOut) (is : readOutLeaving r after ≡ readOut s tree before) where
   pub file-within : (n : ℕ) → r ≡ Written n → n ≤ length after
   file-within n e =
       rw (ap (λ (l : ReadOutLeft). l .out) is) (all-fit s tree before .within n (sym (ap (λ (l : ReadOutLeft). l .result) is) ∙ e))

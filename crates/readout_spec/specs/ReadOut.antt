@@ -33,16 +33,16 @@ pub record ReadOutLeft : Type 0 where
   pub out : List ℕ
 
 -- What a function that returns r leaves of the output buffer.
-abbrev pub leaving : ReadOut → List ℕ → ReadOutLeft
-leaving r out = record { result = r; out = out }
+abbrev pub readOutLeaving : ReadOut → List ℕ → ReadOutLeft
+readOutLeaving r out = record { result = r; out = out }
 
 -- "None of them writes a byte."
 abbrev pub readOutRefusing : ℕ → List ℕ → ReadOutLeft
-readOutRefusing n out = leaving (Refused n) out
+readOutRefusing n out = readOutLeaving (Refused n) out
 
 -- "It returns the file's length and changes no other byte."
 abbrev pub writing : List ℕ → List ℕ → ReadOutLeft
-writing bytes out = leaving (Written (length bytes)) (bytes ++ drop (length bytes) out)
+writing bytes out = readOutLeaving (Written (length bytes)) (bytes ++ drop (length bytes) out)
 
 unfoldable pub readOut : State → (tree out : List ℕ) → ReadOutLeft
 readOut s tree out =

@@ -17,7 +17,7 @@ ghost use mathlib.Core.Path.{_≡_};
 ghost use lib.ListN.{length};
 ghost use Rattle.slot_spec.specs.Tree.{slotLength};
 ghost use Rattle.slot_spec.specs.Slot.{encode, slotBytes, Ranged};
-ghost use Rattle.readout_spec.specs.ReadOut.{closedMark, leaving, readOut};
+ghost use Rattle.readout_spec.specs.ReadOut.{closedMark, readOutLeaving, readOut};
 ghost use Rattle.lent_bytes_spec.specs.StateBytes.{placeBytes};
 ghost use Rattle.store_readout.specs.Refusal.{knownNumbers, refusalOf};
 
@@ -93,7 +93,7 @@ fn put_place(part: &mut [u8], p: Place)
 // Reads out a closed store into a lent buffer; see `readOut` for every case. The loop over the waiting places stands here, since a function
 // that is handed the state is handed a copy of it.
 pub fn read_out(state: State, tree: &[u8], out: &mut [u8]) -> ReadOut
-    ensures { λ r. ⌜ leaving r (now (out .exit)) ≡ readOut state (now (tree .entry)) (now (out .entry)) ⌝ }
+    ensures { λ r. ⌜ readOutLeaving r (now (out .exit)) ≡ readOut state (now (tree .entry)) (now (out .entry)) ⌝ }
 {
     let number = refusal(
         state.mark,

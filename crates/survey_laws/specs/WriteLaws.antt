@@ -10,7 +10,7 @@ use Rattle.slot_spec.specs.LittleEndian.{bytes}
 use Rattle.slot_laws.specs.LittleEndianLaws.{length-bytes}
 use Rattle.readout_spec.specs.Taken.{Entry}
 use Rattle.readout_spec.specs.File.{countWidth, reportWidth, index, valuesPart, reportPart, valuesStart, reportStart, file}
-use Rattle.readout_spec.specs.ReadOut.{leaving, readOutRefusing}
+use Rattle.readout_spec.specs.ReadOut.{readOutLeaving, readOutRefusing}
 use Rattle.readout_spec.specs.declared.ReadOut.the-variants.{Written}
 use Rattle.survey_laws.specs.Items.{keyIn, slotsIn, valueIn, takenItems, cleared, entryFor, omittedBy, allKeys, allMarks, itemsFile, slotsFile, fitting}
 use Rattle.survey_laws.specs.FileLaws.{index-length, values-length, report-length, file-length}
@@ -20,7 +20,7 @@ pub too-short : (f out : List ℕ) (n : ℕ) → length f ≡ n → length out <
 unfolding fitting
 too-short f out n e short = rw (lt-ltb (length out) (length f) (omega (arith, e, short)))
 
-pub long-enough : (f out after : List ℕ) (n : ℕ) → length f ≡ n → n ≤ length out → after ≡ f ++ drop n out → leaving (Written n) after ≡ fitting f out
+pub long-enough : (f out after : List ℕ) (n : ℕ) → length f ≡ n → n ≤ length out → after ≡ f ++ drop n out → readOutLeaving (Written n) after ≡ fitting f out
 unfolding fitting
 long-enough f out after n e fits written = rw (le-ltb (length out) (length f) (omega (arith, e, fits)), e, written)
 

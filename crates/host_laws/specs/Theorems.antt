@@ -42,7 +42,8 @@ use Rattle.host_laws.specs.ClosedStates.{grown-whole}
 use Rattle.host_laws.specs.LeftStates.{LeftKept, called-left, called-shown, called-peak, reads-out, stays-closed}
 
 -- ---- the byte state
--- Every 3,248 bytes read as exactly one state, or as unfit.
+-- Every 3,248 bytes read as one state, or as unfit. That it is no more than one is the type of `stateRead`, a function; this names the two cases by the
+-- test. What is not in the type is `none-as-one`, below.
 pub one-or-unfit : (bs : List ℕ) → ((fitBytes bs ≡ true) × (stateRead bs ≡ some (stateIn bs))) ⊎ ((fitBytes bs ≡ false) × (stateRead bs ≡ none))
 unfolding stateRead
 one-or-unfit bs = go (fitBytes bs)

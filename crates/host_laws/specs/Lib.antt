@@ -6,4 +6,5 @@ pub mod Theorems
 pub mod ByteCalls
 pub mod Runs
 pub mod FileRoom
+pub mod PlainValues
 pub mod Proved

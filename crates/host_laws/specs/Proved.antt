@@ -45,6 +45,7 @@ use Rattle.promise_spec.specs.ReadsOut.{ReadsOut}
 use Rattle.host_laws.specs.ClosedStates.{grown-whole}
 use Rattle.host_laws.specs.Theorems.{reads-back, fit-whole}
 use Rattle.host_laws.specs.LeftStates.{same-pairs}
+use Rattle.host_laws.specs.PlainValues.{answers-fit}
 use Rattle.host_laws.specs.Runs.{Reads, quiet, tells, Fine, step-left, step, step-tells, step-eighteen, fine-mark, opens-as, host-run}
 
 -- ---- lists
@@ -281,6 +282,7 @@ module _ (st : Structure) (k : ℕ) (positive : 1 ≤ k) (small : k ≤ 8) (stat
         opens = ap (λ (o : HostOpened). o .number) (opens-as st k positive small tree sized state long)
             ∙ ap (λ (s : StateAndTree). s .state .mark) (opened-empty st k positive small tree sized);
         answers = host-answers;
+        values-fit = rw (before-as .counts) (answers-fit (capacity k) (opsIn st (counted s₀ xs)) (opened-runs st k positive small tree sized xs (heard-bytes ds lent-before) .0 .fit));
         follows = host-follows;
         ends = host-ends;
         never = rw (all-as .outcomes) (outcomes-sound s₀ cs (opened-runs st k positive small tree sized (heard cs) bytes .1 .0 .sound));

@@ -7,7 +7,7 @@ use mathlib.Core.List.{List, [], _∷_, _++_, map}
 use mathlib.Core.Option.{some}
 use lib.ListN.{length, getD}
 use Rattle.list_spec.specs.Distinct.{Distinct, All}
-use Rattle.method_spec.specs.Answer.{Structure, Op}
+use Rattle.method_spec.specs.Answer.{Structure, Op, meaning}
 use Rattle.method_spec.specs.Plain.{Pair, Contents, Entries, plain, plainContents, plainAnswers, nothing}
 use Rattle.method_spec.specs.Rounds.{rounds, draws}
 use Rattle.method_spec.specs.Call.{capacity, Memory, call, Ran}
@@ -26,7 +26,7 @@ use Rattle.host_spec.specs.Result.{replyValue, resultBytes}
 use Rattle.host_spec.specs.Host.{HostEnded, lengthsGood, hostLeaving, hostCalled, hostOpened, readAs, hostReadOut}
 use Rattle.demand_spec.specs.History.{opsIn, tapesOf, pairsIn, structureNumber}
 use Rattle.demand_spec.specs.Demands.{NoneLost, RoundTrip, fetching}
-use Rattle.promise_spec.specs.HostHistory.{HostBrought, broughtBy, HostStore, markIn, hostCallOn, hostHistory, hostFinally, hostUntilClosed, changesNoByte, hostCounted, hostReplies, hostReplyOf, hostTraceOf}
+use Rattle.promise_spec.specs.HostHistory.{HostBrought, broughtBy, HostStore, markIn, hostCallOn, hostHistory, hostFinally, hostUntilClosed, changesNoByte, hostCounted, hostReplies, hostReplyOf, ValueFits, hostTraceOf}
 
 -- ---- demand 1: any bytes of a state, with any tree, ticket, tape, trace and result buffer
 module _ (state tree ticket tape trace result : List ℕ) where
@@ -127,6 +127,7 @@ module _ (st : Structure) (k : ℕ) (state tree : List ℕ) (cs : List HostBroug
     -- Until the store closes every answer is the plain machine's, and trace and bytes are those of the method.
     pub answers : hostReplies (hostHistory (hostStart st k state tree) hostBefore)
         ≡ map (λ a. hostReplyOf (replyOf a)) (plainAnswers (capacity k) (hostAsked st k (hostStart st k state tree) hostBefore) (nothing st))
+    pub values-fit : All (λ a. ValueFits (meaning a .value)) (plainAnswers (capacity k) (hostAsked st k (hostStart st k state tree) hostBefore) (nothing st))
     pub follows : HostFollows st k (hostStart st k state tree) hostBefore
     pub ends : HostEnding
     -- No call meets 2, 3 or 8.

@@ -1,9 +1,10 @@
 -- Lists of calls from a C host, each on the bytes that the last one left, whatever the lengths of what they lend: as `History` (demand_spec) has them
 -- for states.
-use Prim.Native.Nat.{ℕ}
+use Prim.Native.Nat.{ℕ, _^_, _<_}
 use mathlib.Core.Path.{_≡_}
 use mathlib.Core.Bool.{Bool, _&&_, _||_}
 use mathlib.Core.List.{List, [], _∷_, _++_, map}
+use mathlib.Core.Option.{Option, none, some}
 use lib.Dec.{eqb, ltb}
 use lib.ListN.{length, getD, take, drop}
 use Rattle.list_spec.specs.Choice.{pick}
@@ -90,6 +91,11 @@ hostReplyIn e = record { number = e .number; has = take 1 (e .result); value = d
 -- The same of a reply of the existing call.
 abbrev pub hostReplyOf : Reply → HostReply
 hostReplyOf r = record { number = replyNumber r; has = bytes 1 (replyValue r .has); value = bytes 8 (replyValue r .value) }
+
+-- A value fits its eight bytes, where there is one: then these say it.
+abbrev pub ValueFits : Option ℕ → Type 0
+ValueFits none = Unit {0}
+ValueFits (some v) = v < 2 ^ 64
 
 unfoldable pub hostReplies : List HostEnded → List HostReply
 hostReplies [] = []

@@ -1,4 +1,4 @@
--- A ticket's 13 bytes: kind, key and value, what they ask of each structure, and which fields a kind fieldsUsed.
+-- A ticket's 13 bytes: kind, key and value, what they ask of each structure, and which fields a kind uses.
 use Prim.Native.Nat.{ℕ}
 use mathlib.Core.Bool.{Bool, true, false, not, _&&_, _||_}
 use mathlib.Core.List.{List, [], _∷_}
@@ -60,7 +60,7 @@ outOfKeys take-smallest next = false
 outOfKeys (enqueue value) next = eqb next lastKey
 outOfKeys dequeue next = false
 
--- ---- the fields that a kind fieldsUsed
+-- ---- the fields that a kind uses
 abbrev pub neither : Uses
 neither = record { key = false; value = false }
 
@@ -73,7 +73,7 @@ valueAlone = record { key = false; value = true }
 abbrev pub both : Uses
 both = record { key = true; value = true }
 
--- "Get and remove use the key; put fieldsUsed both; push, add and in use the value; the others use none." By kind, from 0 on; what the fields of
+-- "Get and remove use the key; put uses both; push, add and in use the value; the others use none." By kind, from 0 on; what the fields of
 -- an unknown kind are for is not known, so none of them counts as unused.
 abbrev pub usesTable : List Uses
 usesTable =

@@ -1,34 +1,18 @@
 // The numbers that the lines of calls show.
 use call_spec::Reply;
-use operation_spec::Answer;
+use host_results::number_of;
+use host_results::value_of;
 ghost use mathlib.Core.Path.{_≡_};
 ghost use Rattle.walk_spec.specs.Lines.{replyShown};
 
-fn answer_shown(answer: Answer) -> u64
-    ensures { λ r. ⌜ r ≡ replyShown (Reply.Answered answer) ⌝ }
-{
-    match answer {
-        Answer::Found(v) => v,
-        Answer::Absent => 0,
-        Answer::Replaced(v) => v,
-        Answer::New => 0,
-        Answer::Removed(v) => v,
-        Answer::Pushed => 0,
-        Answer::Popped(v) => v,
-        Answer::Added => 0,
-        Answer::Taken(v) => v,
-        Answer::Queued => 0,
-        Answer::Dequeued(v) => v,
-        Answer::Empty => 0,
-    }
-}
-
-// The number that a call's line shows.
+// The number of a refusal; else the answer's value, 0 if there is none.
 pub fn reply_shown(reply: Reply) -> u64
     ensures { λ r. ⌜ r ≡ replyShown reply ⌝ }
 {
-    match reply {
-        Reply::Answered(answer) => answer_shown(answer),
-        Reply::Refused(number) => number as u64,
+    let number = number_of(reply);
+    if number != 0 {
+        return number as u64;
     }
+    let v = value_of(reply);
+    v.value
 }

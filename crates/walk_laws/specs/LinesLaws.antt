@@ -1,12 +1,13 @@
 -- Laws of the lines: how long numbers and lines are, that the digits of the library `io` are a number's decimal text, and texts
 -- put one after another.
 use mathlib.Core.Path.{_≡_, refl, _∙_, ap}
+use mathlib.Core.Option.{Option, none, some}
 use mathlib.Core.List.{List, [], _∷_, _++_, append-nil, append-assoc}
 use Prim.Native.Nat.{ℕ, zero, suc, _+_, _-_, _*_, _/_, _%_, _^_, _≤_, _<_}
 use native.Mathlib.Nat.{pow-suc, zero-add}
 use native.Mathlib.Numerals.{add-one}
 use native.Mathlib.Omega.{arith}
-use borrow.Author.Tests.{lt-ltb, ne-eqb}
+use borrow.Author.Tests.{lt-ltb, eq-eqb, ne-eqb}
 use lib.ListN.{length, getD, take, drop, set, length-append, length-take, length-drop, take-append-drop, drop-of-length-le}
 use lib.Seq.{take-suc, take-all, take-length, drop-drop, sets-eq, length-sets}
 use Rattle.io.specs.Counts.{Counts}
@@ -15,7 +16,9 @@ use Rattle.slot_laws.specs.WordLaws.{sets-append}
 use Rattle.operation_spec.specs.declared.Answer.the-variants.{Found, Absent, Replaced, New, Removed, Pushed, Popped, Added, Taken, Queued, Dequeued, Empty}
 use Rattle.call_spec.specs.declared.Reply.{Reply}
 use Rattle.call_spec.specs.declared.Reply.the-variants.{Answered, Refused}
-use Rattle.walk_spec.specs.Lines.{blank, newline, digit, leading, decimal, numbers, replyWord, replyShown, lineOf, longestLine, mostLeaves, Put}
+use Rattle.call_spec.specs.Store.{replyMeaning}
+use Rattle.host_spec.specs.Result.{replyNumber, replyValue, resultValue}
+use Rattle.walk_spec.specs.Lines.{blank, newline, digit, leading, decimal, numbers, replyWord, valueOrZero, replyShown, lineOf, longestLine, mostLeaves, Put}
 
 -- ---- how long numbers are
 leading-length : (more n k : ℕ) → n < 10 ^ k → length (leading more n) ≤ k
@@ -196,10 +199,16 @@ word-length (Answered (Dequeued v)) = omega arith
 word-length (Answered Empty) = omega arith
 word-length (Refused n) = omega arith
 
--- A refusal's line shows its number.
-pub refused-shown : (n : ℕ) → replyShown (Refused n) ≡ n
-refused-shown zero = refl
-refused-shown (suc n) = rw (ne-eqb (suc n) 0 (λ e. omega (arith, e)))
+-- What a line shows: the number of a refusal, and else the value that a C host gets.
+pub number-shown : (r : Reply) → (replyNumber r ≡ 0 → ⊥) → replyShown r ≡ replyNumber r
+number-shown r n = rw (ne-eqb (replyNumber r) 0 n)
+
+pub value-shown : (r : Reply) → replyNumber r ≡ 0 → replyShown r ≡ replyValue r .value
+value-shown r z = rw (eq-eqb (replyNumber r) 0 z) (go (replyMeaning r .value))
+  where
+    go : (o : Option ℕ) → valueOrZero o ≡ resultValue o .value
+    go none = refl
+    go (some v) = refl
 
 -- The first numbers of a trace buffer are leaves too.
 pub first-leaves : (trace : List ℕ) (n : ℕ) → ((i : ℕ) → getD trace i 0 < 2 ^ 16) → (i : ℕ) → getD (take n trace) i 0 < 2 ^ 16

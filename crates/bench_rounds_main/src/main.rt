@@ -5,10 +5,11 @@ use checksums::join;
 use checksums::xorshift;
 use libc::STDOUT_FILENO;
 use path_reader::Wish;
+use path_slots::PATH_SLOTS;
 use slot_fields::no_link;
+use slot_row::ROW_LENGTH;
+use slot_row::get;
 use slot_spec::Node;
-use stash_words::SLOT_WORDS;
-use stash_words::WORDS;
 use test_rounds::Closed;
 use test_rounds::round;
 use test_rounds::take_round;
@@ -17,7 +18,7 @@ ghost use mathlib.Core.Path.{_≡_};
 ghost use mathlib.Core.Bool.{false};
 ghost use Prim.Native.Nat.{_≤_, _<_};
 ghost use lib.ListN.{length};
-ghost use Rattle.word_round_laws.specs.Words.{places, wordCount};
+ghost use Rattle.word_round_laws.specs.SlotRow.{places, rowLength, pathSlots};
 ghost use Rattle.test_rounds.specs.Single.{Resting, Rests};
 ghost use Rattle.bench_rounds_main.specs.Run.{size, nodes, Ran};
 
@@ -75,15 +76,15 @@ fn new_node(key: u32, tag: u8) -> Node {
 
 // A new node waits, and a round of a leaf follows.
 fn put_round(
-    w: &mut [u64; WORDS],
+    w: &mut [u8],
     n: usize,
-    s: &mut [u64; WORDS],
     tree: &mut [u8],
     node: Node,
     leaf: u8,
+    from: &mut [u32; PATH_SLOTS],
 ) -> Closed
-    requires { ⌜ Resting size n (now w) (now s) (now tree) ⌝ }
-    ensures { λ r. ⌜ Rests size (now (w .exit)) (now (s .exit)) (now (tree .exit)) r ⌝ }
+    requires { ⌜ Resting size n (now w) (now tree) × (length (now from) ≡ pathSlots) ⌝ }
+    ensures { λ r. ⌜ Rests size (now (w .exit)) (now (tree .exit)) r × (length (now (from .exit)) ≡ pathSlots) ⌝ }
 {
     if !wait(w, n, SIZE, node) {
         return Closed {
@@ -92,18 +93,18 @@ fn put_round(
             node,
         };
     }
-    round(w, n + 1, s, tree, SIZE, leaf as usize, Wish::Nothing)
+    round(w, n + 1, tree, SIZE, leaf as usize, Wish::Nothing, from)
 }
 
 // The nodes with keys 0 to 254 come to wait one by one, each followed by a round.
 fn fill(
-    w: &mut [u64; WORDS],
-    s: &mut [u64; WORDS],
+    w: &mut [u8],
     tree: &mut [u8],
     tags: &mut [u8; NODES],
+    from: &mut [u32; PATH_SLOTS],
 ) -> Turns
-    requires { ⌜ Resting size 0 (now w) (now s) (now tree) × (length (now tags) ≡ nodes) ⌝ }
-    ensures { λ r. ⌜ Ran (now (w .exit)) (now (s .exit)) (now (tree .exit)) (now (tags .exit)) r ⌝ }
+    requires { ⌜ Resting size 0 (now w) (now tree) × (length (now tags) ≡ nodes) × (length (now from) ≡ pathSlots) ⌝ }
+    ensures { λ r. ⌜ Ran (now (w .exit)) (now (tree .exit)) (now (tags .exit)) (now (from .exit)) r ⌝ }
 {
     let mut n = 0;
     let mut x = SEED;
@@ -113,7 +114,7 @@ fn fill(
         let tag = (x % 256) as u8;
         tags[i] = tag;
         let leaf = (x / 256 % 256) as u8;
-        let r = put_round(w, n, s, tree, new_node(i as u32, tag), leaf);
+        let r = put_round(w, n, tree, new_node(i as u32, tag), leaf, from);
         if r.mark != 0 {
             return failed(x);
         }
@@ -131,15 +132,15 @@ fn fill(
 // So many turns, each of a node that is chosen at random.
 fn run(
     rounds: u64,
-    w: &mut [u64; WORDS],
+    w: &mut [u8],
     waiting: usize,
-    s: &mut [u64; WORDS],
     tree: &mut [u8],
     tags: &mut [u8; NODES],
     seed: u64,
+    from: &mut [u32; PATH_SLOTS],
 ) -> Turns
-    requires { ⌜ Resting size waiting (now w) (now s) (now tree) × (length (now tags) ≡ nodes) ⌝ }
-    ensures { λ r. ⌜ Ran (now (w .exit)) (now (s .exit)) (now (tree .exit)) (now (tags .exit)) r ⌝ }
+    requires { ⌜ Resting size waiting (now w) (now tree) × (length (now tags) ≡ nodes) × (length (now from) ≡ pathSlots) ⌝ }
+    ensures { λ r. ⌜ Ran (now (w .exit)) (now (tree .exit)) (now (tags .exit)) (now (from .exit)) r ⌝ }
 {
     let mut n = waiting;
     let mut x = seed;
@@ -155,12 +156,12 @@ fn run(
         let r = take_round(
             w,
             n,
-            s,
             tree,
             SIZE,
             key as u32,
             as_tag(tag),
             as_tag(new_tag),
+            from,
         );
         if r.mark != 0 {
             return failed(x);
@@ -186,15 +187,15 @@ fn checksum_bytes(bytes: &[u8]) -> u64 {
     sum
 }
 
-// A checksum of the first n waiting nodes.
-fn checksum_waiting(w: &[u64; WORDS], n: usize) -> u64
-    requires { ⌜ (length (now w) ≡ wordCount) × (n ≤ places) ⌝ }
+// A checksum of the first n waiting nodes' words.
+fn checksum_waiting(w: &[u8], n: usize) -> u64
+    requires { ⌜ (length (now w) ≡ rowLength) × (n ≤ places) ⌝ }
 {
-    let words = SLOT_WORDS * n;
     let mut sum = 1;
     let mut i = 0;
-    while i < words {
-        sum = join(sum, w[i]);
+    while i < n {
+        let x = get(w, i);
+        sum = join(join(join(join(sum, x.a), x.b), x.c), x.d);
         i += 1;
     }
     sum
@@ -227,11 +228,11 @@ fn rounds_asked() -> u64 {
 
 fn main() {
     let rounds = rounds_asked();
-    let mut w = [0u64; WORDS];
-    let mut s = [0u64; WORDS];
+    let mut w = [0u8; ROW_LENGTH];
     let mut tree = [0u8; TREE_LENGTH];
     let mut tags = [0u8; NODES];
-    let filled = fill(&mut w, &mut s, &mut tree, &mut tags);
+    let mut from = [0u32; PATH_SLOTS];
+    let filled = fill(&mut w, &mut tree, &mut tags, &mut from);
     if !filled.ok {
         io::write_all(STDOUT_FILENO, b"a round failed\n");
         return;
@@ -240,10 +241,10 @@ fn main() {
         rounds,
         &mut w,
         filled.waiting,
-        &mut s,
         &mut tree,
         &mut tags,
         filled.seed,
+        &mut from,
     );
     if !ran.ok {
         io::write_all(STDOUT_FILENO, b"a round failed\n");

@@ -1,5 +1,5 @@
 pub mod Refusal
-pub mod Loading
+pub mod PlacesFit
 pub mod HeadLaws
-pub mod LoadingLaws
-pub mod SavingLaws
+pub mod PlacesFitLaws
+pub mod RowLaws

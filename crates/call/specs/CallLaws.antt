@@ -1,4 +1,4 @@
--- A call on a state: refused by it, or made by the core over its head and its waiting nodes' words.
+-- A call on a state: refused by it, or made by the core over its head and the row of its waiting nodes.
 use mathlib.Core.Path.{_≡_, refl, sym, _∙_, ap}
 use mathlib.Core.Bool.{Bool, true, false}
 use mathlib.Core.Logic.{_⊎_, inl, inr}
@@ -43,7 +43,7 @@ module _ (s : State) where
     pub fit-by-places : {b : Bool} → placesFit s ≡ b → fits s ≡ b
     fit-by-places e = fits-parts s ∙ rw good e
 
-    pub stands : {words : List ℕ} → s .mark ≡ 0 → placesFit s ≡ true → Loaded s words (s .count) → StandsFor s (headOf s) words
+    pub stands : {row : List ℕ} → s .mark ≡ 0 → placesFit s ≡ true → Loaded s row (s .count) → StandsFor s (headOf s) row
     stands unmarked e loaded = record { head = refl; not-closed = unmarked; fit = fit-by-places e; loaded = loaded }
 
   module _ (tree ticket tape trace : List ℕ) where
@@ -61,13 +61,13 @@ module _ (s : State) where
         go (inr (inl x)) = rw (x .1 .1) (refused-2 s tree ticket tape trace (x .0) (unfit-head (x .1 .0)))
         go (inr (inr x)) = absurd (h (x .1 .1))
 
-    module _ {words words′ tree′ trace′ : List ℕ} (st : StandsFor s (headOf s) words) (r : Ran)
-        (made : CallsAs (headOf s) words tree ticket tape trace words′ tree′ trace′ r) where
+    module _ {row row′ tree′ trace′ : List ℕ} (st : StandsFor s (headOf s) row) (r : Ran)
+        (made : CallsAs (headOf s) row tree ticket tape trace row′ tree′ trace′ r) where
       -- The core refused.
       pub kept : r .ran ≡ false → callEndedAs (record { state = s; reply = r .reply; leaves = r .leaves; peak = r .peak }) tree′ trace′ ≡ called s tree ticket tape trace
       kept e = rw e at (made .calls s st)
 
       -- It made its rounds, and what it left is saved.
-      pub changed : {left : State} → r .ran ≡ true → left ≡ saved (s .structure) (s .size) (r .mark) (r .entries) (r .root) (r .ahead) (waitingIn (r .waiting) words′)
+      pub changed : {left : State} → r .ran ≡ true → left ≡ saved (s .structure) (s .size) (r .mark) (r .entries) (r .root) (r .ahead) (waitingIn (r .waiting) row′)
           → callEndedAs (record { state = left; reply = r .reply; leaves = r .leaves; peak = r .peak }) tree′ trace′ ≡ called s tree ticket tape trace
       changed e saved-so = ap (λ (x : State). callEndedAs (record { state = x; reply = r .reply; leaves = r .leaves; peak = r .peak }) tree′ trace′) saved-so ∙ (rw e at (made .calls s st))

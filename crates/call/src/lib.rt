@@ -1,13 +1,15 @@
-// Calls on a store whose state is a struct: the state's checks, the core over words, and what is left.
+// Calls on a store whose state is a struct: the state's checks, the core over a row of waiting slots, and what is left.
 use call_core::Head;
-use call_core::call_words;
+use call_core::call_row;
+use call_draws::rounds_of;
+use call_draws::spare_of;
 use call_spec::Called;
 use call_spec::Reply;
 use fitness::head_refusal;
 use round_close::greater;
+use slot_row::ROW_LENGTH;
 use stash::places::load_place;
 use stash::places::saved_place;
-use stash_words::WORDS;
 use state_places::zero_place;
 use state_spec::PLACES;
 use state_spec::State;
@@ -16,7 +18,7 @@ ghost use Rattle.call_spec.specs.Store.{called, callEndedAs};
 
 // One call: an answer or one numbered refusal. The store does all the checking; see `called` for every case.
 // Three loops stand here, since a function that is handed the state is handed a copy of it: the used places are looked at and their
-// nodes put into words, the other places are looked at, and in the end the waiting nodes are saved into the state that came.
+// nodes put into a row, the other places are looked at, and in the end the waiting nodes are saved into the state that came.
 pub fn call(state: State, tree: &mut [u8], ticket: &[u8], tape: &[u16], trace: &mut [u16]) -> Called
     ensures { λ r. ⌜ callEndedAs r (now (tree .exit)) (now (trace .exit)) ≡ called state (now (tree .entry)) (now (ticket .entry)) (now (tape .entry)) (now (trace .entry)) ⌝ }
 {
@@ -39,10 +41,10 @@ pub fn call(state: State, tree: &mut [u8], ticket: &[u8], tape: &[u16], trace: &
             peak: 0,
         };
     }
-    // The waiting nodes as words, and whether the places fit.
+    // The row of the waiting nodes, and whether the places fit.
     let size = state.size as usize;
     let n = state.count as usize;
-    let mut w = [0u64; WORDS];
+    let mut w = [0u8; ROW_LENGTH];
     let mut least: u64 = 0;
     let mut i = 0;
     while i < n {
@@ -78,7 +80,9 @@ pub fn call(state: State, tree: &mut [u8], ticket: &[u8], tape: &[u16], trace: &
         ahead,
         waiting: state.count,
     };
-    let r = call_words(head, &mut w, tree, ticket, tape, trace);
+    let rounds = rounds_of(state.structure, state.size);
+    let draws = 2 * rounds + spare_of(state.structure);
+    let r = call_row(head, &mut w, tree, ticket, tape, trace, rounds, draws);
     let reply = r.reply;
     if !r.ran {
         return Called {

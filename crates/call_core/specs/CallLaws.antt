@@ -19,6 +19,7 @@ use Rattle.method_spec.specs.Answer as method
 use Rattle.method_spec.specs.Answer.{Structure, get, put, remove, push, pop, add, take as take-smallest, enqueue, dequeue}
 use Rattle.method_spec.specs.Rounds.{rounds, spare}
 use Rattle.run_laws.specs.RoundsLaws.{some-rounds}
+use Rattle.state_laws.specs.FetchingLaws.{rounds-most}
 use Rattle.round_laws.specs.Sorted.{ascending-distinct}
 use Rattle.round_laws.specs.ReadHalf.{distinct-none-twice}
 use Rattle.leaf_spec.specs.Leaf.{leafFormat}
@@ -47,7 +48,9 @@ use Rattle.call_spec.specs.declared.Reply.the-variants.{Refused}
 use Rattle.call_core.specs.declared.Head.{Head}
 use Rattle.call_ending.specs.declared.Ran.{Ran}
 use Rattle.call_ending.specs.Ending.{leftBy, endingCall}
-use Rattle.call_core.specs.Run.{StandsFor, Stands, leftOf, CallsAs, jobFor, Runs}
+use Rattle.short_outcomes.specs.OneFetch.{oneFetch}
+use Rattle.short_outcomes.specs.OneFetchLaws.{clash, round-one, more-rounds}
+use Rattle.call_core.specs.Run.{StandsFor, Stands, leftOf, CallsAs, jobFor, Runs, RanAs}
 
 -- Numbers each of which is below 256 are bytes.
 pub bytes-of : (l : List ℕ) → ((i : ℕ) → getD l i 0 < 256) → Bytes l
@@ -214,7 +217,7 @@ module _ (s : State) (tree ticket tape trace : List ℕ) where
                       ∙ ap (λ (x : Op). endingCall (s .structure) (s .size) trace F (toOp x) (drawOf (s .size) tape) (storeOf s tree)) (a .same))
 
 -- ---- all checks were passed
-module _ {s : State} {op : Op} {F : ℕ} {tree ticket tape trace : List ℕ} (ok : Checked s op F tree ticket tape trace) {n : ℕ} {words : List ℕ} (loaded : Loaded s words n) where
+module _ {s : State} {op : Op} {F : ℕ} {tree ticket tape trace : List ℕ} (ok : Checked s op F tree ticket tape trace) {n : ℕ} {row : List ℕ} (loaded : Loaded s row n) where
   abbrev k : ℕ
   k = s .size
 
@@ -224,7 +227,7 @@ module _ {s : State} {op : Op} {F : ℕ} {tree ticket tape trace : List ℕ} (ok
   state-fits : FitState s
   state-fits = fit-state s (ok .fit)
 
-  same-store : storeAt job n words tree ≡ storeOf s tree
+  same-store : storeAt job n row tree ≡ storeOf s tree
   same-store = ap (λ (ws : List (Node ℕ)). record { entries = s .entries; root = toLink (s .root); ahead = toAhead (s .ahead); waiting = ws; tree = tree }) (loaded .waiting)
 
   -- The waiting nodes that were loaded are within their widths.
@@ -237,7 +240,7 @@ module _ {s : State} {op : Op} {F : ℕ} {tree ticket tape trace : List ℕ} (ok
         nodes = λ p m. subst (All InWidths) (loaded .waiting) (loaded .holds .ranged) (toNode (p .node)) (Memᴰ·map (λ (q : Place). toNode (q .node)) m);
       }
 
-  ascends : ascending (map (λ (m : Node ℕ). m .key) (waitingIn n words)) ≡ true
+  ascends : ascending (map (λ (m : Node ℕ). m .key) (waitingIn n row)) ≡ true
   ascends = rw (loaded .waiting, keys-of (used s)) (state-fits .order)
     where
       keys-of : (ps : List Place) → map (λ (m : Node ℕ). m .key) (map (λ (p : Place). toNode (p .node)) ps) ≡ keysIn ps
@@ -254,10 +257,10 @@ module _ {s : State} {op : Op} {F : ℕ} {tree ticket tape trace : List ℕ} (ok
   structure-is = structure-back (ask .asks) ∙ ap structureAsked (ask .same)
 
   -- The rounds can begin.
-  pub can-run : Runs job n words tree tape trace
+  pub can-run : Runs job n row tree tape trace
   can-run =
       record {
-        begins = λ {scratch} sized.
+        begins =
             record {
               some-size = state-fits .size .0;
               small = state-fits .size .1;
@@ -274,22 +277,20 @@ module _ {s : State} {op : Op} {F : ℕ} {tree ticket tape trace : List ℕ} (ok
               rests =
                   record {
                     holds = loaded .holds;
-                    scratch-sized = sized;
                     order = ascends;
                     apart =
-                        rw (append-nil (map (λ (m : Node ℕ). m .key) (waitingIn n words)))
-                        (distinct-none-twice (map (λ (m : Node ℕ). m .key) (waitingIn n words)) (ascending-distinct leafFormat (waitingIn n words) ascends));
+                        rw (append-nil (map (λ (m : Node ℕ). m .key) (waitingIn n row)))
+                        (distinct-none-twice (map (λ (m : Node ℕ). m .key) (waitingIn n row)) (ascending-distinct leafFormat (waitingIn n row) ascends));
                   };
             };
-        tape-long = omega (arith, ok .tape-long);
-        trace-long = ok .trace-long;
+        long = (omega (arith, ok .tape-long), ok .trace-long);
       }
 
   -- What the rounds and the step left.
-  pub then-left : (r : Ran) (words′ : List ℕ) {tree′ trace′ : List ℕ} → r .ran ≡ true
-      → leftBy (s .structure) k r words′ tree′ trace′ ≡ endingCall (s .structure) k trace F (toOp op) (drawOf k tape) (storeAt job n words tree)
-      → leftOf s r words′ tree′ trace′ ≡ called s tree ticket tape trace
-  then-left r words′ ran q =
+  pub then-left : (r : Ran) (row′ : List ℕ) {tree′ trace′ : List ℕ} → r .ran ≡ true
+      → leftBy (s .structure) k r row′ tree′ trace′ ≡ endingCall (s .structure) k trace F (toOp op) (drawOf k tape) (storeAt job n row tree)
+      → leftOf s r row′ tree′ trace′ ≡ called s tree ticket tape trace
+  then-left r row′ ran q =
       rw ran
       (q
       ∙ ap (endingCall (s .structure) k trace F (toOp op) (drawOf k tape)) same-store
@@ -303,12 +304,15 @@ some-spare method.stack = omega arith
 some-spare method.heap = omega arith
 some-spare method.queue = omega arith
 
-module _ {s : State} {h : Head} {words : List ℕ} (st : StandsFor s h words) where
+module _ {s : State} {h : Head} {row : List ℕ} (st : StandsFor s h row) where
   pub head-sizes : (1 ≤ h .size) × (h .size ≤ 8)
   head-sizes = let q = fit-state s (st .fit) .size in rw (st .head) q
 
   pub head-rounds : {F : ℕ} → F ≡ roundsOf (h .structure) (h .size) → 1 ≤ F
   head-rounds e = rw e (some-rounds (numbered (h .structure)) (h .size) (head-sizes .0))
+
+  pub head-few : {F : ℕ} → F ≡ roundsOf (h .structure) (h .size) → F ≤ 33
+  head-few e = rw e (rounds-most (numbered (h .structure)) (h .size) (head-sizes .1))
 
   pub head-spare : 1 ≤ spareOf (h .structure)
   head-spare = some-spare (numbered (h .structure))
@@ -375,24 +379,37 @@ module _ {s : State} {h : Head} {words : List ℕ} (st : StandsFor s h words) wh
                       ahead-widths = rw (st .head) at ahead-widths;
                     }
 
+-- Only a stack and a queue have one fetch round.
+module _ {s : State} {h : Head} {row : List ℕ} (st : StandsFor s h row) {op : Op} {F : ℕ} {tree ticket tape trace : List ℕ} (ok : Checked s op F tree ticket tape trace) where
+  pub head-short : F ≡ 1 → oneFetch (structureAsked op) ≡ true
+  head-short e = rw (← structure-is ok (st .loaded)) (round-one (numbered (s .structure)) (s .size) (sym (ok .rounds-are) ∙ e))
+
+  pub head-long : (F ≡ 1 → ⊥) → oneFetch (structureAsked op) ≡ false
+  head-long d = rw (← structure-is ok (st .loaded)) (more-rounds (numbered (s .structure)) (s .size) (λ e. d (ok .rounds-are ∙ e)))
+
 -- What was run for a head is what is run for the state.
-pub head-runs : {s : State} {h : Head} {words : List ℕ} (st : StandsFor s h words) {op : Op} {F : ℕ} {tree ticket tape trace : List ℕ}
-    → Checked s op F tree ticket tape trace → Runs (jobFor (h .structure) (h .size) (h .entries) (h .root) (h .ahead) op F tape) (h .waiting) words tree tape trace
+pub head-runs : {s : State} {h : Head} {row : List ℕ} (st : StandsFor s h row) {op : Op} {F : ℕ} {tree ticket tape trace : List ℕ}
+    → Checked s op F tree ticket tape trace → Runs (jobFor (h .structure) (h .size) (h .entries) (h .root) (h .ahead) op F tape) (h .waiting) row tree tape trace
 head-runs st ok = rw (st .head) (can-run ok (st .loaded))
 
-pub head-left : {s : State} {h : Head} {words : List ℕ} (st : StandsFor s h words) {op : Op} {F : ℕ} {tree ticket tape trace : List ℕ}
-    → Checked s op F tree ticket tape trace → (r : Ran) (words′ : List ℕ) {tree′ trace′ : List ℕ} → r .ran ≡ true
-    → leftBy (h .structure) (h .size) r words′ tree′ trace′
-    ≡ endingCall (h .structure) (h .size) trace F (toOp op) (drawOf (h .size) tape)
-    (storeAt (jobFor (h .structure) (h .size) (h .entries) (h .root) (h .ahead) op F tape) (h .waiting) words tree)
-    → leftOf s r words′ tree′ trace′ ≡ called s tree ticket tape trace
-head-left st ok r words′ ran q = then-left ok (st .loaded) r words′ ran (rw (st .head) at q)
+pub head-left : {s : State} {h : Head} {row : List ℕ} (st : StandsFor s h row) {op : Op} {F : ℕ} {tree ticket tape trace : List ℕ}
+    → Checked s op F tree ticket tape trace → (r : Ran) (row′ : List ℕ) {tree′ trace′ : List ℕ}
+    → RanAs (jobFor (h .structure) (h .size) (h .entries) (h .root) (h .ahead) op F tape) (h .waiting) row tree tape trace row′ tree′ trace′ r
+    → leftOf s r row′ tree′ trace′ ≡ called s tree ticket tape trace
+head-left st ok r row′ ran = let q = rw (st .head) at ran in then-left ok (st .loaded) r row′ (q .ran) (q .ends)
 
 -- ---- what the core returns
-module _ {h : Head} {words tree ticket tape trace : List ℕ} (st : Stands h words) where
+module _ {h : Head} {row tree ticket tape trace : List ℕ} (st : Stands h row) where
   -- It refuses.
   pub core-refuses : (n : ℕ) {r : Ran}
       → r ≡ record { ran = false; mark = 0; entries = h .entries; root = h .root; ahead = h .ahead; waiting = h .waiting; reply = Refused n; leaves = 0; peak = 0 }
-      → ((s : State) → StandsFor s h words → called s tree ticket tape trace ≡ refusing n s tree trace)
-      → CallsAs h words tree ticket tape trace words tree trace r
-  core-refuses n e gives = rw e (record { calls = λ s x. sym (gives s x); holds = rw (st .for .head) (st .for .loaded .holds) })
+      → ((s : State) → StandsFor s h row → called s tree ticket tape trace ≡ refusing n s tree trace)
+      → CallsAs h row tree ticket tape trace row tree trace r
+  core-refuses n e gives = rw e (record { calls = λ s x. sym (gives s x); holds = rw (st .for .head) (st .for .loaded .holds); kept = λ z. refl })
+
+  -- It ran.
+  pub core-ran : {op : Op} {F : ℕ} → ((s : State) → StandsFor s h row → Checked s op F tree ticket tape trace) → (r : Ran) (row′ : List ℕ) {tree′ trace′ : List ℕ}
+      → RanAs (jobFor (h .structure) (h .size) (h .entries) (h .root) (h .ahead) op F tape) (h .waiting) row tree tape trace row′ tree′ trace′ r
+      → CallsAs h row tree ticket tape trace row′ tree′ trace′ r
+  core-ran ok r row′ ran =
+      record { calls = λ s x. head-left x (ok s x) r row′ ran; holds = ran .holds; kept = λ e. clash (sym e ∙ ran .ran) }

@@ -1,12 +1,9 @@
-// The core of a call, over lent words: the checks that come after the state's, the rounds and the step, and what is left. What holds the
+// The core of a call, over a lent row: the checks that come after the state's, the rounds and the step, and what is left. What holds the
 // state, a struct or bytes, stands above it.
-use call_draws::draws_of;
-use call_draws::rounds_of;
 use call_ending::Ran;
 use call_spec::Reply;
 use slot_spec::Ahead;
 use slot_spec::Link;
-use stash_words::WORDS;
 use tickets::Asked;
 use tickets::is_whole;
 use tickets::out_of_keys;
@@ -15,12 +12,13 @@ use tree_paths::tree_length;
 use unused_fields::has_stray;
 ghost use mathlib.Core.Path.{_≡_};
 ghost use mathlib.Core.Bool.{false};
+ghost use Rattle.state_spec.specs.Fetching.{roundsOf, drawsOf};
 ghost use Rattle.call_spec.specs.declared.Reply.the-variants.{Refused};
 ghost use Rattle.call_core.specs.Run.{Stands, CallsAs};
 
 pub mod run;
 
-// The head of an open state that fits; its waiting nodes are in words.
+// The head of an open state that fits; its waiting nodes are in a row.
 pub struct Head {
     pub structure: u8,
     pub size: u8,
@@ -49,16 +47,19 @@ fn refused(head: Head, number: u8) -> Ran
     }
 }
 
-// One call on a state that is open and fits, by its head and the words of its waiting nodes.
-pub fn call_words(
+// One call on a state that is open and fits, by its head and the row of its waiting nodes, with so many fetch rounds and draws. Only a
+// stack and a queue have one fetch round.
+pub fn call_row(
     head: Head,
-    w: &mut [u64; WORDS],
+    w: &mut [u8],
     tree: &mut [u8],
     ticket: &[u8],
     tape: &[u16],
     trace: &mut [u16],
+    rounds: usize,
+    draws: usize,
 ) -> Ran
-    requires { ⌜ Stands head (now w) ⌝ }
+    requires { ⌜ Stands head (now w) × ((rounds ≡ roundsOf (head .structure) (head .size)) × (draws ≡ drawsOf (head .structure) (head .size))) ⌝ }
     ensures { λ r. ⌜ CallsAs head (now (w .entry)) (now (tree .entry)) (now (ticket .entry)) (now (tape .entry)) (now (trace .entry)) (now (w .exit)) (now (tree .exit)) (now (trace .exit)) r ⌝ }
 {
     let size = head.size as usize;
@@ -75,7 +76,6 @@ pub fn call_words(
     let stray = has_stray(ticket);
     let ahead = head.ahead;
     let keyless = out_of_keys(op, ahead.key);
-    let draws = draws_of(head.structure, head.size);
     if stray {
         return refused(head, 19);
     }
@@ -85,7 +85,6 @@ pub fn call_words(
     if tape.len() < draws {
         return refused(head, 6);
     }
-    let rounds = rounds_of(head.structure, head.size);
     if trace.len() < 2 * rounds {
         return refused(head, 7);
     }
@@ -100,5 +99,9 @@ pub fn call_words(
         rounds,
         tape,
     );
-    run::run(job, w, head.waiting as usize, tree, tape, trace)
+    let n = head.waiting as usize;
+    if rounds == 1 {
+        return run::run_short(job, w, n, tree, tape, trace);
+    }
+    run::run(job, w, n, tree, tape, trace)
 }

@@ -2,28 +2,29 @@
 use call_draws::spare_of;
 use call_ending::Ran;
 use call_ending::finish;
+use call_ending::short::finish_short;
+use call_ending::short::shut_short;
 use call_ending::shut;
 use fetch_rounds::fetch_rounds;
+use fetch_rounds::short::short_fetch;
+use held_keys::MOST_HELD;
 use idle_rounds::idle::draw_at;
 use node_rows::FETCHES;
 use node_rows::ROW;
 use operation_spec::Op;
 use operation_spec::Spares;
+use path_slots::PATH_SLOTS;
 use slot_spec::Ahead;
 use slot_spec::Link;
-use stash_words::WORDS;
 use tree_paths::leaves;
 use want_rounds::Job;
 ghost use mathlib.Core.Path.{_≡_};
+ghost use mathlib.Core.Bool.{true, false};
 ghost use Prim.Native.Nat.{_+_, _≤_, _<_};
 ghost use lib.ListN.{length};
-ghost use mathlib.Core.Bool.{true};
-ghost use Rattle.operation_spec.specs.Method.{toOp};
-ghost use Rattle.bucket_call_spec.specs.Call.{drawOf};
-ghost use Rattle.stash_laws.specs.Waiting.{Holds};
-ghost use Rattle.want_rounds.specs.Wanting.{storeAt};
-ghost use Rattle.call_ending.specs.Ending.{leftBy, endingCall};
-ghost use Rattle.call_core.specs.Run.{jobFor, Runs};
+ghost use Rattle.operation_spec.specs.Method.{structureAsked};
+ghost use Rattle.short_outcomes.specs.OneFetch.{oneFetch};
+ghost use Rattle.call_core.specs.Run.{jobFor, Runs, RanAs};
 
 // What the rounds of a call are for: a new node's tags come from the two draws after those of the fetch rounds, and from what is
 // known ahead.
@@ -62,28 +63,27 @@ pub fn job_for(
     }
 }
 
-// The rounds and the step, on a store whose n waiting nodes are in words.
+// The rounds and the step of a map or a heap, on a store whose n waiting nodes are in the row.
 pub fn run(
     job: Job,
-    w: &mut [u64; WORDS],
+    w: &mut [u8],
     n: usize,
     tree: &mut [u8],
     tape: &[u16],
     trace: &mut [u16],
 ) -> Ran
-    requires { ⌜ Runs job n (now w) (now tree) (now tape) (now trace) ⌝ }
-    ensures { λ r. ⌜ (leftBy (job .structure) (job .size) r (now (w .exit)) (now (tree .exit)) (now (trace .exit)) ≡ endingCall (job .structure) (job .size) (now (trace .entry)) (job .rounds) (toOp (job .op)) (drawOf (job .size) (now (tape .entry))) (storeAt job n (now (w .entry)) (now (tree .entry)))) × (Holds (r .waiting) (now (w .exit)) × (r .ran ≡ true)) ⌝ }
+    requires { ⌜ Runs job n (now w) (now tree) (now tape) (now trace) × (oneFetch (structureAsked (job .op)) ≡ false) ⌝ }
+    ensures { λ r. ⌜ RanAs job n (now (w .entry)) (now (tree .entry)) (now (tape .entry)) (now (trace .entry)) (now (w .exit)) (now (tree .exit)) (now (trace .exit)) r ⌝ }
 {
-    let mut s = [0u64; WORDS];
     let mut held = [0u64; ROW];
     let mut froms = [0u64; FETCHES];
     let mut made = [0u64; ROW];
-    let mut keys = [0u32; FETCHES];
+    let mut keys = [0u32; MOST_HELD];
+    let mut from = [0u32; PATH_SLOTS];
     let f = fetch_rounds(
         job,
         w,
         n,
-        &mut s,
         tree,
         &mut held,
         &mut froms,
@@ -91,6 +91,7 @@ pub fn run(
         &mut keys,
         tape,
         trace,
+        &mut from,
     );
     if f.mark != 0 {
         return shut(job, f, w, &mut held, &froms);
@@ -99,12 +100,33 @@ pub fn run(
         job,
         f,
         w,
-        &mut s,
         tree,
         &held,
         &mut made,
         &keys,
         tape,
         trace,
+        &mut from,
     )
+}
+
+// The rounds and the step of a stack or a queue: its one node is held by value.
+pub fn run_short(
+    job: Job,
+    w: &mut [u8],
+    n: usize,
+    tree: &mut [u8],
+    tape: &[u16],
+    trace: &mut [u16],
+) -> Ran
+    requires { ⌜ Runs job n (now w) (now tree) (now tape) (now trace) × (oneFetch (structureAsked (job .op)) ≡ true) ⌝ }
+    ensures { λ r. ⌜ RanAs job n (now (w .entry)) (now (tree .entry)) (now (tape .entry)) (now (trace .entry)) (now (w .exit)) (now (tree .exit)) (now (trace .exit)) r ⌝ }
+{
+    let keys = [0u32; MOST_HELD];
+    let mut from = [0u32; PATH_SLOTS];
+    let r = short_fetch(job, w, n, tree, &keys, tape, trace, &mut from);
+    if r.fetched.mark != 0 {
+        return shut_short(job, r, w);
+    }
+    finish_short(job, r, w, tree, &keys, tape, trace, &mut from)
 }

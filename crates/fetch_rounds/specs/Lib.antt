@@ -1,1 +1,3 @@
 pub mod FetchLaws
+pub mod Short
+pub mod ShortLaws

@@ -1,18 +1,15 @@
 -- What a call over bytes hands to the core, and what it leaves of the state.
 use mathlib.Core.Path.{_≡_}
-use mathlib.Core.Bool.{true, _&&_}
+use mathlib.Core.Bool.{_&&_}
 use mathlib.Core.List.{List}
 use Prim.Native.Nat.{ℕ, min, _*_, _/_}
 use lib.Dec.{eqb}
-use lib.ListN.{length, drop}
+use lib.ListN.{length}
 use Rattle.list_spec.specs.Choice.{pick}
-use Rattle.state_spec.specs.Fit.{places, fits}
 use Rattle.state_spec.specs.Fetching.{roundsOf, drawsOf}
-use Rattle.stash_laws.specs.Waiting.{Holds}
 use Rattle.lent_bytes_spec.specs.declared.StateHead.{StateHead}
 use Rattle.lent_bytes_spec.specs.Numbers.{numberLength}
-use Rattle.lent_bytes_spec.specs.StateBytes.{headLength, stateLength, rootIn, aheadIn, slotsSound}
-use Rattle.byte_states.specs.Loading.{stateOf}
+use Rattle.lent_bytes_spec.specs.StateBytes.{rootIn, aheadIn}
 use Rattle.call_core.specs.declared.Head.{Head}
 use Rattle.call_core.specs.Run.{Stands}
 use Rattle.call_ending.specs.declared.Ran.{Ran}
@@ -23,10 +20,12 @@ coreHead h = record { structure = h .structure; size = h .size; entries = h .ent
 
 -- What a call over rows needs: a row for as many numbers as it takes of the tape, and one for as many leaves as the trace has places, both at
 -- most as many as it can use.
-pub record Rows (head : Head) (words tape trace numbers leaves : List ℕ) : Type 0 where
-  pub stands : Stands head words
-  pub draws : length numbers ≡ min (length tape / numberLength) (drawsOf (head .structure) (head .size))
-  pub places : length leaves ≡ min (length trace / numberLength) (2 * roundsOf (head .structure) (head .size))
+pub record Rows (head : Head) (row tape trace numbers leaves : List ℕ) (rounds draws : ℕ) : Type 0 where
+  pub stands : Stands head row
+  pub rounds-are : rounds ≡ roundsOf (head .structure) (head .size)
+  pub draws-are : draws ≡ drawsOf (head .structure) (head .size)
+  pub taken : length numbers ≡ min (length tape / numberLength) draws
+  pub places : length leaves ≡ min (length trace / numberLength) (2 * rounds)
 
 -- The head that is left.
 abbrev pub headLeft : StateHead → Ran → StateHead
@@ -42,10 +41,3 @@ headLeft h r =
       tag = r .root .tag;
       ahead = r .ahead .tag;
     }
-
--- What saving needs: the nodes that wait are in words, and the state's own slots were sound and fit.
-pub record Saves (h : StateHead) (r : Ran) (state words : List ℕ) : Type 0 where
-  pub holds : Holds (r .waiting) words
-  pub sized : length state ≡ stateLength
-  pub sound : slotsSound places (drop headLength state) ≡ true
-  pub fit : fits (stateOf h (drop headLength state)) ≡ true

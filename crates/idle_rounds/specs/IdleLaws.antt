@@ -102,16 +102,15 @@ goes-on m g p e = rw (eq-eqb m 0 e)
 pub stops-here : (m : ℕ) (g : Going) (p : Prog ℕ (Outcome ℕ)) → (m ≡ 0 → ⊥) → endedWith m g p ≡ shut m g
 stops-here m g p e = rw (ne-eqb m 0 e)
 
-module _ {k n : ℕ} {words scratch tree held : List ℕ} (b : Between k n words scratch tree held) where
+module _ {k n : ℕ} {row tree held : List ℕ} (b : Between k n row tree held) where
   -- A round can begin.
-  pub between-ready : (leaf : ℕ) → leaf < 2 ^ k → RoundReady k leaf n words scratch tree held
+  pub between-ready : (leaf : ℕ) → leaf < 2 ^ k → RoundReady k leaf n row tree held
   between-ready leaf h =
       record {
         small = b .small;
         is-leaf = h;
         is-tree = b .is-tree;
         holds = b .rests .holds;
-        scratch-sized = b .rests .scratch-sized;
         tags = λ m i. leaves-lawful .tag-is-leaf k m (b .proper m i);
         order = b .rests .order;
         apart = b .rests .apart;
@@ -119,13 +118,13 @@ module _ {k n : ℕ} {words scratch tree held : List ℕ} (b : Between k n words
       }
 
   -- After a round that goes on another can begin.
-  pub between-again : {leaf : ℕ} {words′ scratch′ tree′ : List ℕ} {r : Rounded} → leaf < 2 ^ k → Idled k leaf n words tree held words′ scratch′ tree′ r → r .mark ≡ 0
-      → Between k (r .waiting) words′ scratch′ tree′ held
-  between-again {leaf} {words′} {scratch′} {tree′} {r} h i e =
+  pub between-again : {leaf : ℕ} {row′ tree′ : List ℕ} {r : Rounded} → leaf < 2 ^ k → Idled k leaf n row tree held row′ tree′ r → r .mark ≡ 0
+      → Between k (r .waiting) row′ tree′ held
+  between-again {leaf} {row′} {tree′} {r} h i e =
       let hs = map standIn held in
       let p : Prog ℕ (Outcome ℕ) = done (record { nodes = []; root = absent 0; entries = 0; answer = answer.absent }) in
-      let g′ = going (r .waiting) words′ tree′ hs ([] ++ (leaf ∷ [])) in
-      let kept = idle-kept k leaf h p (going n words tree hs []) (b .is-tree) (b .proper) g′ (i .round hs [] p (stand-keys held) ∙ goes-on (r .mark) g′ p e) in
+      let g′ = going (r .waiting) row′ tree′ hs ([] ++ (leaf ∷ [])) in
+      let kept = idle-kept k leaf h p (going n row tree hs []) (b .is-tree) (b .proper) g′ (i .round hs [] p (stand-keys held) ∙ goes-on (r .mark) g′ p e) in
       let many : length (map standIn held) ≡ length held = length-map held standIn in
       record {
         small = b .small;
@@ -137,16 +136,16 @@ module _ {k n : ℕ} {words scratch tree held : List ℕ} (b : Between k n words
 
 -- ---- the rounds, one by one
 -- After i of the rounds: those that are left come to what all of them come to, and the peak of all is that of these or of the i.
-pub record Idling (k n : ℕ) (draw : ℕ → ℕ) (count first at : ℕ) (words₀ tree₀ trace₀ held : List ℕ) (i m peak : ℕ) (words scratch tree trace : List ℕ) : Type 0 where
+pub record Idling (k n : ℕ) (draw : ℕ → ℕ) (count first at : ℕ) (row₀ tree₀ trace₀ held : List ℕ) (i m peak : ℕ) (row tree trace : List ℕ) : Type 0 where
   pub upto : i ≤ count
   pub rest : (hs : List Held) (ls : List ℕ) (o : Outcome ℕ) → keysHeld hs ≡ held
-      → putRounds k draw count first o (going n words₀ tree₀ hs ls)
-      ≡ putRounds k draw (count - i) (first + i) o (going m words tree hs (ls ++ drawsFrom draw i first))
+      → putRounds k draw count first o (going n row₀ tree₀ hs ls)
+      ≡ putRounds k draw (count - i) (first + i) o (going m row tree hs (ls ++ drawsFrom draw i first))
   pub peaks : (s : Structure) (e : ℕ) (hs : List Held) (ls : List ℕ) (o : Outcome ℕ) → keysHeld hs ≡ held
-      → peakOf (roundsFrom s e k draw count first (done o) (going n words₀ tree₀ hs ls))
-      ≡ max peak (peakOf (roundsFrom s e k draw (count - i) (first + i) (done o) (going m words tree hs (ls ++ drawsFrom draw i first))))
+      → peakOf (roundsFrom s e k draw count first (done o) (going n row₀ tree₀ hs ls))
+      ≡ max peak (peakOf (roundsFrom s e k draw (count - i) (first + i) (done o) (going m row tree hs (ls ++ drawsFrom draw i first))))
   pub revealed : trace ≡ sets trace₀ at (drawsFrom draw i first)
-  pub between : Between k m words scratch tree held
+  pub between : Between k m row tree held
 
 pub draws-one : (draw : ℕ → ℕ) (d : ℕ) → drawsFrom draw 1 d ≡ draw d ∷ []
 unfolding drawsFrom
@@ -160,10 +159,10 @@ sets-one-more : (vs l : List ℕ) (i v : ℕ) → set (sets l i vs) (i + length 
 sets-one-more [] l i v = rw (add-zero i)
 sets-one-more (a ∷ vs) l i v = rw (add-suc i (length vs), ← suc-add i (length vs)) (sets-one-more vs (set l i a) (suc i) v)
 
-module _ (k n : ℕ) (draw : ℕ → ℕ) (count first at : ℕ) (words₀ tree₀ trace₀ held : List ℕ) where
+module _ (k n : ℕ) (draw : ℕ → ℕ) (count first at : ℕ) (row₀ tree₀ trace₀ held : List ℕ) where
   -- Before the first.
-  pub idling-begins : {scratch : List ℕ} → Between k n words₀ scratch tree₀ held
-      → Idling k n draw count first at words₀ tree₀ trace₀ held 0 n 0 words₀ scratch tree₀ trace₀
+  pub idling-begins : Between k n row₀ tree₀ held
+      → Idling k n draw count first at row₀ tree₀ trace₀ held 0 n 0 row₀ tree₀ trace₀
   unfolding drawsFrom
   idling-begins b =
       record {
@@ -174,27 +173,27 @@ module _ (k n : ℕ) (draw : ℕ → ℕ) (count first at : ℕ) (words₀ tree�
         between = b;
       }
 
-  module _ {i m peak : ℕ} {words scratch tree trace : List ℕ} (inv : Idling k n draw count first at words₀ tree₀ trace₀ held i m peak words scratch tree trace) where
+  module _ {i m peak : ℕ} {row tree trace : List ℕ} (inv : Idling k n draw count first at row₀ tree₀ trace₀ held i m peak row tree trace) where
     pub idling-sized : length trace ≡ length trace₀
     idling-sized = ap length (inv .revealed) ∙ length-sets trace₀ at (drawsFrom draw i first)
 
     -- The last was made.
-    pub idling-ends : count ≤ i → IdledAll k n draw count first at words₀ tree₀ trace₀ held words scratch tree trace (record { mark = 0; waiting = m; shown = count; peak = peak })
+    pub idling-ends : count ≤ i → IdledAll k n draw count first at row₀ tree₀ trace₀ held row tree trace (record { mark = 0; waiting = m; shown = count; peak = peak })
     idling-ends h =
         let all : i ≡ count = omega (arith, inv .upto) in
         let none : count - i ≡ 0 = omega arith in
         record {
-          rounds = λ hs ls o e. inv .rest hs ls o e ∙ rw (none, all) (put-none k draw (first + count) o (going m words tree hs (ls ++ drawsFrom draw count first)));
+          rounds = λ hs ls o e. inv .rest hs ls o e ∙ rw (none, all) (put-none k draw (first + count) o (going m row tree hs (ls ++ drawsFrom draw count first)));
           peaked = λ s x hs ls o e.
-              inv .peaks s x hs ls o e ∙ rw (none, rounds-none s x k draw (first + i) (done o) (going m words tree hs (ls ++ drawsFrom draw i first)), peak-none (Outcome ℕ)) (omega arith);
+              inv .peaks s x hs ls o e ∙ rw (none, rounds-none s x k draw (first + i) (done o) (going m row tree hs (ls ++ drawsFrom draw i first)), peak-none (Outcome ℕ)) (omega arith);
           revealed = inv .revealed ∙ rw all;
           rests = inv .between .rests;
           no-more = omega arith;
           all-shown = λ e. refl;
         }
 
-    module _ {leaf : ℕ} {words′ scratch′ tree′ trace′ : List ℕ} {r : Rounded} (more : i < count) (drawn : leaf ≡ draw (first + i)) (is-leaf : leaf < 2 ^ k)
-        (stored : trace′ ≡ set trace (at + i) leaf) (round : Idled k leaf m words tree held words′ scratch′ tree′ r) {peak′ : ℕ} (raised : peak′ ≡ max peak (r .count)) where
+    module _ {leaf : ℕ} {row′ tree′ trace′ : List ℕ} {r : Rounded} (more : i < count) (drawn : leaf ≡ draw (first + i)) (is-leaf : leaf < 2 ^ k)
+        (stored : trace′ ≡ set trace (at + i) leaf) (round : Idled k leaf m row tree held row′ tree′ r) {peak′ : ℕ} (raised : peak′ ≡ max peak (r .count)) where
       left : count - i ≡ suc (count - (i + 1))
       left = omega arith
 
@@ -209,38 +208,38 @@ module _ (k n : ℕ) (draw : ℕ → ℕ) (count first at : ℕ) (words₀ tree�
           ∙ sets-one-more (drawsFrom draw i first) trace₀ at (draw (first + i)))
 
       abbrev goingThen : List Held → List ℕ → Going
-      goingThen hs ls = going (r .waiting) words′ tree′ hs (ls ++ drawsFrom draw (i + 1) first)
+      goingThen hs ls = going (r .waiting) row′ tree′ hs (ls ++ drawsFrom draw (i + 1) first)
 
       round-at : (hs : List Held) (ls : List ℕ) (o : Outcome ℕ) → keysHeld hs ≡ held
-          → idleRound k (draw (first + i)) (done o) (going m words tree hs (ls ++ drawsFrom draw i first)) ≡ endedWith (r .mark) (goingThen hs ls) (done o)
+          → idleRound k (draw (first + i)) (done o) (going m row tree hs (ls ++ drawsFrom draw i first)) ≡ endedWith (r .mark) (goingThen hs ls) (done o)
       round-at hs ls o e =
           rw (← drawn) (round .round hs (ls ++ drawsFrom draw i first) (done o) e)
-          ∙ ap (λ (seen : List ℕ). endedWith (r .mark) (going (r .waiting) words′ tree′ hs seen) (done o))
+          ∙ ap (λ (seen : List ℕ). endedWith (r .mark) (going (r .waiting) row′ tree′ hs seen) (done o))
           (append-assoc ls (drawsFrom draw i first) (leaf ∷ []) ∙ ap (λ (ds : List ℕ). ls ++ ds) (rw drawn (sym (draws-one-more draw i first))))
 
       -- The round is the next of those that are listed, and has that count.
       next-at : (s : Structure) (x : ℕ) (hs : List Held) (ls : List ℕ) (o : Outcome ℕ) → keysHeld hs ≡ held
-          → fetchRound s x k (draw (first + i)) (done o) (going m words tree hs (ls ++ drawsFrom draw i first)) ≡ endedWith (r .mark) (goingThen hs ls) (done o)
-      next-at s x hs ls o e = done-round s x k (draw (first + i)) o (going m words tree hs (ls ++ drawsFrom draw i first)) ∙ round-at hs ls o e
+          → fetchRound s x k (draw (first + i)) (done o) (going m row tree hs (ls ++ drawsFrom draw i first)) ≡ endedWith (r .mark) (goingThen hs ls) (done o)
+      next-at s x hs ls o e = done-round s x k (draw (first + i)) o (going m row tree hs (ls ++ drawsFrom draw i first)) ∙ round-at hs ls o e
 
       next-count : (s : Structure) (x : ℕ) (hs : List Held) (ls : List ℕ) (o : Outcome ℕ) → keysHeld hs ≡ held
-          → peakAt (fetchRound s x k (draw (first + i)) (done o) (going m words tree hs (ls ++ drawsFrom draw i first))) ≡ r .count
+          → peakAt (fetchRound s x k (draw (first + i)) (done o) (going m row tree hs (ls ++ drawsFrom draw i first))) ≡ r .count
       next-count s x hs ls o e =
-          ap peakAt (done-round s x k (draw (first + i)) o (going m words tree hs (ls ++ drawsFrom draw i first)))
+          ap peakAt (done-round s x k (draw (first + i)) o (going m row tree hs (ls ++ drawsFrom draw i first)))
           ∙ rw (← drawn) (round .counted hs (ls ++ drawsFrom draw i first) (done o) e)
 
       pub idling-shuts : (r .mark ≡ 0 → ⊥)
-          → IdledAll k n draw count first at words₀ tree₀ trace₀ held words′ scratch′ tree′ trace′ (record { mark = r .mark; waiting = r .waiting; shown = i + 1; peak = peak′ })
+          → IdledAll k n draw count first at row₀ tree₀ trace₀ held row′ tree′ trace′ (record { mark = r .mark; waiting = r .waiting; shown = i + 1; peak = peak′ })
       idling-shuts h =
           record {
             rounds = λ hs ls o e.
                 inv .rest hs ls o e ∙ rw left
-                (put-shuts k draw (count - (i + 1)) (first + i) o (going m words tree hs (ls ++ drawsFrom draw i first)) (goingThen hs ls) (r .mark)
+                (put-shuts k draw (count - (i + 1)) (first + i) o (going m row tree hs (ls ++ drawsFrom draw i first)) (goingThen hs ls) (r .mark)
                 (round-at hs ls o e ∙ stops-here (r .mark) (goingThen hs ls) (done o) h)
                 ∙ sym (stops-here (r .mark) (goingThen hs ls) (done o) h));
             peaked = λ s x hs ls o e.
                 inv .peaks s x hs ls o e ∙ rw left
-                (peak-shuts s x k draw (count - (i + 1)) (first + i) (done o) (going m words tree hs (ls ++ drawsFrom draw i first)) (goingThen hs ls) (r .mark)
+                (peak-shuts s x k draw (count - (i + 1)) (first + i) (done o) (going m row tree hs (ls ++ drawsFrom draw i first)) (goingThen hs ls) (r .mark)
                 (next-at s x hs ls o e ∙ stops-here (r .mark) (goingThen hs ls) (done o) h) peak
                 ∙ ap (max peak) (next-count s x hs ls o e) ∙ sym raised);
             revealed = revealed-one-more;
@@ -249,17 +248,17 @@ module _ (k n : ℕ) (draw : ℕ → ℕ) (count first at : ℕ) (words₀ tree�
             all-shown = λ e. absurd (h e);
           }
 
-      pub idling-goes : r .mark ≡ 0 → Idling k n draw count first at words₀ tree₀ trace₀ held (i + 1) (r .waiting) peak′ words′ scratch′ tree′ trace′
+      pub idling-goes : r .mark ≡ 0 → Idling k n draw count first at row₀ tree₀ trace₀ held (i + 1) (r .waiting) peak′ row′ tree′ trace′
       idling-goes h =
           record {
             upto = omega arith;
             rest = λ hs ls o e.
                 inv .rest hs ls o e ∙ rw (left, later)
-                (put-goes k draw (count - (i + 1)) (first + i) o (going m words tree hs (ls ++ drawsFrom draw i first)) (goingThen hs ls)
+                (put-goes k draw (count - (i + 1)) (first + i) o (going m row tree hs (ls ++ drawsFrom draw i first)) (goingThen hs ls)
                 (round-at hs ls o e ∙ goes-on (r .mark) (goingThen hs ls) (done o) h));
             peaks = λ s x hs ls o e.
                 inv .peaks s x hs ls o e ∙ rw (left, later)
-                (peak-goes s x k draw (count - (i + 1)) (first + i) (done o) (going m words tree hs (ls ++ drawsFrom draw i first)) (goingThen hs ls) (done o)
+                (peak-goes s x k draw (count - (i + 1)) (first + i) (done o) (going m row tree hs (ls ++ drawsFrom draw i first)) (goingThen hs ls) (done o)
                 (next-at s x hs ls o e ∙ goes-on (r .mark) (goingThen hs ls) (done o) h) peak
                 ∙ ap (λ (c : ℕ). max c (peakOf (roundsFrom s x k draw (count - (i + 1)) (suc (first + i)) (done o) (goingThen hs ls)))) (ap (max peak) (next-count s x hs ls o e) ∙ sym raised));
             revealed = revealed-one-more;

@@ -5,6 +5,7 @@ use lib.Dec.{eqb}
 use lib.ListN.{take}
 use Rattle.list_spec.specs.Choice.{pick}
 use Rattle.method_spec.specs.Prog.{From, root, side}
+use Rattle.held_keys.specs.Held.{mostHeld}
 
 -- The places of a row, its words, and the most fetches of a call.
 abbrev pub places : ℕ
@@ -14,7 +15,7 @@ abbrev pub words : ℕ
 words = 4 * places
 
 abbrev pub fetches : ℕ
-fetches = 33
+fetches = mostHeld
 
 -- 0: the root link. Else the key in 32 bits above the lowest, which is 1 for the left side.
 unfoldable pub fromIn : ℕ → From

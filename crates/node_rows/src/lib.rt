@@ -1,5 +1,6 @@
 // For the length of a call the nodes that it has fetched, and those that its step makes, stand in rows of lent words, a slot's
 // words to a node; a second row says where the link to each fetched node stood.
+use held_keys::MOST_HELD;
 use operation_spec::From;
 use slot_fields::node_of;
 use slot_fields::slot_of;
@@ -13,8 +14,8 @@ ghost use Rattle.slot_spec.specs.Row.{nodesFrom};
 ghost use Rattle.operation_spec.specs.Method.{toFrom};
 ghost use Rattle.node_rows.specs.Row.{places, words, fetches, fromIn};
 
-// The most fetch rounds of a call: three for each level of the greatest height, 11.
-pub const FETCHES: usize = 33;
+// The most fetch rounds of a call, each of which may bring a node.
+pub const FETCHES: usize = MOST_HELD;
 
 // The most nodes that a step makes of them: those, and a new one. A row has as many places.
 pub const NODES: usize = 34;

@@ -12,8 +12,9 @@ use Rattle.slot_spec.specs.Slot.{fieldsIn, slotBytes, nodeOf}
 use Rattle.slot_spec.specs.declared.Slot.{Slot}
 use Rattle.method_spec.specs.Node.{Node}
 use Rattle.list_spec.specs.Ascending.{ascending, ascendingFrom}
-use Rattle.slot_spec.specs.Row.{slotsOf, zeroSlot}
-use Rattle.word_round_laws.specs.WordsLaws.{slots-count}
+use Rattle.slot_spec.specs.Row.{zeroSlot}
+use Rattle.word_round_laws.specs.SlotRow.{slotsIn}
+use Rattle.word_round_laws.specs.SlotRowLaws.{slots-count}
 use Rattle.stash_laws.specs.Waiting.{nodeIn, Holds}
 use Rattle.one_round.specs.OneRound.{keysWaiting}
 
@@ -48,16 +49,16 @@ nodes-key [] i h = let z : ⊥ = omega arith in absurd z
 nodes-key (x ∷ xs) zero h = refl
 nodes-key (x ∷ xs) (suc i) h = nodes-key xs i (omega arith)
 
-module _ (n : ℕ) (words : List ℕ) (holds : Holds n words) where
-  first-count : length (take n (slotsOf words)) ≡ n
-  first-count = length-take-le n (slotsOf words) (omega (arith, slots-count words (holds .sized), holds .few))
+module _ (n : ℕ) (row : List ℕ) (holds : Holds n row) where
+  first-count : length (take n (slotsIn row)) ≡ n
+  first-count = length-take-le n (slotsIn row) (omega (arith, slots-count row, holds .few))
 
-  pub keys-count : length (keysWaiting n words) ≡ n
-  keys-count = length-map (map nodeIn (take n (slotsOf words))) (λ (m : Node ℕ). m .key) ∙ length-map (take n (slotsOf words)) nodeIn ∙ first-count
+  pub keys-count : length (keysWaiting n row) ≡ n
+  keys-count = length-map (map nodeIn (take n (slotsIn row))) (λ (m : Node ℕ). m .key) ∙ length-map (take n (slotsIn row)) nodeIn ∙ first-count
 
-  pub waiting-key : (i : ℕ) (x : Slot) (key : ℕ) → i < n → x ≡ getD (slotsOf words) i zeroSlot → key ≡ fieldsIn (slotBytes x) .key
-      → getD (keysWaiting n words) i 0 ≡ key
+  pub waiting-key : (i : ℕ) (x : Slot) (key : ℕ) → i < n → x ≡ getD (slotsIn row) i zeroSlot → key ≡ fieldsIn (slotBytes x) .key
+      → getD (keysWaiting n row) i 0 ≡ key
   waiting-key i x key h is has =
-      nodes-key (take n (slotsOf words)) i (omega (arith, first-count))
-      ∙ ap (λ (y : Slot). fieldsIn (slotBytes y) .key) (getD-take n (slotsOf words) i zeroSlot h ∙ sym is)
+      nodes-key (take n (slotsIn row)) i (omega (arith, first-count))
+      ∙ ap (λ (y : Slot). fieldsIn (slotBytes y) .key) (getD-take n (slotsIn row) i zeroSlot h ∙ sym is)
       ∙ sym has

@@ -21,9 +21,9 @@ use Rattle.round_laws.specs.Same.{mapWritten}
 use Rattle.round_spec.specs.Whole.{Ascending}
 use Rattle.round_laws.specs.Sorted.{ascending-round}
 use Rattle.leaf_spec.specs.Leaf.{leafFormat}
-use Rattle.word_round_laws.specs.Words.{places}
-use Rattle.slot_spec.specs.Row.{slotsOf}
-use Rattle.path_reader.specs.Look.{removed, LookedFor}
+use Rattle.word_round_laws.specs.SlotRow.{places, slotsIn}
+use Rattle.path_reader.specs.Look.{LookedFor}
+use Rattle.word_round_laws.specs.Stash.{removed}
 use Rattle.eviction.specs.Settle.{Joint, Settled}
 use Rattle.word_round_laws.specs.JoinLaws.{none-twice-perm}
 use Rattle.word_round_laws.specs.KeepLaws.{takenKeys, read-distinct, write-distinct, write-holds}
@@ -39,17 +39,17 @@ use Rattle.one_round.specs.OneRound.{going, endedWith, RoundReady, Rests
 use Rattle.one_round.specs.ReadyLaws.{ready-leaves}
 use Rattle.one_round.specs.HandLaws.{InHand}
 
-module _ {k leaf n : ℕ} {words scratch tree held after : List ℕ} (ready : RoundReady k leaf n words scratch tree held) where
+module _ {k leaf n : ℕ} {row tree held after : List ℕ} (ready : RoundReady k leaf n row tree held) where
   -- What the write half needs, after a read half that found no damage.
-  pub looked-joint : (wish : Wish) (r : Looked) → LookedFor k leaf wish n words tree held after r → r .ok ≡ true
-      → (want : Bool) (at : ℕ) → (want ≡ true → at < r .count) → Joint k leaf (r .count) want at after words tree
+  pub looked-joint : (wish : Wish) (r : Looked) → LookedFor k leaf wish n row tree held after r → r .ok ≡ true
+      → (want : Bool) (at : ℕ) → (want ≡ true → at < r .count) → Joint k leaf (r .count) want at after tree
   looked-joint wish r looked good want at inside =
       record {
         size = omega (arith, ready .small);
         is-leaf = ready .is-leaf;
         tree-sized = ready .is-tree .sized;
-        joint-sized = looked .sized;
-        waiting-sized = ready .holds .sized;
+        sized = looked .sized;
+        blank = looked .blank good;
         room = omega (arith, looked .within, ready .small, ready .few);
         inside = inside;
         leaves = looked .leaves good (ready-leaves ready);
@@ -63,19 +63,19 @@ ended-at-close : (b : Bool) (g : Going) (p : Prog ℕ (Outcome ℕ)) → pick b 
 ended-at-close true g p = refl
 ended-at-close false g p = refl
 
-module _ {k leaf n : ℕ} {w : Option round.Wish} {words scratch tree held : List ℕ} {taken : Option Slot} {want : Bool} {at m : ℕ} {after scratch′ words′ tree′ : List ℕ} {left : ℕ}
-    (ready : RoundReady k leaf n words scratch tree held) (i : InHand k leaf n w words tree held taken (removed want at (take m (slotsOf after))))
-    (settled : Settled k leaf m want at after tree scratch′ words′ tree′ left) (room : m ≤ places) where
+module _ {k leaf n : ℕ} {w : Option round.Wish} {row tree held : List ℕ} {taken : Option Slot} {want : Bool} {at m : ℕ} {after row′ tree′ : List ℕ} {left : ℕ}
+    (ready : RoundReady k leaf n row tree held) (i : InHand k leaf n w row tree held taken (removed want at (take m (slotsIn after))))
+    (settled : Settled k leaf m want at after tree row′ tree′ left) (room : m ≤ places) where
   abbrev result : Written (Node ℕ)
   result = writeHalf leafFormat k leaf (i .hand .waiting) tree
 
-  settled-half : mapWritten wordsFor result ≡ record { waiting = take left (slotsOf words′); tree = tree′ }
+  settled-half : mapWritten wordsFor result ≡ record { waiting = take left (slotsIn row′); tree = tree′ }
   settled-half =
       sym (write-words k leaf (i .hand .waiting) tree (i .widths))
       ∙ ap (λ (xs : List Slot). writeHalf wordsFormat k leaf xs tree) (sym (i .waits))
       ∙ settled .half
 
-  settled-words : take left (slotsOf words′) ≡ map wordsFor (result .waiting)
+  settled-words : take left (slotsIn row′) ≡ map wordsFor (result .waiting)
   settled-words = sym (ap (λ (r : Written Slot). r .waiting) settled-half)
 
   settled-tree : result .tree ≡ tree′
@@ -84,8 +84,8 @@ module _ {k leaf n : ℕ} {w : Option round.Wish} {words scratch tree held : Lis
   result-widths : All InWidths (result .waiting)
   result-widths = write-holds leafFormat k leaf (i .hand .waiting) tree InWidths (i .widths)
 
-  settled-waiting : waitingIn left words′ ≡ result .waiting
-  settled-waiting = waiting-are left words′ (result .waiting) result-widths settled-words
+  settled-waiting : waitingIn left row′ ≡ result .waiting
+  settled-waiting = waiting-are left row′ (result .waiting) result-widths settled-words
 
   settled-count : length (result .waiting) ≡ left
   settled-count =
@@ -95,18 +95,17 @@ module _ {k leaf n : ℕ} {w : Option round.Wish} {words scratch tree held : Lis
       ∙ sym (settled .counted)
 
   -- What is left.
-  pub settled-rests : Rests left words′ scratch′ (held ++ takenKeys leafFormat (i .hand .taken))
+  pub settled-rests : Rests left row′ (held ++ takenKeys leafFormat (i .hand .taken))
   settled-rests =
       let h = i .hand in
       let apart : noneTwice (keysOf leafFormat (h .waiting) ++ (held ++ takenKeys leafFormat (h .taken))) ≡ true =
       sym (none-twice-perm (perm-append-left (keysOf leafFormat (h .waiting)) (perm-append-comm (takenKeys leafFormat (h .taken)) held)))
-      ∙ read-distinct leafFormat k tree leaf w held (waitingIn n words) h (ready .apart) (i .read) in
+      ∙ read-distinct leafFormat k tree leaf w held (waitingIn n row) h (ready .apart) (i .read) in
       record {
-        holds = holds-them left words′ (result .waiting) result-widths settled-words (settled .waiting-sized) (omega (arith, settled .fewer, room));
-        scratch-sized = settled .scratch-sized;
+        holds = holds-them left row′ (result .waiting) result-widths settled-words (settled .sized) (omega (arith, settled .fewer, room)) (settled .blank);
         order =
             subst (Ascending leafFormat) (sym settled-waiting)
-            (ascending-round leafFormat k tree leaf w held (waitingIn n words) h (i .read) (ready .order));
+            (ascending-round leafFormat k tree leaf w held (waitingIn n row) h (i .read) (ready .order));
         apart =
             subst (λ (ns : List (Node ℕ)). noneTwice (keysOf leafFormat ns ++ (held ++ takenKeys leafFormat (h .taken))) ≡ true) (sym settled-waiting)
             (write-distinct leafFormat k leaf (h .waiting) tree (held ++ takenKeys leafFormat (h .taken)) apart);
@@ -114,11 +113,11 @@ module _ {k leaf n : ℕ} {w : Option round.Wish} {words scratch tree held : Lis
 
   -- How the round ends, whatever is held from then on.
   pub settled-close : (hs hs′ : List Held) (ls : List ℕ) (p : Prog ℕ (Outcome ℕ)) (count mark : ℕ) → length hs′ ≡ count → mark ≡ pick (exceedsLimit left count) 9 0
-      → atClose (written k leaf (i .hand .waiting) hs′ (going n words tree hs ls)) p ≡ endedWith mark (going left words′ tree′ hs′ (ls ++ (leaf ∷ []))) p
+      → atClose (written k leaf (i .hand .waiting) hs′ (going n row tree hs ls)) p ≡ endedWith mark (going left row′ tree′ hs′ (ls ++ (leaf ∷ []))) p
   unfolding atClose
   settled-close hs hs′ ls p count mark sized marked =
-      let g : Going = going left words′ tree′ hs′ (ls ++ (leaf ∷ [])) in
-      let same : written k leaf (i .hand .waiting) hs′ (going n words tree hs ls) ≡ g =
+      let g : Going = going left row′ tree′ hs′ (ls ++ (leaf ∷ [])) in
+      let same : written k leaf (i .hand .waiting) hs′ (going n row tree hs ls) ≡ g =
       ap₂ (λ (t : List ℕ) (ns : List (Node ℕ)). record { tree = t; waiting = ns; held = hs′; leaves = ls ++ (leaf ∷ []) }) settled-tree (sym settled-waiting) in
       let many : tooMany g ≡ exceedsLimit left count = ap₂ exceedsLimit (ap length settled-waiting ∙ settled-count) sized in
       ap (λ (x : Going). atClose x p) same
@@ -128,6 +127,6 @@ module _ {k leaf n : ℕ} {w : Option round.Wish} {words scratch tree held : Lis
 
   -- What it counts then.
   pub settled-counts : (hs hs′ : List Held) (ls : List ℕ) (p : Prog ℕ (Outcome ℕ)) (held′ count : ℕ) → length hs′ ≡ held′ → count ≡ left + held′
-      → peakAt (atClose (written k leaf (i .hand .waiting) hs′ (going n words tree hs ls)) p) ≡ count
+      → peakAt (atClose (written k leaf (i .hand .waiting) hs′ (going n row tree hs ls)) p) ≡ count
   settled-counts hs hs′ ls p held′ count sized counted =
-      peak-close (written k leaf (i .hand .waiting) hs′ (going n words tree hs ls)) p ∙ omega (arith, settled-count)
+      peak-close (written k leaf (i .hand .waiting) hs′ (going n row tree hs ls)) p ∙ omega (arith, settled-count)

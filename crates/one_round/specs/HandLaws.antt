@@ -28,8 +28,10 @@ use Rattle.round_laws.specs.ReadHalf.{found, hand-perm}
 use Rattle.round_laws.specs.Same.{mapHand}
 use Rattle.leaf_spec.specs.Leaf.{leafFormat}
 use Rattle.leaf_spec.specs.Convert.{toNode}
-use Rattle.slot_spec.specs.Row.{slotsOf, zeroSlot}
-use Rattle.path_reader.specs.Look.{wishOf, wanted, removed, handOf, LookedFor}
+use Rattle.slot_spec.specs.Row.{zeroSlot}
+use Rattle.word_round_laws.specs.SlotRow.{slotsIn}
+use Rattle.path_reader.specs.Look.{wishOf, wanted, handOf, LookedFor}
+use Rattle.word_round_laws.specs.Stash.{removed}
 use Rattle.path_reader.specs.declared.Looked.{Looked}
 use Rattle.path_reader.specs.declared.Wish.{Wish}
 use Rattle.stash_laws.specs.Waiting.{wordsFor, nodeIn, InWidths, waitingIn}
@@ -60,25 +62,25 @@ map-some f none b e = let z : _≡_ {A = ℕ} 0 1 = cc in absurd (omega arith)
 map-some f (some a) b e = (a, refl, cc)
 
 -- What the read half has in hand over the nodes, where over the words it has these: their words are these.
-pub record InHand (k leaf n : ℕ) (w : Option round.Wish) (words tree held : List ℕ) (taken : Option Slot) (waiting : List Slot) : Type 0 where
+pub record InHand (k leaf n : ℕ) (w : Option round.Wish) (row tree held : List ℕ) (taken : Option Slot) (waiting : List Slot) : Type 0 where
   pub hand : Hand (Node ℕ)
-  pub read : readHalf leafFormat k tree leaf w held (waitingIn n words) ≡ some hand
+  pub read : readHalf leafFormat k tree leaf w held (waitingIn n row) ≡ some hand
   pub takes : Option·map wordsFor (hand .taken) ≡ taken
   pub waits : waiting ≡ map wordsFor (hand .waiting)
   pub taken-widths : All InWidths (listed (hand .taken))
   pub widths : All InWidths (hand .waiting)
 
-module _ {k leaf n : ℕ} {words scratch tree held after : List ℕ} (wish : Wish) (r : Looked) (ready : RoundReady k leaf n words scratch tree held)
-    (looked : LookedFor k leaf wish n words tree held after r) where
+module _ {k leaf n : ℕ} {row tree held after : List ℕ} (wish : Wish) (r : Looked) (ready : RoundReady k leaf n row tree held)
+    (looked : LookedFor k leaf wish n row tree held after r) where
   abbrev half : Option (Hand (Node ℕ))
-  half = readHalf leafFormat k tree leaf (wishOf wish) held (waitingIn n words)
+  half = readHalf leafFormat k tree leaf (wishOf wish) held (waitingIn n row)
 
   abbrev joint : List Slot
-  joint = take (r .count) (slotsOf after)
+  joint = take (r .count) (slotsIn after)
 
   looked-half : Option·map (mapHand wordsFor) half ≡ pick (r .ok) (some (handOf (wanted wish) (r .at) joint)) none
   looked-half =
-      sym (read-words k tree (ready .is-tree) leaf (ready .is-leaf) (wishOf wish) held (waitingIn n words) (ready .holds .ranged))
+      sym (read-words k tree (ready .is-tree) leaf (ready .is-leaf) (wishOf wish) held (waitingIn n row) (ready .holds .ranged))
       ∙ ap (readHalf wordsFormat k tree leaf (wishOf wish) held) (sym (ready .holds .exact))
       ∙ looked .half
 
@@ -86,12 +88,12 @@ module _ {k leaf n : ℕ} {words scratch tree held after : List ℕ} (wish : Wis
   looked-damage bad = map-none (mapHand wordsFor) half (looked-half ∙ rw bad)
 
   pub looked-hand : r .ok ≡ true
-      → InHand k leaf n (wishOf wish) words tree held (pick (wanted wish) (some (getD joint (r .at) zeroSlot)) none) (removed (wanted wish) (r .at) joint)
+      → InHand k leaf n (wishOf wish) row tree held (pick (wanted wish) (some (getD joint (r .at) zeroSlot)) none) (removed (wanted wish) (r .at) joint)
   looked-hand good =
       let q : Option·map (mapHand wordsFor) half ≡ some (handOf (wanted wish) (r .at) joint) = looked-half ∙ rw good in
       let m = map-some (mapHand wordsFor) half (handOf (wanted wish) (r .at) joint) q in
       let h = m .0 in
-      let all = hand-widths k tree (ready .is-tree) leaf (ready .is-leaf) (wishOf wish) held (waitingIn n words) (ready .holds .ranged) h (m .1) in
+      let all = hand-widths k tree (ready .is-tree) leaf (ready .is-leaf) (wishOf wish) held (waitingIn n row) (ready .holds .ranged) h (m .1) in
       record {
         hand = h;
         read = m .1;
@@ -102,13 +104,13 @@ module _ {k leaf n : ℕ} {words scratch tree held after : List ℕ} (wish : Wis
       }
 
 -- The node that was found is the one in hand.
-pub taken-node : {k leaf n : ℕ} {w : Option round.Wish} {words tree held : List ℕ} {waiting : List Slot} (at count : ℕ) (after : List ℕ) (node : node.Node)
-    → (i : InHand k leaf n w words tree held (some (getD (take count (slotsOf after)) at zeroSlot)) waiting) → at < count
-    → node ≡ nodeOf (fieldsIn (slotBytes (getD (slotsOf after) at zeroSlot))) → i .hand .taken ≡ some (toNode node)
+pub taken-node : {k leaf n : ℕ} {w : Option round.Wish} {row tree held : List ℕ} {waiting : List Slot} (at count : ℕ) (after : List ℕ) (node : node.Node)
+    → (i : InHand k leaf n w row tree held (some (getD (take count (slotsIn after)) at zeroSlot)) waiting) → at < count
+    → node ≡ nodeOf (fieldsIn (slotBytes (getD (slotsIn after) at zeroSlot))) → i .hand .taken ≡ some (toNode node)
 taken-node at count after node i inside is =
-    let m = map-some wordsFor (i .hand .taken) (getD (take count (slotsOf after)) at zeroSlot) (i .takes) in
+    let m = map-some wordsFor (i .hand .taken) (getD (take count (slotsIn after)) at zeroSlot) (i .takes) in
     let e = m .0 in
     let width : InWidths e = subst (λ (o : Option (Node ℕ)). All InWidths (listed o)) (m .1) (i .taken-widths) e (List·Memᴰ·head refl) in
     let same : e ≡ toNode node =
-    sym (node-in-words e width) ∙ ap nodeIn (m .2 ∙ getD-take count (slotsOf after) at zeroSlot inside) ∙ ap toNode (sym is) in
+    sym (node-in-words e width) ∙ ap nodeIn (m .2 ∙ getD-take count (slotsIn after) at zeroSlot inside) ∙ ap toNode (sym is) in
     m .1 ∙ ap (λ (x : Node ℕ). some x) same

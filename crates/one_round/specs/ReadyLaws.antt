@@ -11,8 +11,7 @@ use Rattle.round_spec.specs.Round.{keysOf, noneTwice}
 use Rattle.round_spec.specs.Nodes.{wordsFormat}
 use Rattle.list_spec.specs.Ascending.{ascending}
 use Rattle.leaf_spec.specs.Leaf.{leafFormat}
-use Rattle.word_round_laws.specs.Words.{Leaves}
-use Rattle.slot_spec.specs.Row.{slotsOf}
+use Rattle.word_round_laws.specs.SlotRow.{Leaves, slotsIn}
 use Rattle.path_reader.specs.Look.{Fit}
 use Rattle.stash_laws.specs.Waiting.{wordsFor, InWidths, waitingIn}
 use Rattle.stash_laws.specs.WaitingLaws.{leaf-carried}
@@ -31,24 +30,24 @@ leaves-of-words k ns r tags x m =
     subst (λ (y : Slot). wordsFormat .tag y < 2 ^ k) (q .2)
     (rw (leaf-carried .tag (q .0) (r (q .0) (q .1))) (tags (q .0) (q .1)))
 
-module _ {k leaf n : ℕ} {words scratch tree held : List ℕ} (ready : RoundReady k leaf n words scratch tree held) where
+module _ {k leaf n : ℕ} {row tree held : List ℕ} (ready : RoundReady k leaf n row tree held) where
   -- The words' keys are those of the waiting nodes.
-  pub ready-keys : keysOf wordsFormat (take n (slotsOf words)) ≡ keysWaiting n words
-  ready-keys = ap (keysOf wordsFormat) (ready .holds .exact) ∙ keys-of-words (waitingIn n words) (ready .holds .ranged)
+  pub ready-keys : keysOf wordsFormat (take n (slotsIn row)) ≡ keysWaiting n row
+  ready-keys = ap (keysOf wordsFormat) (ready .holds .exact) ∙ keys-of-words (waitingIn n row) (ready .holds .ranged)
 
-  pub ready-leaves : Leaves k (take n (slotsOf words))
+  pub ready-leaves : Leaves k (take n (slotsIn row))
   ready-leaves =
-      subst (Leaves k) (sym (ready .holds .exact)) (leaves-of-words k (waitingIn n words) (ready .holds .ranged) (ready .tags))
+      subst (Leaves k) (sym (ready .holds .exact)) (leaves-of-words k (waitingIn n row) (ready .holds .ranged) (ready .tags))
 
   -- What the read half needs.
-  pub ready-fit : Fit k leaf n words scratch tree held
+  pub ready-fit : Fit k leaf n row tree held
   ready-fit =
       record {
         size = omega (arith, ready .small);
         is-leaf = ready .is-leaf;
         tree-sized = ready .is-tree .sized;
         waiting-sized = ready .holds .sized;
-        scratch-sized = ready .scratch-sized;
+        blank = ready .holds .blank;
         room = omega (arith, ready .small, ready .few);
         order = ap ascending ready-keys ∙ ready .order;
         distinct = ap (λ (ks : List ℕ). noneTwice (ks ++ held)) ready-keys ∙ ready .apart;

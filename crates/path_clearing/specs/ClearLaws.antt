@@ -18,6 +18,7 @@ use Rattle.slot_laws.specs.SlotLaws.{all-zero-replicate, slot-length}
 use Rattle.slot_spec.specs.LittleEndian.{bytes}
 use Rattle.round_spec.specs.Round.{withBucket}
 use Rattle.slot_spec.specs.Row.{zeroSlot}
+use Rattle.word_round_laws.specs.SlotRow.{levels}
 use Rattle.word_round_laws.specs.Fill.{cleared, emptied}
 use Rattle.word_round_laws.specs.Gather.{slotFrom, fourFrom, slotStarts, fullStarts, PathGathered}
 use Rattle.list_laws.specs.DistinctLaws.{all-nil, all-cons, all-append, all-getD}
@@ -140,7 +141,7 @@ starts-aligned zero b = four-aligned b [] (all-nil Aligned)
 starts-aligned (suc n) b = four-aligned b (slotStarts (halvings n (b / 2))) (starts-aligned n (b / 2))
 
 -- Number i of those that were gathered.
-pub start-aligned : (k t : ℕ) (tree from : List ℕ) (full i : ℕ) → PathGathered k t tree from full → k ≤ 15 → i < full → Aligned (getD from i 0)
+pub start-aligned : (k t : ℕ) (tree from : List ℕ) (full i : ℕ) → PathGathered k t tree from full → k < levels → i < full → Aligned (getD from i 0)
 start-aligned k t tree from full i g s h =
     let l = length-take full from in
     let f = ap length (g .starts) in

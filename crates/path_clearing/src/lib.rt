@@ -11,6 +11,7 @@ ghost use lib.Seq.{sets};
 ghost use Rattle.slot_spec.specs.Tree.{path, slotLength, treeLength};
 ghost use Rattle.slot_spec.specs.Slot.{slotBytes};
 ghost use Rattle.slot_spec.specs.Row.{zeroSlot};
+ghost use Rattle.word_round_laws.specs.SlotRow.{levels};
 ghost use Rattle.word_round_laws.specs.Gather.{PathGathered};
 ghost use Rattle.word_round_laws.specs.Fill.{cleared};
 
@@ -33,7 +34,7 @@ fn clear_slot(tree: &mut [u8], size: usize, at: usize)
 // The buckets of a leaf's path get zero bytes. Only the full slots are written, whose starts the read half gathered: the others
 // are zero already.
 pub fn clear_path(tree: &mut [u8], size: usize, leaf: usize, from: &[u32; PATH_SLOTS], full: usize)
-    requires { ⌜ (size ≤ 15) × (leaf < 2 ^ size) × (length (now tree) ≡ treeLength size) × PathGathered size leaf (now tree) (now from) full ⌝ }
+    requires { ⌜ (size < levels) × (leaf < 2 ^ size) × (length (now tree) ≡ treeLength size) × PathGathered size leaf (now tree) (now from) full ⌝ }
     ensures { λ _. ⌜ now (tree .exit) ≡ cleared (now (tree .entry)) (path size leaf) ⌝ }
 {
     let mut i = 0;

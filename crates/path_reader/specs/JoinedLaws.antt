@@ -1,26 +1,27 @@
 -- How joining went, case by case, and turn by turn.
-use mathlib.Core.Path.{_≡_, refl, sym, _∙_, ap}
+use mathlib.Core.Path.{_≡_, refl, sym, _∙_, ap, subst}
 use mathlib.Core.Bool.{Bool, true, false}
-use mathlib.Core.List.{List, [], _∷_, _++_, map}
+use mathlib.Core.List.{List, [], _∷_, _++_, map, map-append}
 use mathlib.Core.Option.{none, some}
-use Prim.Native.Nat.{ℕ, _+_, _*_, _^_, _≤_, _<_}
+use Prim.Native.Nat.{ℕ, suc, _+_, _*_, _^_, _≤_, _<_}
 use native.Mathlib.Numerals.{add-one}
 use native.Mathlib.Omega.{arith}
-use lib.ListN.{length, take, length-append, length-map}
+use lib.ListN.{length, take, drop, getD, length-append, length-map, length-take}
+use lib.Seq.{take-suc, split-at, getD-take, take-take}
 use Rattle.list_spec.specs.Choice.{pick}
+use Rattle.slot_spec.specs.Slot.{slotBytes}
 use Rattle.slot_spec.specs.Tree.{leafBucket, path, treeLength}
 use Rattle.slot_laws.specs.TreeLaws.{halvings-length}
 use Rattle.slot_spec.specs.declared.Slot.{Slot}
 use Rattle.round_spec.specs.Format.{Read}
 use Rattle.round_spec.specs.Round.{keysOf, readBucket, readBuckets}
 use Rattle.round_spec.specs.Nodes.{wordsFormat}
-use Rattle.word_round_laws.specs.Words.{wordCount, Leaves}
-use Rattle.slot_spec.specs.Row.{slotsOf}
+use Rattle.word_round_laws.specs.SlotRow.{rowLength, Blank, Leaves, slotsIn}
 use Rattle.list_spec.specs.Ascending.{ascending}
 use Rattle.word_round_laws.specs.Stash.{joinReadings}
-use Rattle.word_round_laws.specs.StashLaws.{Ascending, ascending-holds}
+use Rattle.word_round_laws.specs.StashLaws.{ascending-holds, ascending-test}
 use Rattle.word_round_laws.specs.JoinLaws.{readings-then, readings-stop, readings-ascending}
-use Rattle.word_round_laws.specs.Gather.{slotStarts, fullStarts, readFrom}
+use Rattle.word_round_laws.specs.Gather.{slotFrom, slotStarts, fullStarts, bucketOf, readFrom}
 use Rattle.word_round_laws.specs.GatherLaws.{full-length, starts-length, path-joined}
 use Rattle.path_reader.specs.Joined.{outcome, ReadingsJoined}
 use Rattle.path_reader.specs.declared.Joined.{Joined}
@@ -29,69 +30,101 @@ pub outcome-damage : (n : ℕ) (after : List ℕ) → outcome (record { ok = fal
 unfolding outcome
 outcome-damage n after = refl
 
-pub outcome-good : (n : ℕ) (after : List ℕ) → outcome (record { ok = true; count = n }) after ≡ some (take n (slotsOf after))
+pub outcome-good : (n : ℕ) (after : List ℕ) → outcome (record { ok = true; count = n }) after ≡ some (take n (slotsIn after))
 unfolding outcome
 outcome-good n after = refl
 
-module _ (k : ℕ) (held : List ℕ) (rs : List (Read Slot)) (m : ℕ) (before after : List ℕ) (sized : length after ≡ wordCount) where
-  pub damaged : joinReadings wordsFormat held rs (take m (slotsOf before)) ≡ none
+module _ (k : ℕ) (held : List ℕ) (rs : List (Read Slot)) (m : ℕ) (before after : List ℕ) (sized : length after ≡ rowLength) where
+  pub damaged : joinReadings wordsFormat held rs (take m (slotsIn before)) ≡ none → slotsIn after ≡ slotsIn before
       → ReadingsJoined k held rs m before after (record { ok = false; count = m })
-  damaged e = record { sized = sized; within = omega arith; joined = e ∙ sym (outcome-damage m after); leaves = λ t. let z : _≡_ {A = ℕ} 0 1 = cc in absurd (omega arith) }
+  damaged e s =
+      record {
+        sized = sized;
+        within = omega arith;
+        joined = e ∙ sym (outcome-damage m after);
+        blank = λ t. let z : _≡_ {A = ℕ} 0 1 = cc in absurd (omega arith);
+        same = λ _. s;
+        leaves = λ t. let z : _≡_ {A = ℕ} 0 1 = cc in absurd (omega arith);
+      }
 
-  pub joined-to : (n : ℕ) → n ≤ m + length rs → (Leaves k (take m (slotsOf before)) → Leaves k (take n (slotsOf after))) → joinReadings wordsFormat held rs (take m (slotsOf before)) ≡ some (take n (slotsOf after))
+  pub joined-to : (n : ℕ) → n ≤ m + length rs → Blank n after → (Leaves k (take m (slotsIn before)) → Leaves k (take n (slotsIn after)))
+      → joinReadings wordsFormat held rs (take m (slotsIn before)) ≡ some (take n (slotsIn after))
       → ReadingsJoined k held rs m before after (record { ok = true; count = n })
-  joined-to n h v e = record { sized = sized; within = h; joined = e ∙ sym (outcome-good n after); leaves = λ _. v }
+  joined-to n h b v e =
+      record {
+        sized = sized;
+        within = h;
+        joined = e ∙ sym (outcome-good n after);
+        blank = λ _. b;
+        same = λ t. let z : _≡_ {A = ℕ} 0 1 = cc in absurd (omega arith);
+        leaves = λ _. v;
+      }
 
--- ---- some readings have joined, and others are left
-module _ (k : ℕ) (held : List ℕ) (rs rest : List (Read Slot)) (m : ℕ) (before after : List ℕ) (r : Joined) (h : ReadingsJoined k held rs m before after r) where
-  pub went : (t : Bool) → r .ok ≡ t → outcome r after ≡ pick t (some (take (r .count) (slotsOf after))) none
+module _ (k : ℕ) (held : List ℕ) (rs : List (Read Slot)) (m : ℕ) (before after : List ℕ) (r : Joined) (h : ReadingsJoined k held rs m before after r) where
+  went : (t : Bool) → r .ok ≡ t → outcome r after ≡ pick t (some (take (r .count) (slotsIn after))) none
   unfolding outcome
   went t e = rw e
 
-  pub turn-damage : r .ok ≡ false → joinReadings wordsFormat held (rs ++ rest) (take m (slotsOf before)) ≡ none
-  turn-damage e = readings-stop wordsFormat held rs rest (take m (slotsOf before)) (h .joined ∙ went false e)
+  pub went-bad : r .ok ≡ false → joinReadings wordsFormat held rs (take m (slotsIn before)) ≡ none
+  went-bad e = h .joined ∙ went false e
 
-  pub turn-joined : r .ok ≡ true
-      → joinReadings wordsFormat held (rs ++ rest) (take m (slotsOf before)) ≡ joinReadings wordsFormat held rest (take (r .count) (slotsOf after))
-  turn-joined e = readings-then wordsFormat held rs rest (take m (slotsOf before)) (take (r .count) (slotsOf after)) (h .joined ∙ went true e)
+  pub went-well : r .ok ≡ true → joinReadings wordsFormat held rs (take m (slotsIn before)) ≡ some (take (r .count) (slotsIn after))
+  went-well e = h .joined ∙ went true e
 
-  pub turn-ascending : r .ok ≡ true → Ascending (keysOf wordsFormat (take m (slotsOf before))) → Ascending (keysOf wordsFormat (take (r .count) (slotsOf after)))
-  turn-ascending e a = readings-ascending wordsFormat held rs (take m (slotsOf before)) (take (r .count) (slotsOf after)) (h .joined ∙ went true e) a
-
-pub readings-none : (held : List ℕ) (ws : List Slot) → joinReadings wordsFormat held [] ws ≡ some ws
+-- ---- readings, and then one more
+pub joined-none : (k : ℕ) (held : List ℕ) (m : ℕ) (before : List ℕ) → length before ≡ rowLength → Blank m before
+    → ReadingsJoined k held [] m before before (record { ok = true; count = m })
 unfolding joinReadings
-readings-none held ws = refl
+joined-none k held m before s b = joined-to k held [] m before before s m (omega arith) b (λ v. v) refl
 
--- Where a loop over readings stands: some have joined, the rest are left to join.
-pub record Joining (k : ℕ) (held : List ℕ) (all rest : List (Read Slot)) (m : ℕ) (before : List ℕ) (words : List ℕ) (count : ℕ) : Type 0 where
-  pub sized : length words ≡ wordCount
-  pub left : joinReadings wordsFormat held all (take m (slotsOf before)) ≡ joinReadings wordsFormat held rest (take count (slotsOf words))
-  pub order : Ascending (keysOf wordsFormat (take count (slotsOf words)))
-  pub leaves : Leaves k (take m (slotsOf before)) → Leaves k (take count (slotsOf words))
+module _ (k : ℕ) (held : List ℕ) (rs : List (Read Slot)) (m : ℕ) (before row : List ℕ) (count : ℕ) (j : ReadingsJoined k held rs m before row (record { ok = true; count = count })) where
+  pub joined-order : ascending (keysOf wordsFormat (take m (slotsIn before))) ≡ true → ascending (keysOf wordsFormat (take count (slotsIn row))) ≡ true
+  joined-order a =
+      ascending-test (keysOf wordsFormat (take count (slotsIn row)))
+      (readings-ascending wordsFormat held rs (take m (slotsIn before)) (take count (slotsIn row)) (went-well k held rs m before row (record { ok = true; count = count }) j refl)
+      (ascending-holds (keysOf wordsFormat (take m (slotsIn before))) a))
 
-pub joining-start : (k : ℕ) (held : List ℕ) (all : List (Read Slot)) (m : ℕ) (before : List ℕ) → length before ≡ wordCount
-    → ascending (keysOf wordsFormat (take m (slotsOf before))) ≡ true → Joining k held all all m before before m
-joining-start k held all m before s a =
-    record { sized = s; left = refl; order = ascending-holds (keysOf wordsFormat (take m (slotsOf before))) a; leaves = λ v. v }
+  module _ (qs : List (Read Slot)) (after : List ℕ) (r : Joined) (h : ReadingsJoined k held qs count row after r) where
+    then-joined : (rest : List (Read Slot)) → joinReadings wordsFormat held (rs ++ rest) (take m (slotsIn before)) ≡ joinReadings wordsFormat held rest (take count (slotsIn row))
+    then-joined rest =
+        readings-then wordsFormat held rs rest (take m (slotsIn before)) (take count (slotsIn row)) (went-well k held rs m before row (record { ok = true; count = count }) j refl)
 
-module _ (k : ℕ) (held : List ℕ) (all qs rest : List (Read Slot)) (m : ℕ) (before words after : List ℕ) (count : ℕ) (r : Joined)
-    (j : Joining k held all (qs ++ rest) m before words count) (h : ReadingsJoined k held qs count words after r) where
-  pub joining-turn : r .ok ≡ true → Joining k held all rest m before after (r .count)
-  joining-turn e =
-      record {
-        sized = h .sized;
-        left = j .left ∙ turn-joined k held qs rest count words after r h e;
-        order = turn-ascending k held qs rest count words after r h e (j .order);
-        leaves = λ v. h .leaves e (j .leaves v);
-      }
+    joined-more : r .ok ≡ true → ReadingsJoined k held (rs ++ qs) m before after (record { ok = true; count = r .count })
+    joined-more e =
+        joined-to k held (rs ++ qs) m before after (h .sized) (r .count) (let n = length-append rs qs in omega (arith, h .within, j .within)) (h .blank e) (λ v. h .leaves e (j .leaves refl v))
+        (then-joined qs ∙ went-well k held qs count row after r h e)
 
-  pub joining-damage : r .ok ≡ false → ReadingsJoined k held all m before after (record { ok = false; count = m })
-  joining-damage e = damaged k held all m before after (h .sized) (j .left ∙ turn-damage k held qs rest count words after r h e)
+    joined-stop : r .ok ≡ false → (rest : List (Read Slot)) → joinReadings wordsFormat held (rs ++ (qs ++ rest)) (take m (slotsIn before)) ≡ none
+    joined-stop e rest =
+        then-joined (qs ++ rest)
+        ∙ readings-stop wordsFormat held qs rest (take count (slotsIn row)) (went-bad k held qs count row after r h e)
 
-pub joining-end : (k : ℕ) (held : List ℕ) (all : List (Read Slot)) (m : ℕ) (before words : List ℕ) (count : ℕ) → count ≤ m + length all
-    → Joining k held all [] m before words count → ReadingsJoined k held all m before words (record { ok = true; count = count })
-joining-end k held all m before words count h j =
-    joined-to k held all m before words (j .sized) count h (j .leaves) (j .left ∙ readings-none held (take count (slotsOf words)))
+-- ---- the readings of slots by where they start: the first i have joined, and then the next
+pub first-within : (k : ℕ) (held tree from : List ℕ) (m : ℕ) (before row : List ℕ) (i : ℕ) (r : Joined) → ReadingsJoined k held (map (readFrom k tree) (take i from)) m before row r
+    → r .count ≤ m + i
+first-within k held tree from m before row i r j = omega (arith, j .within, length-map (take i from) (readFrom k tree), length-take i from)
+
+module _ (k : ℕ) (held tree from : List ℕ) (m : ℕ) (before row after : List ℕ) (i count : ℕ) (x : Slot) (r : Joined)
+    (inside : i < length from) (loaded : slotBytes x ≡ slotFrom tree (getD from i 0))
+    (j : ReadingsJoined k held (map (readFrom k tree) (take i from)) m before row (record { ok = true; count = count }))
+    (h : ReadingsJoined k held (wordsFormat .read k (bucketOf (getD from i 0)) (slotBytes x) ∷ []) count row after r) where
+  next-read : ReadingsJoined k held (readFrom k tree (getD from i 0) ∷ []) count row after r
+  next-read = subst (λ (bs : List ℕ). ReadingsJoined k held (wordsFormat .read k (bucketOf (getD from i 0)) bs ∷ []) count row after r) loaded h
+
+  pub next-joined : r .ok ≡ true → ReadingsJoined k held (map (readFrom k tree) (take (i + 1) from)) m before after (record { ok = true; count = r .count })
+  next-joined e =
+      let s : map (readFrom k tree) (take (i + 1) from) ≡ map (readFrom k tree) (take i from) ++ (readFrom k tree (getD from i 0) ∷ []) =
+      rw (add-one i, take-suc from i 0 inside) (map-append (readFrom k tree) (take i from) (getD from i 0 ∷ [])) in
+      rw s (joined-more k held (map (readFrom k tree) (take i from)) m before row count j (readFrom k tree (getD from i 0) ∷ []) after r next-read e)
+
+  pub next-damage : (full : ℕ) → i < full → full ≤ length from → r .ok ≡ false
+      → joinReadings wordsFormat held (map (readFrom k tree) (take full from)) (take m (slotsIn before)) ≡ none
+  next-damage full g n e =
+      let l = length-take full from in
+      let s : take full from ≡ take i from ++ getD from i 0 ∷ drop (suc i) (take full from) =
+      split-at (take full from) i 0 (omega arith) ∙ rw (take-take i full from (omega arith), getD-take full from i 0 g) in
+      rw (s, map-append (readFrom k tree) (take i from) (getD from i 0 ∷ drop (suc i) (take full from)))
+      (joined-stop k held (map (readFrom k tree) (take i from)) m before row count j (readFrom k tree (getD from i 0) ∷ []) after r next-read e (map (readFrom k tree) (drop (suc i) (take full from))))
 
 -- ---- the readings of a bucket, and of the buckets of a path
 bucket-length : (k : ℕ) (tree : List ℕ) (b : ℕ) → length (readBucket wordsFormat k tree b) ≡ 4
@@ -130,6 +163,8 @@ module _ (k t : ℕ) (tree : List ℕ) (leaf : t < 2 ^ k) (is : length tree ≡ 
       record {
         sized = j .sized;
         within = let f = fewer in omega (arith, j .within);
-        joined = sym (path-joined k t tree leaf is held (take m (slotsOf before))) ∙ j .joined;
+        joined = sym (path-joined k t tree leaf is held (take m (slotsIn before))) ∙ j .joined;
+        blank = j .blank;
+        same = j .same;
         leaves = j .leaves;
       }

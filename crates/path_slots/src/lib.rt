@@ -13,7 +13,7 @@ ghost use lib.ListN.{length, take};
 ghost use Rattle.list_spec.specs.Choice.{pick};
 ghost use Rattle.slot_spec.specs.Tree.{bucketLength, treeLength};
 ghost use Rattle.slot_spec.specs.Slot.{allZero, slotBytes};
-ghost use Rattle.word_round_laws.specs.Words.{pathSlots};
+ghost use Rattle.word_round_laws.specs.SlotRow.{levels, pathSlots};
 ghost use Rattle.word_round_laws.specs.Gather.{fourFrom, fullStarts, PathGathered};
 
 // The slots of the longest path.
@@ -48,7 +48,7 @@ fn gather_bucket(tree: &[u8], start: usize, m: usize, from: &mut [u32; PATH_SLOT
 
 // Where the full slots of a leaf's path start, from the leaf's bucket up.
 pub fn gather_path(tree: &[u8], size: usize, leaf: usize, from: &mut [u32; PATH_SLOTS]) -> usize
-    requires { ⌜ (size ≤ 15) × (leaf < 2 ^ size) × (length (now tree) ≡ treeLength size) × (length (now from) ≡ pathSlots) ⌝ }
+    requires { ⌜ (size < levels) × (leaf < 2 ^ size) × (length (now tree) ≡ treeLength size) × (length (now from) ≡ pathSlots) ⌝ }
     ensures { λ r. ⌜ PathGathered size leaf (now (tree .entry)) (now (from .exit)) r ⌝ }
 {
     let mut count = 0;

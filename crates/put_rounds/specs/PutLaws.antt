@@ -24,9 +24,9 @@ use Rattle.idle_rounds.specs.Idle.{Between, IdledAll}
 use Rattle.idle_rounds.specs.IdleLaws.{put-shuts, draws-one}
 use Rattle.put_rounds.specs.Put.{Stepped, Puts}
 
-module _ {k n : ℕ} {words scratch tree : List ℕ} (b : Stepped k n words scratch tree) where
+module _ {k n : ℕ} {row tree : List ℕ} (b : Stepped k n row tree) where
   -- Where the keys ascend the rounds can begin.
-  pub stepped-between : ascending (keysWaiting n words) ≡ true → Between k n words scratch tree []
+  pub stepped-between : ascending (keysWaiting n row) ≡ true → Between k n row tree []
   stepped-between e =
       record {
         small = b .small;
@@ -34,17 +34,16 @@ module _ {k n : ℕ} {words scratch tree : List ℕ} (b : Stepped k n words scra
         rests =
             record {
               holds = b .holds;
-              scratch-sized = b .scratch-sized;
               order = e;
-              apart = rw (append-nil (keysWaiting n words)) (distinct-none-twice (keysWaiting n words) (ascending-distinct leafFormat (waitingIn n words) e));
+              apart = rw (append-nil (keysWaiting n row)) (distinct-none-twice (keysWaiting n row) (ascending-distinct leafFormat (waitingIn n row) e));
             };
         proper = b .proper;
         few = omega (arith, b .few);
       }
 
-module _ (k n : ℕ) (draw : ℕ → ℕ) (F first : ℕ) (words tree trace : List ℕ) where
-  pub puts-idled : {words′ scratch′ tree′ trace′ : List ℕ} {r : Idle} → IdledAll k n draw F first F words tree trace [] words′ scratch′ tree′ trace′ r
-      → Puts k n draw F first words tree trace words′ tree′ trace′ r
+module _ (k n : ℕ) (draw : ℕ → ℕ) (F first : ℕ) (row tree trace : List ℕ) where
+  pub puts-idled : {row′ tree′ trace′ : List ℕ} {r : Idle} → IdledAll k n draw F first F row tree trace [] row′ tree′ trace′ r
+      → Puts k n draw F first row tree trace row′ tree′ trace′ r
   puts-idled i =
       record {
         rounds = λ ls o. i .rounds [] ls o refl;
@@ -56,12 +55,12 @@ module _ (k n : ℕ) (draw : ℕ → ℕ) (F first : ℕ) (words tree trace : Li
       }
 
   -- A key that stands twice is damage to the first round.
-  pub puts-twice : {scratch : List ℕ} → Stepped k n words scratch tree → ascending (keysWaiting n words) ≡ false → 1 ≤ F → (leaf : ℕ) → leaf ≡ draw first
-      → Puts k n draw F first words tree trace words tree (set trace F leaf) (record { mark = 8; waiting = n; shown = 1; peak = 0 })
+  pub puts-twice : Stepped k n row tree → ascending (keysWaiting n row) ≡ false → 1 ≤ F → (leaf : ℕ) → leaf ≡ draw first
+      → Puts k n draw F first row tree trace row tree (set trace F leaf) (record { mark = 8; waiting = n; shown = 1; peak = 0 })
   puts-twice b e some leaf drawn =
       let one : drawsFrom draw 1 first ≡ leaf ∷ [] = draws-one draw first ∙ ap (λ (d : ℕ). d ∷ []) (sym drawn) in
       let more : F ≡ suc (F - 1) = omega arith in
-      let here : List ℕ → Going = going n words tree [] in
+      let here : List ℕ → Going = going n row tree [] in
       let shuts : (ls : List ℕ) (o : Outcome ℕ) → idleRound k (draw first) (done o) (here ls) ≡ shut 8 (here (ls ++ (draw first ∷ []))) =
       λ ls o. twice-shuts k (draw first) (done o) (here ls) refl (b .twice e) in
       record {

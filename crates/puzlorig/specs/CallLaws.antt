@@ -1,17 +1,20 @@
 -- A call over bytes: refused by lengths, head or slots, or made by the core over the state that the bytes are read as.
 use mathlib.Core.Path.{_≡_, refl, sym, _∙_, ap}
 use mathlib.Core.Bool.{Bool, true, false, _&&_, and-false, and-eq-true-iff}
-use mathlib.Core.List.{List}
-use Prim.Native.Nat.{ℕ, _/_, _%_}
+use mathlib.Core.List.{List, [], _++_, append-nil}
+use Prim.Native.Nat.{ℕ, _-_, _*_, _/_, _%_}
 use native.Mathlib.Omega.{arith}
 use lib.Dec.{eqb}
-use lib.ListN.{length, drop}
+use lib.ListN.{length, take, drop, length-drop, take-append-drop, drop-of-length-le}
+use lib.Seq.{take-all, drop-at, length-take-le}
 use borrow.Author.Tests.{eq-eqb, ne-eqb}
 use Rattle.list_spec.specs.Choice.{pick}
 use Rattle.slot_spec.specs.LittleEndian.{Bytes}
+use Rattle.slot_spec.specs.Tree.{slotLength}
+use Rattle.slot_laws.specs.LittleEndianLaws.{bytes-drop}
 use Rattle.state_spec.specs.declared.State.{State}
 use Rattle.state_spec.specs.Fit.{places, fits, placesFit, headFits}
-use Rattle.state_laws.specs.FitLaws.{fits-parts}
+use Rattle.state_laws.specs.FitLaws.{fits-parts, head-true}
 use Rattle.call_spec.specs.Store.{called}
 use Rattle.stash_laws.specs.Waiting.{waitingIn}
 use Rattle.stash.specs.Stash.{saved}
@@ -22,13 +25,39 @@ use Rattle.lent_bytes_laws.specs.NumbersLaws.{numbers-written}
 use Rattle.lent_bytes_laws.specs.StateLaws.{bytes-back}
 use Rattle.host_laws.specs.LengthLaws.{good-lengths}
 use Rattle.byte_states.specs.Refusal.{bytesRefusal}
-use Rattle.byte_states.specs.Loading.{stateOf, PlacesLoaded}
+use Rattle.byte_states.specs.PlacesFit.{stateOf}
 use Rattle.byte_states.specs.HeadLaws.{Refuses, closed, unfit, neither, refuses}
+use Rattle.byte_states.specs.RowLaws.{fit-loaded}
 use Rattle.call_ending.specs.declared.Ran.{Ran}
 use Rattle.call_core.specs.Run.{StandsFor, leftOf, CallsAs}
-use Rattle.host_calls.specs.Left.{coreHead, Saves}
+use Rattle.host_calls.specs.Left.{coreHead}
 use Rattle.host_spec.specs.Result.{replyNumber, replyValue, resultBytes}
 use Rattle.host_spec.specs.Host.{hostLeaving, lengthsGood, hostEndedAs, hostCalled}
+
+-- ---- the slots of a state, lent as they stand
+module _ (state : List ℕ) where
+  pub slots-whole : take (length state - headLength) (drop headLength state) ≡ drop headLength state
+  slots-whole = take-all (length state - headLength) (drop headLength state) (omega (arith, length-drop headLength state))
+
+  -- The state with another row in their place.
+  abbrev pub lent : List ℕ → List ℕ
+  lent row = take headLength state ++ (row ++ drop (length state - headLength) (drop headLength state))
+
+  lent-whole : (row : List ℕ) → lent row ≡ take headLength state ++ row
+  lent-whole row =
+      let none : drop (length state - headLength) (drop headLength state) ≡ [] =
+      drop-of-length-le (drop headLength state) {i = length state - headLength} (omega (arith, length-drop headLength state)) in
+      ap (λ (xs : List ℕ). take headLength state ++ (row ++ xs)) none ∙ ap (λ (xs : List ℕ). take headLength state ++ xs) (append-nil row)
+
+  pub lent-back : lent (drop headLength state) ≡ state
+  lent-back = lent-whole (drop headLength state) ∙ take-append-drop headLength state
+
+  module _ (sized : length state ≡ stateLength) where
+    pub slots-sized : length (drop headLength state) ≡ slotLength * places
+    slots-sized = length-drop headLength state ∙ omega (arith, sized)
+
+    pub lent-row : (row : List ℕ) → drop headLength (lent row) ≡ row
+    lent-row row = ap (drop headLength) (lent-whole row) ∙ drop-at (take headLength state) row headLength (length-take-le headLength state (omega (arith, sized)))
 
 -- ---- the refusals
 module _ (state tree ticket tape trace result : List ℕ) where
@@ -75,6 +104,9 @@ module _ (state tree ticket tape trace result : List ℕ) where
   refused-18 e = rw e
 
   module _ (lengths : good ≡ true) where
+    sizes : length state ≡ stateLength
+    sizes = good-lengths (length state) (length tape) (length trace) (length result) lengths .state-long
+
     refused-1 : (h .mark ≡ 0 → ⊥) → hostLeaving 1 state tree trace result ≡ hostCalled state tree ticket tape trace result
     unfolding hostCalled
     refused-1 n = rw (lengths, ne-eqb (h .mark) 0 n)
@@ -107,54 +139,59 @@ module _ (state tree ticket tape trace result : List ℕ) where
         go _ (neither m k f) z = record { unmarked = m; key = k; head = f }
 
     module _ (p : Passed) where
-      pub refused-slots : {words : List ℕ} → PlacesLoaded h slots words false → hostLeaving 2 state tree trace result ≡ hostCalled state tree ticket tape trace result
-      refused-slots l = refused-2 (p .unmarked) (unfit-slots (sym (l .fits)))
+      abbrev places-fit : Bool
+      places-fit = slotsSound places slots && placesFit (stateOf h slots)
 
-      module _ {words : List ℕ} (l : PlacesLoaded h slots words true) where
+      pub refused-slots : places-fit ≡ false → hostLeaving 2 state tree trace result ≡ hostCalled state tree ticket tape trace result
+      refused-slots e = refused-2 (p .unmarked) (unfit-slots e)
+
+      module _ (bytes : Bytes state) (ok : places-fit ≡ true) where
         both : (slotsSound places slots ≡ true) × (placesFit (stateOf h slots) ≡ true)
-        both = and-eq-true-iff (slotsSound places slots) (placesFit (stateOf h slots)) .0 (sym (l .fits))
-
-        pub fit : fits (stateOf h slots) ≡ true
-        fit = fits-parts (stateOf h slots) ∙ rw (p .head, both .1)
+        both = and-eq-true-iff (slotsSound places slots) (placesFit (stateOf h slots)) .0 ok
 
         fits-whole : fitBytes state ≡ true
         fits-whole = fit-parts ∙ rw (p .key, both .0, p .head, both .1)
 
-        pub stands : StandsFor (stateOf h slots) (coreHead h) words
-        stands = record { head = refl; not-closed = p .unmarked; fit = fit; loaded = l .loaded refl }
-
-        pub saves : {r : Ran} {words′ tree′ trace′ : List ℕ} → CallsAs (coreHead h) words tree ticket (numbersOf tape) (numbersOf trace) words′ tree′ trace′ r → length state ≡ stateLength
-            → Saves h r state words′
-        saves made sized = record { holds = made .holds; sized = sized; sound = both .0; fit = fit }
+        -- The slots are the row of the state's waiting nodes.
+        pub stands : StandsFor (stateOf h slots) (coreHead h) slots
+        stands =
+            let few = head-true (h .structure) (h .size) (h .entries) (h .waiting) (rootIn h) (aheadIn h) (p .head) .waiting in
+            record {
+              head = refl;
+              not-closed = p .unmarked;
+              fit = fits-parts (stateOf h slots) ∙ rw (p .head, both .1);
+              loaded = fit-loaded h slots few (slots-sized state sizes) (bytes-drop headLength state bytes) (both .0) (both .1);
+            }
 
         -- What the core left is what the call leaves.
-        module _ {r : Ran} {words′ tree′ : List ℕ} (trace′ : List ℕ) (made : CallsAs (coreHead h) words tree ticket (numbersOf tape) (numbersOf trace) words′ tree′ (numbersOf trace′) r)
-            (bytes : Bytes state) (trace-bytes : Bytes trace′) (same : length trace′ ≡ length trace) where
+        module _ {r : Ran} {row′ tree′ : List ℕ} (trace′ : List ℕ) (made : CallsAs (coreHead h) slots tree ticket (numbersOf tape) (numbersOf trace) row′ tree′ (numbersOf trace′) r)
+            (trace-bytes : Bytes trace′) (same : length trace′ ≡ length trace) where
           abbrev s : State
           s = stateOf h slots
 
-          abbrev after : State
-          after = saved (h .structure) (h .size) (r .mark) (r .entries) (r .root) (r .ahead) (waitingIn (r .waiting) words′)
+          abbrev saving : List ℕ → State
+          saving row = saved (h .structure) (h .size) (r .mark) (r .entries) (r .root) (r .ahead) (waitingIn (r .waiting) row)
 
-          ended : called (stateIn state) tree ticket (numbersOf tape) (numbersOf trace) ≡ leftOf s r words′ tree′ (numbersOf trace′)
+          ended : called (stateIn state) tree ticket (numbersOf tape) (numbersOf trace) ≡ leftOf s r row′ tree′ (numbersOf trace′)
           ended = ap (λ (x : State). called x tree ticket (numbersOf tape) (numbersOf trace)) (sym same-state) ∙ sym (made .calls s stands)
 
-          state-left : length state ≡ stateLength → pick (r .ran) (stateBytes after) state ≡ stateBytes (pick (r .ran) after s)
-          state-left sized = go (r .ran)
+          state-left : pick (r .ran) (stateBytes (saving (drop headLength (lent state row′)))) (lent state row′) ≡ stateBytes (pick (r .ran) (saving row′) s)
+          state-left = go (r .ran) refl
             where
-              go : (b : Bool) → pick b (stateBytes after) state ≡ stateBytes (pick b after s)
-              go true = refl
-              go false = sym (ap stateBytes same-state ∙ bytes-back state bytes sized (both .0))
+              go : (b : Bool) → r .ran ≡ b → pick b (stateBytes (saving (drop headLength (lent state row′)))) (lent state row′) ≡ stateBytes (pick b (saving row′) s)
+              go true e = ap (λ (row : List ℕ). stateBytes (saving row)) (lent-row state sizes row′)
+              go false e = ap (lent state) (made .kept e) ∙ lent-back state ∙ sym (ap stateBytes same-state ∙ bytes-back state bytes sizes (both .0))
 
           trace-left-so : length trace % numberLength ≡ 0 → trace′ ≡ numbersBytes (numbersOf trace′)
           trace-left-so even = sym (numbers-written (length trace′ / 2) trace′ trace-bytes (omega (arith, same, even)))
 
-          pub call-ends : (number : ℕ) (left filled : List ℕ) → number ≡ replyNumber (r .reply) → left ≡ pick (r .ran) (stateBytes after) state
+          pub call-ends : (number : ℕ) (left filled : List ℕ) → number ≡ replyNumber (r .reply)
+              → left ≡ pick (r .ran) (stateBytes (saving (drop headLength (lent state row′)))) (lent state row′)
               → filled ≡ pick (eqb (r .leaves) 0) result (resultBytes (replyValue (r .reply)) (r .leaves) (r .peak))
               → hostLeaving number left tree′ trace′ filled ≡ hostCalled state tree ticket tape trace result
           unfolding hostCalled
           call-ends number left filled en el ef =
               let g = good-lengths (length state) (length tape) (length trace) (length result) lengths in
-              let made-so : hostLeaving number left tree′ trace′ filled ≡ hostEndedAs result (leftOf s r words′ tree′ (numbersOf trace′)) =
-              rw (en, el ∙ state-left (g .state-long), ef, ← trace-left-so (g .trace-even)) in
+              let made-so : hostLeaving number left tree′ trace′ filled ≡ hostEndedAs result (leftOf s r row′ tree′ (numbersOf trace′)) =
+              rw (en, el ∙ state-left, ef, ← trace-left-so (g .trace-even)) in
               made-so ∙ ap (hostEndedAs result) (sym ended) ∙ rw (lengths, eq-eqb (h .mark) 0 (p .unmarked), fits-whole)

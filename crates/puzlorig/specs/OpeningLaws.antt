@@ -1,25 +1,22 @@
 -- Openings over bytes, check by check.
-use mathlib.Core.Path.{_≡_, refl, _∙_, ap, ap₂}
+use mathlib.Core.Path.{_≡_, refl, sym, _∙_, ap, ap₂}
 use mathlib.Core.Bool.{Bool, true, false, not, _&&_}
-use mathlib.Core.List.{List, [], _++_, append-nil}
-use Prim.Native.Nat.{ℕ, _+_, _-_, _*_, _%_, _^_, _≤_, _<_}
+use mathlib.Core.List.{List, _++_}
+use Prim.Native.Nat.{ℕ, _+_, _*_, _%_, _^_, _≤_, _<_}
 use native.Mathlib.Omega.{arith}
 use lib.Dec.{eqb}
 use lib.Pow.{pow-mono}
-use lib.ListN.{length, take, drop, replicate, drop-of-length-le}
+use lib.ListN.{length, drop, replicate, length-replicate, replicate-append-replicate}
+use lib.Seq.{drop-at}
 use borrow.Author.Tests.{eqb-true, eq-eqb, ne-eqb}
 use Rattle.list_spec.specs.Choice.{pick}
 use Rattle.slot_spec.specs.Tree.{slotLength, bucketLength, treeLength}
 use Rattle.state_spec.specs.Fit.{inRange, largestStructure, largestSize, places, noPlace}
 use Rattle.state_spec.specs.Opening.{Opened, empty, closedWith, fresh, opened}
 use Rattle.state_laws.specs.FitLaws.{in-range-true}
-use Rattle.call_spec.specs.Store.{waitingPlaces}
-use Rattle.word_round_laws.specs.Words.{wordCount}
-use Rattle.stash_laws.specs.Waiting.{waitingIn, Holds}
-use Rattle.stash.specs.StashLaws.{holds-none}
 use Rattle.lent_bytes_spec.specs.declared.StateHead.{StateHead}
-use Rattle.host_calls.specs.LeftLaws.{slots-part, slots-then-head}
 use Rattle.lent_bytes_spec.specs.StateBytes.{headLength, stateLength, headBytes, placesBytes, headFor, stateBytes}
+use Rattle.lent_bytes_laws.specs.PlaceLaws.{places-none}
 use Rattle.host_spec.specs.Host.{hostOpening, hostOpened}
 use Rattle.puzlorig.specs.Opening.{openingNumber}
 
@@ -118,12 +115,6 @@ tree-clears size tree small sized =
     (omega (arith, p, sized), omega (arith, sized))
 
 -- ---- an empty state
-pub none-hold : Holds 0 (replicate wordCount 0)
-none-hold = holds-none (replicate wordCount 0) refl
-
-none-placed : take places (waitingPlaces (waitingIn 0 (replicate wordCount 0))) ≡ replicate places noPlace
-none-placed = refl
-
 abbrev pub emptyHead : (mark structure size : ℕ) → StateHead
 emptyHead mark structure size =
     record { mark = mark; structure = structure; size = size; height = 0; entries = 0; waiting = 0; key = 0; tag = 0; ahead = 0 }
@@ -135,16 +126,15 @@ empty-head mark structure size = go (eqb structure 4)
     go true = refl
     go false = refl
 
-pub empty-written : (state : List ℕ) (mark structure size : ℕ) → length state ≡ stateLength → (part left : List ℕ)
-    → part ≡ placesBytes (take places (waitingPlaces (waitingIn 0 (replicate wordCount 0)))) ++ drop (slotLength * places) (take (length state - headLength) (drop headLength state))
-    → left ≡ headBytes (emptyHead mark structure size) ++ drop headLength (take headLength state ++ (part ++ drop (length state - headLength) (drop headLength state)))
-    → left ≡ stateBytes (empty mark structure size)
+-- Zero bytes, then the head.
+pub empty-written : (state : List ℕ) (mark structure size : ℕ) → length state ≡ stateLength → (zeros left : List ℕ) → zeros ≡ replicate (length state) 0
+    → left ≡ headBytes (emptyHead mark structure size) ++ drop headLength zeros → left ≡ stateBytes (empty mark structure size)
 unfolding stateBytes
-empty-written state mark structure size sized part left ep el =
-    let all = take (length state - headLength) (drop headLength state) in
-    let none : drop (slotLength * places) all ≡ [] = drop-of-length-le all {i = slotLength * places} (omega (arith, slots-part state sized)) in
-    let is-part : part ≡ placesBytes (replicate places noPlace) =
-    ep ∙ ap (λ (xs : List ℕ). placesBytes (take places (waitingPlaces (waitingIn 0 (replicate wordCount 0)))) ++ xs) none ∙ append-nil (placesBytes (take places (waitingPlaces (waitingIn 0 (replicate wordCount 0)))))
-    ∙ ap placesBytes none-placed in
-    slots-then-head state sized (emptyHead mark structure size) part left el
-    ∙ ap₂ (λ (xs ys : List ℕ). xs ++ ys) (ap headBytes (empty-head mark structure size)) is-part
+empty-written state mark structure size whole zeros left ez el =
+    let split : replicate {A = ℕ} (length state) 0 ≡ replicate headLength 0 ++ replicate (slotLength * places) 0 =
+    ap (λ (n : ℕ). replicate n 0) whole ∙ sym (replicate-append-replicate {A = ℕ} headLength (slotLength * places) 0) in
+    let rest : drop headLength zeros ≡ placesBytes (replicate places noPlace) =
+    ap (drop headLength) (ez ∙ split)
+    ∙ drop-at (replicate headLength 0) (replicate (slotLength * places) 0) headLength (length-replicate {A = ℕ} headLength 0)
+    ∙ sym (places-none places) in
+    el ∙ ap₂ (λ (xs ys : List ℕ). xs ++ ys) (ap headBytes (empty-head mark structure size)) rest

@@ -18,7 +18,7 @@ use Rattle.store_readout.specs.Refusal.{knownNumbers, refusalOf}
 use Rattle.store_readout.specs.RefusalLaws.{known-size, refused, passed}
 use Rattle.lent_bytes_spec.specs.declared.StateHead.{StateHead}
 use Rattle.lent_bytes_spec.specs.StateBytes.{headLength, stateLength, headIn, stateIn}
-use Rattle.byte_states.specs.Loading.{stateOf}
+use Rattle.byte_states.specs.PlacesFit.{stateOf}
 use Rattle.host_spec.specs.Host.{hostReading, readAs, hostReadOut}
 
 module _ (state tree out : List ℕ) where

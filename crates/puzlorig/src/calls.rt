@@ -1,7 +1,7 @@
 // One call.
 use byte_states::read_head;
 use byte_states::refusal;
-use byte_states::waiting::load_places;
+use byte_states::waiting::places_fit;
 use host_calls::call_numbers;
 use host_calls::core_head;
 use host_calls::leave_state;
@@ -11,7 +11,6 @@ use host_spec::RESULT_LENGTH;
 use lent_bytes_spec::HEAD_LENGTH;
 use lent_bytes_spec::NUMBER_LENGTH;
 use lent_bytes_spec::STATE_LENGTH;
-use stash_words::WORDS;
 ghost use mathlib.Core.Path.{_≡_};
 ghost use Rattle.host_spec.specs.Host.{lengthsGood, hostLeaving, hostCalled};
 
@@ -31,7 +30,7 @@ fn lengths_good(state: usize, tape: usize, trace: usize, result: usize) -> bool
     trace % NUMBER_LENGTH == 0
 }
 
-// 18, then the state's head and slots, then the call itself; see `hostCalled` for every case.
+// 18, then the state's head and slots, then the call itself, in the slots where they stand; see `hostCalled` for every case.
 #[no_mangle]
 pub extern "C" fn puzlorig_call(
     state: &mut [u8],
@@ -51,13 +50,19 @@ pub extern "C" fn puzlorig_call(
     if number != 0 {
         return number as u32;
     }
-    let mut w = [0u64; WORDS];
-    if !load_places(h, &state[HEAD_LENGTH..], &mut w) {
+    if !places_fit(h, &state[HEAD_LENGTH..]) {
         return 2;
     }
-    let r = call_numbers(core_head(h), &mut w, tree, ticket, tape, trace);
+    let r = call_numbers(
+        core_head(h),
+        &mut state[HEAD_LENGTH..],
+        tree,
+        ticket,
+        tape,
+        trace,
+    );
     let reply = r.reply;
-    leave_state(state, h, r, &w);
+    leave_state(state, h, r);
     leave_result(result, reply, r.leaves, r.peak);
     number_of(reply) as u32
 }

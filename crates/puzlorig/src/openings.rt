@@ -1,18 +1,14 @@
 // Opening a store.
 use super::lengths::is_known;
-use byte_states::waiting::save_places;
 use byte_states::write_head;
 use fitness::LARGEST_SIZE;
 use fitness::LARGEST_STRUCTURE;
-use lent_bytes_spec::HEAD_LENGTH;
 use lent_bytes_spec::STATE_LENGTH;
 use lent_bytes_spec::StateHead;
 use opening::clear;
-use stash_words::WORDS;
-use state_spec::PLACES;
 use tree_paths::tree_length;
 ghost use mathlib.Core.Path.{_≡_};
-ghost use lib.ListN.{length};
+ghost use lib.ListN.{length, replicate};
 ghost use Rattle.state_spec.specs.Opening.{empty};
 ghost use Rattle.lent_bytes_spec.specs.StateBytes.{stateLength, stateBytes};
 ghost use Rattle.host_spec.specs.Host.{hostOpening, hostOpened};
@@ -34,13 +30,23 @@ fn opening_number(structure: u64, size: u64, length: usize) -> u8
     0
 }
 
+// Zero bytes for all of a state.
+fn zero_state(state: &mut [u8])
+    ensures { λ _. ⌜ now (state .exit) ≡ replicate (length (now (state .entry))) 0 ⌝ }
+{
+    let mut i = 0;
+    while i < state.len() {
+        state[i] = 0;
+        i += 1;
+    }
+}
+
 // A byte state with no entries and none waiting.
 fn write_empty(state: &mut [u8], mark: u8, structure: u8, size: u8)
     requires { ⌜ length (now state) ≡ stateLength ⌝ }
     ensures { λ _. ⌜ now (state .exit) ≡ stateBytes (empty mark structure size) ⌝ }
 {
-    let none = [0u64; WORDS];
-    save_places(&mut state[HEAD_LENGTH..], &none, 0, PLACES);
+    zero_state(state);
     let head = StateHead {
         mark,
         structure,

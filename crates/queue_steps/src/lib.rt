@@ -1,35 +1,30 @@
-// The queue over the nodes that a call has fetched so far: which node is wanted next, the step, what is known ahead after it, and the
-// fetch test.
-use node_rows::ROW;
-use node_rows::node_at;
-use node_rows::set_node;
+// The queue's operations as functions of the one node that a call fetches: whether it is wanted, the step, what is known ahead after it,
+// and the fetch test.
 use operation_spec::Answer;
-use operation_spec::Outcome;
 use operation_spec::Spares;
 use operation_spec::StepAnswer;
 use operation_spec::Want;
 use operation_spec::Wanted;
-use operations::no_nodes;
 use operations::one_less;
 use operations::start;
+use short_outcomes::OneMade;
+use short_outcomes::none_made;
 use slot_fields::no_link;
 use slot_spec::Ahead;
 use slot_spec::Link;
 use slot_spec::Node;
 ghost use mathlib.Core.Path.{_≡_};
-ghost use mathlib.Core.List.{List, []};
-ghost use Prim.Native.Nat.{ℕ, suc, _≤_, _<_, _^_};
+ghost use mathlib.Core.List.{[], _∷_};
+ghost use Prim.Native.Nat.{suc, _<_, _^_};
 ghost use lib.Dec.{eqb};
-ghost use lib.ListN.{length};
 ghost use Rattle.list_spec.specs.Choice.{pick};
 ghost use Rattle.method_spec.specs.Node as method;
+ghost use Rattle.method_spec.specs.Prog.{done, after};
 ghost use Rattle.method_spec.specs.Queue as queue;
 ghost use Rattle.method_spec.specs.Queue.{enqueueProg, enqueueAhead, dequeueProg, dequeueAhead, queueTest};
 ghost use Rattle.leaf_spec.specs.Convert.{toLink, toAhead, toNode};
-ghost use Rattle.operation_spec.specs.Method.{toOutcome, toWant, toWanted};
-ghost use Rattle.operations.specs.Resume.{resume, wantedOf, outcomeOf};
-ghost use Rattle.node_rows.specs.Row.{places, words};
-ghost use Rattle.node_rows.specs.Held.{heldIn, nodesOf};
+ghost use Rattle.operation_spec.specs.Method.{toWant, toWanted, wantedIn};
+ghost use Rattle.short_outcomes.specs.OneFetch.{toOneOutcome};
 
 // ---- in
 // What is known ahead once a node is stored: the key after its own, and draw 2.
@@ -93,25 +88,18 @@ fn root_after_in(entries: u16, root: Link, n: Node) -> Link
 }
 
 // An in fetches none. There is a key for the one that comes next.
-pub fn enqueue(
-    value: u64,
-    spares: Spares,
-    limit: u16,
-    entries: u16,
-    root: Link,
-    made: &mut [u64; ROW],
-) -> Outcome
-    requires { ⌜ (length (now made) ≡ words) × (suc (spares .ahead .key) < 2 ^ 32) ⌝ }
-    ensures { λ r. ⌜ ((ns : List (method.Node ℕ)) → toOutcome r (nodesOf (heldIn (now (made .exit)) (r .made))) ≡ outcomeOf (toLink root) entries (resume (enqueueProg 0 value (spares .first) (spares .second) entries limit (toAhead (spares .ahead)) (toLink root)) ns)) × ((r .made ≤ 1) × (length (now (made .exit)) ≡ words)) ⌝ }
+pub fn enqueue(value: u64, spares: Spares, limit: u16, entries: u16, root: Link) -> OneMade
+    requires { ⌜ suc (spares .ahead .key) < 2 ^ 32 ⌝ }
+    ensures { λ r. ⌜ done (toOneOutcome r) ≡ enqueueProg 0 value (spares .first) (spares .second) entries limit (toAhead (spares .ahead)) (toLink root) ⌝ }
 {
     if entries >= limit {
-        return no_nodes(root, entries, StepAnswer::Full);
+        return none_made(root, entries, StepAnswer::Full);
     }
     let n = newest(value, spares, entries);
-    set_node(made, 0, n);
     let more = entries + 1;
-    Outcome {
-        made: 1,
+    OneMade {
+        made: true,
+        node: n,
         root: root_after_in(entries, root, n),
         entries: more,
         answer: StepAnswer::Answered(Answer::Queued),
@@ -133,17 +121,13 @@ pub fn enqueue_ahead(spares: Spares, limit: u16, entries: u16) -> Ahead
 
 // ---- out
 // An out wants the oldest.
-pub fn dequeue_wanted(entries: u16, root: Link, held: &[u64; ROW], count: usize) -> Wanted
-    requires { ⌜ (length (now held) ≡ words) × (count ≤ places) ⌝ }
-    ensures { λ r. ⌜ toWanted r ≡ wantedOf (resume (dequeueProg 0 entries (toLink root)) (nodesOf (heldIn (now (held .entry)) count))) ⌝ }
+pub fn dequeue_wanted(entries: u16, root: Link) -> Wanted
+    ensures { λ r. ⌜ toWanted r ≡ wantedIn (dequeueProg 0 entries (toLink root)) ⌝ }
 {
     if entries == 0 {
         return Wanted::Done;
     }
-    if count == 0 {
-        return Wanted::Fetch(start(root));
-    }
-    Wanted::Done
+    Wanted::Fetch(start(root))
 }
 
 // The root link after an out: the oldest's left link, and none with the last one gone.
@@ -157,23 +141,18 @@ fn root_after_out(entries: u16, left: Link) -> Link
     left
 }
 
-// An out takes the oldest.
-pub fn dequeue(entries: u16, root: Link, held: &[u64; ROW], count: usize) -> Outcome
-    requires { ⌜ (length (now held) ≡ words) × (count ≤ places) ⌝ }
-    ensures { λ r. ⌜ (toOutcome r [] ≡ outcomeOf (toLink root) entries (resume (dequeueProg 0 entries (toLink root)) (nodesOf (heldIn (now (held .entry)) count)))) × (r .made ≡ 0) ⌝ }
+// An out takes the oldest. An empty queue has none: whatever node is given, nothing is taken.
+pub fn dequeue(entries: u16, root: Link, oldest: Node) -> OneMade
+    ensures { λ r. ⌜ done (toOneOutcome r) ≡ after (dequeueProg 0 entries (toLink root)) (toNode oldest ∷ []) ⌝ }
 {
     if entries == 0 {
-        return no_nodes(root, entries, StepAnswer::Answered(Answer::Empty));
+        return none_made(root, entries, StepAnswer::Answered(Answer::Empty));
     }
-    if count == 0 {
-        return no_nodes(root, entries, StepAnswer::Answered(Answer::Absent));
-    }
-    let n = node_at(held, 0);
-    let link = root_after_out(entries, n.left);
-    no_nodes(
+    let link = root_after_out(entries, oldest.left);
+    none_made(
         link,
         one_less(entries),
-        StepAnswer::Answered(Answer::Dequeued(n.value)),
+        StepAnswer::Answered(Answer::Dequeued(oldest.value)),
     )
 }
 

@@ -6,13 +6,14 @@
 use bucket_writer::read_slot;
 use libc::STDOUT_FILENO;
 use path_reader::Wish;
+use path_slots::PATH_SLOTS;
 use slot_fields::no_link;
 use slot_fields::node_of;
+use slot_row::ROW_LENGTH;
+use slot_row::get;
 use slot_spec::Node;
 use slot_spec::Reading;
 use slot_spec::SLOT_LENGTH;
-use stash_words::WORDS;
-use stash_words::get;
 use test_rounds::Closed;
 use test_rounds::round;
 use test_rounds::take_round;
@@ -21,7 +22,7 @@ ghost use mathlib.Core.Path.{_≡_};
 ghost use Prim.Native.Nat.{_≤_};
 ghost use lib.ListN.{length};
 ghost use Rattle.slot_spec.specs.Tree.{treeLength};
-ghost use Rattle.word_round_laws.specs.Words.{places, wordCount};
+ghost use Rattle.word_round_laws.specs.SlotRow.{places, rowLength, pathSlots};
 ghost use Rattle.test_rounds.specs.Single.{Resting, Rests};
 
 const SIZE: usize = 2;
@@ -82,8 +83,8 @@ fn print_waits(n: Node) {
     print_node(n);
 }
 
-fn print_waiting(w: &[u64; WORDS], n: usize)
-    requires { ⌜ (length (now w) ≡ wordCount) × (n ≤ places) ⌝ }
+fn print_waiting(w: &[u8], n: usize)
+    requires { ⌜ (length (now w) ≡ rowLength) × (n ≤ places) ⌝ }
 {
     let mut i = 0;
     while i < n {
@@ -115,8 +116,8 @@ fn say_stopped() {
 }
 
 // What a step left; a node that came to wait is not worth a list.
-fn print_store(kind: u8, mark: u8, w: &[u64; WORDS], n: usize, tree: &[u8])
-    requires { ⌜ (length (now w) ≡ wordCount) × (n ≤ places) × (length (now tree) ≡ treeLength 2) ⌝ }
+fn print_store(kind: u8, mark: u8, w: &[u8], n: usize, tree: &[u8])
+    requires { ⌜ (length (now w) ≡ rowLength) × (n ≤ places) × (length (now tree) ≡ treeLength 2) ⌝ }
 {
     if mark != 0 {
         say(b"  damage: nothing is changed\n");
@@ -155,13 +156,13 @@ fn step(
     key: u16,
     tag: u16,
     leaf: u16,
-    w: &mut [u64; WORDS],
+    w: &mut [u8],
     n: usize,
-    s: &mut [u64; WORDS],
     tree: &mut [u8],
+    from: &mut [u32; PATH_SLOTS],
 ) -> Closed
-    requires { ⌜ Resting 2 n (now w) (now s) (now tree) ⌝ }
-    ensures { λ r. ⌜ Rests 2 (now (w .exit)) (now (s .exit)) (now (tree .exit)) r ⌝ }
+    requires { ⌜ Resting 2 n (now w) (now tree) × (length (now from) ≡ pathSlots) ⌝ }
+    ensures { λ r. ⌜ Rests 2 (now (w .exit)) (now (tree .exit)) r × (length (now (from .exit)) ≡ pathSlots) ⌝ }
 {
     let node = new_node(key, tag);
     if kind == b'n' {
@@ -181,9 +182,9 @@ fn step(
         return stopped(n, node);
     }
     if kind == b'r' {
-        return round(w, n, s, tree, SIZE, leaf as usize, Wish::Nothing);
+        return round(w, n, tree, SIZE, leaf as usize, Wish::Nothing, from);
     }
-    take_round(w, n, s, tree, SIZE, key as u32, tag, leaf)
+    take_round(w, n, tree, SIZE, key as u32, tag, leaf, from)
 }
 
 // A digit, or a letter for 10 and more.
@@ -197,8 +198,8 @@ fn number(c: u8) -> u16 {
     0
 }
 
-fn run(script: &[u8], w: &mut [u64; WORDS], s: &mut [u64; WORDS], tree: &mut [u8])
-    requires { ⌜ Resting 2 0 (now w) (now s) (now tree) × (length (now script) ≤ 1000) ⌝ }
+fn run(script: &[u8], w: &mut [u8], tree: &mut [u8], from: &mut [u32; PATH_SLOTS])
+    requires { ⌜ Resting 2 0 (now w) (now tree) × (length (now from) ≡ pathSlots) × (length (now script) ≤ 1000) ⌝ }
 {
     let mut n = 0;
     let mut i = 0;
@@ -208,7 +209,7 @@ fn run(script: &[u8], w: &mut [u64; WORDS], s: &mut [u64; WORDS], tree: &mut [u8
         let tag = number(script[i + 2]);
         let leaf = number(script[i + 3]);
         announce(kind, key, tag, leaf);
-        let r = step(kind, key, tag, leaf, w, n, s, tree);
+        let r = step(kind, key, tag, leaf, w, n, tree, from);
         if r.mark == 9 {
             say_stopped();
             return;
@@ -222,8 +223,8 @@ fn run(script: &[u8], w: &mut [u64; WORDS], s: &mut [u64; WORDS], tree: &mut [u8
 fn main() {
     let script =
         b"r001 n120 r003 n720 r002 n600 n200 n500 n300 n400 r000 t403 r001 t721 t612 t930 ng00 nf00 ne00 nd00 nc00 nb00 na00 n900 n800 r000 tb02 r003 nc30 r001";
-    let mut w = [0u64; WORDS];
-    let mut s = [0u64; WORDS];
+    let mut w = [0u8; ROW_LENGTH];
     let mut tree = [0u8; TREE_LENGTH];
-    run(script, &mut w, &mut s, &mut tree);
+    let mut from = [0u32; PATH_SLOTS];
+    run(script, &mut w, &mut tree, &mut from);
 }

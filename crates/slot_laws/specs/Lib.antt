@@ -9,4 +9,5 @@ pub mod SlotLaws
 pub mod ReadLaws
 pub mod BucketLaws
 pub mod WordLaws
+pub mod ByteRow
 pub mod Examples

@@ -1,62 +1,48 @@
-// The stack over the nodes that a call has fetched so far: which node is wanted next, the step, and the fetch test.
-use node_rows::ROW;
-use node_rows::node_at;
-use node_rows::set_node;
+// The stack's operations as functions of the one node that a call fetches: whether it is wanted, the step, and the fetch test.
 use operation_spec::Answer;
-use operation_spec::Outcome;
 use operation_spec::StepAnswer;
 use operation_spec::Want;
 use operation_spec::Wanted;
-use operations::no_nodes;
 use operations::one_less;
 use operations::start;
+use short_outcomes::OneMade;
+use short_outcomes::none_made;
 use slot_fields::no_link;
 use slot_spec::Link;
 use slot_spec::Node;
 ghost use mathlib.Core.Path.{_≡_};
-ghost use mathlib.Core.List.{List, []};
-ghost use Prim.Native.Nat.{ℕ, _≤_};
-ghost use lib.ListN.{length};
-ghost use Rattle.method_spec.specs.Node as method;
+ghost use mathlib.Core.List.{[], _∷_};
+ghost use Prim.Native.Nat.{ℕ};
+ghost use Rattle.method_spec.specs.Prog.{done, after};
 ghost use Rattle.method_spec.specs.Stack.{pushProg, popProg, stackTest};
 ghost use Rattle.leaf_spec.specs.Convert.{toLink, toNode};
-ghost use Rattle.operation_spec.specs.Method.{toOutcome, toWant, toWanted};
-ghost use Rattle.operations.specs.Resume.{resume, wantedOf, outcomeOf};
-ghost use Rattle.node_rows.specs.Row.{places, words};
-ghost use Rattle.node_rows.specs.Held.{heldIn, nodesOf};
+ghost use Rattle.operation_spec.specs.Method.{toWant, toWanted, wantedIn};
+ghost use Rattle.short_outcomes.specs.OneFetch.{toOneOutcome};
 
 // A push fetches none: a node with key entries + 1 whose left link is the old top.
-pub fn push(
-    value: u64,
-    tag: u16,
-    limit: u16,
-    entries: u16,
-    root: Link,
-    made: &mut [u64; ROW],
-) -> Outcome
-    requires { ⌜ length (now made) ≡ words ⌝ }
-    ensures { λ r. ⌜ ((ns : List (method.Node ℕ)) → toOutcome r (nodesOf (heldIn (now (made .exit)) (r .made))) ≡ outcomeOf (toLink root) entries (resume (pushProg 0 value tag entries limit (toLink root)) ns)) × ((r .made ≤ 1) × (length (now (made .exit)) ≡ words)) ⌝ }
+pub fn push(value: u64, tag: u16, limit: u16, entries: u16, root: Link) -> OneMade
+    ensures { λ r. ⌜ done (toOneOutcome r) ≡ pushProg 0 value tag entries limit (toLink root) ⌝ }
 {
     if entries >= limit {
-        return no_nodes(root, entries, StepAnswer::Full);
+        return none_made(root, entries, StepAnswer::Full);
     }
     let more = entries + 1;
     let key = more as u32;
-    let n = Node {
+    let node = Node {
         key,
         value,
         tag,
         left: root,
         right: no_link(),
     };
-    set_node(made, 0, n);
     let top = Link {
         height: 1,
         key,
         tag,
     };
-    Outcome {
-        made: 1,
+    OneMade {
+        made: true,
+        node,
         root: top,
         entries: more,
         answer: StepAnswer::Answered(Answer::Pushed),
@@ -64,36 +50,27 @@ pub fn push(
 }
 
 // A pop wants the top.
-pub fn pop_wanted(entries: u16, root: Link, held: &[u64; ROW], count: usize) -> Wanted
-    requires { ⌜ (length (now held) ≡ words) × (count ≤ places) ⌝ }
-    ensures { λ r. ⌜ toWanted r ≡ wantedOf (resume (popProg entries (toLink root)) (nodesOf (heldIn (now (held .entry)) count))) ⌝ }
+pub fn pop_wanted(root: Link) -> Wanted
+    ensures { λ r. ⌜ ((entries : ℕ) → toWanted r ≡ wantedIn (popProg entries (toLink root))) ⌝ }
 {
     if root.height == 0 {
         return Wanted::Done;
     }
-    if count == 0 {
-        return Wanted::Fetch(start(root));
-    }
-    Wanted::Done
+    Wanted::Fetch(start(root))
 }
 
-// The root link becomes the top's left link.
-pub fn pop(entries: u16, root: Link, held: &[u64; ROW], count: usize) -> Outcome
-    requires { ⌜ (length (now held) ≡ words) × (count ≤ places) ⌝ }
-    ensures { λ r. ⌜ (toOutcome r [] ≡ outcomeOf (toLink root) entries (resume (popProg entries (toLink root)) (nodesOf (heldIn (now (held .entry)) count)))) × (r .made ≡ 0) ⌝ }
+// The root link becomes the top's left link. An empty stack has no top: whatever node is given, nothing is popped.
+pub fn pop(entries: u16, root: Link, top: Node) -> OneMade
+    ensures { λ r. ⌜ done (toOneOutcome r) ≡ after (popProg entries (toLink root)) (toNode top ∷ []) ⌝ }
 {
     if root.height == 0 {
-        return no_nodes(root, entries, StepAnswer::Answered(Answer::Empty));
+        return none_made(root, entries, StepAnswer::Answered(Answer::Empty));
     }
-    if count == 0 {
-        return no_nodes(root, entries, StepAnswer::Answered(Answer::Absent));
-    }
-    let n = node_at(held, 0);
-    let link = n.left;
-    no_nodes(
+    let link = top.left;
+    none_made(
         link,
         one_less(entries),
-        StepAnswer::Answered(Answer::Popped(n.value)),
+        StepAnswer::Answered(Answer::Popped(top.value)),
     )
 }
 

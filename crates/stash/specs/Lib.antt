@@ -1,4 +1,4 @@
 pub mod Stash
 pub mod StashLaws
-pub mod LoadLaws
+pub mod LookLaws
 pub mod SaveLaws

@@ -17,7 +17,8 @@ use Rattle.slot_spec.specs.declared.Node as node
 use Rattle.method_spec.specs.Node.{Node}
 use Rattle.round_spec.specs.Round.{stashLimit}
 use Rattle.leaf_spec.specs.Convert.{fromNode}
-use Rattle.slot_spec.specs.Row.{slotsOf, zeroSlot}
+use Rattle.slot_spec.specs.Row.{zeroSlot}
+use Rattle.word_round_laws.specs.SlotRow.{slotsIn}
 use Rattle.stash_laws.specs.Waiting.{nodeIn, waitingIn, Holds}
 use Rattle.stash_laws.specs.WaitingLaws.{waiting-length}
 use Rattle.state_spec.specs.declared.Place.{Place}
@@ -104,11 +105,11 @@ blank-from s i p sized h few =
     ∙ ap (λ (k : ℕ). replicate k noPlace) f
 
 -- ---- the places that are saved
-pub any-default : {A : Type 0} (l : List A) (i : ℕ) (d e : A) → i < length l → getD l i d ≡ getD l i e
+any-default : {A : Type 0} (l : List A) (i : ℕ) (d e : A) → i < length l → getD l i d ≡ getD l i e
 any-default {A = A} l i d e h =
     ap (λ (m : List A). getD m i d) (split-at l i e h) ∙ getD-at (take i l) (getD l i e) (drop (suc i) l) d i (length-take-le i l (omega arith))
 
-abbrev holding : Node ℕ → Place
+abbrev pub holding : Node ℕ → Place
 holding n = record { full = true; node = fromNode n }
 
 -- A state with other places.
@@ -126,12 +127,12 @@ withPlaces s ps =
     }
 
 -- The first i places as they are saved, and the others as they were.
-abbrev pub savedTo : (i n : ℕ) (words : List ℕ) → State → State
-savedTo i n words s = withPlaces s (take i (waitingPlaces (waitingIn n words)) ++ drop i (s .places))
+abbrev pub savedTo : (i n : ℕ) (row : List ℕ) → State → State
+savedTo i n row s = withPlaces s (take i (waitingPlaces (waitingIn n row)) ++ drop i (s .places))
 
-module _ (n : ℕ) (words : List ℕ) (h : Holds n words) where
+module _ (n : ℕ) (row : List ℕ) (h : Holds n row) where
   abbrev nodes : List (Node ℕ)
-  nodes = waitingIn n words
+  nodes = waitingIn n row
 
   many : length (map holding nodes) ≡ n
   many = length-map nodes holding ∙ waiting-length h
@@ -140,7 +141,7 @@ module _ (n : ℕ) (words : List ℕ) (h : Holds n words) where
   placed-count = simp (length-append, length-replicate) (omega (arith, many, waiting-length h, h .few))
 
   -- What stands in a place: a node, or from n on nothing.
-  pub holds-node : (i : ℕ) (x : Slot) (m : node.Node) → i < n → x ≡ getD (slotsOf words) i zeroSlot → m ≡ nodeOf (fieldsIn (slotBytes x))
+  pub holds-node : (i : ℕ) (x : Slot) (m : node.Node) → i < n → x ≡ getD (slotsIn row) i zeroSlot → m ≡ nodeOf (fieldsIn (slotBytes x))
       → record { full = true; node = m } ≡ getD (waitingPlaces nodes) i noPlace
   holds-node i x m b e f =
       let d = holding (nodeIn zeroSlot) in
@@ -148,7 +149,7 @@ module _ (n : ℕ) (words : List ℕ) (h : Holds n words) where
       (any-default (waitingPlaces nodes) i noPlace d (omega (arith, placed-count, h .few))
       ∙ List·getD-append (map holding nodes) (replicate (places - length nodes) noPlace) d i (omega (arith, many))
       ∙ List·getD-map holding nodes i (nodeIn zeroSlot)
-      ∙ ap holding (List·getD-map nodeIn (take n (slotsOf words)) i zeroSlot ∙ ap nodeIn (getD-take n (slotsOf words) i zeroSlot b))
+      ∙ ap holding (List·getD-map nodeIn (take n (slotsIn row)) i zeroSlot ∙ ap nodeIn (getD-take n (slotsIn row) i zeroSlot b))
       ∙ rw (f, e))
 
   pub holds-none : (i : ℕ) → n ≤ i → i < places → noPlace ≡ getD (waitingPlaces nodes) i noPlace
@@ -159,8 +160,8 @@ module _ (n : ℕ) (words : List ℕ) (h : Holds n words) where
 
   module _ (s : State) (fit : fits s ≡ true) (sized : length (s .places) ≡ places) where
     -- One more place is as it is saved.
-    pub saved-more : (i : ℕ) (after : State) (p : Place) → i < places → after ≡ savedTo i n words s → p ≡ getD (waitingPlaces nodes) i noPlace
-        → withPlaces after (set (after .places) i p) ≡ savedTo (i + 1) n words s
+    pub saved-more : (i : ℕ) (after : State) (p : Place) → i < places → after ≡ savedTo i n row s → p ≡ getD (waitingPlaces nodes) i noPlace
+        → withPlaces after (set (after .places) i p) ≡ savedTo (i + 1) n row s
     saved-more i after p b e q =
         let rest = drop (suc i) (s .places) in
         rw (e, q, add-one i, drop-cons (s .places) i noPlace (omega arith))
@@ -181,7 +182,7 @@ module _ (n : ℕ) (words : List ℕ) (h : Holds n words) where
         ∙ ap (λ (k : ℕ). replicate k noPlace) f in
         ap (λ (ps : List Place). take i (waitingPlaces nodes) ++ ps) (blank-from s i (fit-places s fit) sized b few ∙ sym left) ∙ take-append-drop i (waitingPlaces nodes)
 
-    pub saved-all : (i : ℕ) (after : State) (mark entries : ℕ) (root : Link) (ahead : Ahead) → after ≡ savedTo i n words s → n ≤ i → s .count ≤ i → i ≤ places
+    pub saved-all : (i : ℕ) (after : State) (mark entries : ℕ) (root : Link) (ahead : Ahead) → after ≡ savedTo i n row s → n ≤ i → s .count ≤ i → i ≤ places
         → _≡_ {A = State} (record { mark = mark; structure = after .structure; size = after .size; entries = entries; root = root; ahead = ahead; count = n; places = after .places })
         (saved (s .structure) (s .size) mark entries root ahead nodes)
     saved-all i after mark entries root ahead e a b few = rw (e, nothing-left i a b few, waiting-length h)

@@ -1,5 +1,5 @@
-// For the length of a call the waiting nodes of a state are words in a lent array: loaded at its start, joined by other
-// nodes, saved at its end.
+// The waiting nodes of a state as slots in a lent row: other nodes join them, and a place of a state is loaded into the row and saved
+// from it.
 use slot_fields::slot_of;
 use slot_spec::Node;
 use slot_spec::Slot;

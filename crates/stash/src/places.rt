@@ -1,27 +1,24 @@
-// One place of a state: loaded into the words, and saved from them.
+// One place of a state: loaded into the row, and saved from it.
 use super::words_of;
 use slot_fields::node_of;
-use stash_words::WORDS;
-use stash_words::get;
-use stash_words::put;
+use slot_row::get;
+use slot_row::put;
 use state_places::no_place;
 use state_places::place_good;
 use state_spec::Place;
 ghost use mathlib.Core.Path.{_≡_};
-ghost use mathlib.Core.Bool.{_&&_};
 ghost use Prim.Native.Nat.{_≤_, _<_};
-ghost use lib.Dec.{leb};
 ghost use lib.ListN.{length, getD};
-ghost use Rattle.state_spec.specs.Fit.{placeGood, noPlace};
+ghost use Rattle.state_spec.specs.Fit.{noPlace};
 ghost use Rattle.call_spec.specs.Store.{waitingPlaces};
-ghost use Rattle.word_round_laws.specs.Words.{places, wordCount};
+ghost use Rattle.word_round_laws.specs.SlotRow.{places, rowLength};
 ghost use Rattle.stash_laws.specs.Waiting.{waitingIn, Holds};
-ghost use Rattle.stash.specs.Stash.{PlaceLoaded};
+ghost use Rattle.stash.specs.Stash.{goodFrom, PlaceLoaded};
 
 // Whether a used place is good and its key at least `least`, one more than the key before it.
 fn used_fits(p: Place, size: usize, least: u64) -> bool
     requires { ⌜ size ≤ 16 ⌝ }
-    ensures { λ r. ⌜ r ≡ (placeGood size p && leb least (p .node .key)) ⌝ }
+    ensures { λ r. ⌜ r ≡ goodFrom size least p ⌝ }
 {
     if !place_good(size, p) {
         return false;
@@ -29,10 +26,10 @@ fn used_fits(p: Place, size: usize, least: u64) -> bool
     least <= p.node.key as u64
 }
 
-// A used place is asked whether it fits; if so its node is put into slot i of the words.
-pub fn load_place(w: &mut [u64; WORDS], i: usize, p: Place, size: usize, least: u64) -> bool
-    requires { ⌜ (length (now w) ≡ wordCount) × ((i < places) × (size ≤ 16)) ⌝ }
-    ensures { λ r. ⌜ PlaceLoaded size least i p (now (w .entry)) (now (w .exit)) r ⌝ }
+// A used place is asked whether it fits; if so its node is put into slot i of the row.
+pub fn load_place(w: &mut [u8], i: usize, p: Place, size: usize, least: u64) -> bool
+    requires { ⌜ (length (now w) ≡ rowLength) × ((i < places) × (size ≤ 16)) ⌝ }
+    ensures { λ r. ⌜ (r ≡ goodFrom size least p) × PlaceLoaded i p (now (w .entry)) (now (w .exit)) r ⌝ }
 {
     if !used_fits(p, size, least) {
         return false;
@@ -42,8 +39,8 @@ pub fn load_place(w: &mut [u64; WORDS], i: usize, p: Place, size: usize, least: 
     true
 }
 
-// Place i as it is saved, where n nodes wait in the words.
-pub fn saved_place(w: &[u64; WORDS], n: usize, i: usize) -> Place
+// Place i as it is saved, where n nodes wait in the row.
+pub fn saved_place(w: &[u8], n: usize, i: usize) -> Place
     requires { ⌜ Holds n (now w) × (i < places) ⌝ }
     ensures { λ r. ⌜ r ≡ getD (waitingPlaces (waitingIn n (now (w .entry)))) i noPlace ⌝ }
 {

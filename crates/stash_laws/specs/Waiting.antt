@@ -1,4 +1,4 @@
--- The waiting nodes of a call as the words that hold them: the first n slots of a lent array.
+-- The waiting nodes of a call as the slots that hold them: the first n of a lent row.
 use mathlib.Core.Path.{_≡_}
 use mathlib.Core.List.{List, map}
 use Prim.Native.Nat.{ℕ, _≤_}
@@ -8,8 +8,8 @@ use Rattle.slot_spec.specs.Slot.{slotOf, Ranged}
 use Rattle.slot_spec.specs.declared.Slot.{Slot}
 use Rattle.method_spec.specs.Node.{Node}
 use Rattle.leaf_spec.specs.Convert.{toNode, fromNode}
-use Rattle.word_round_laws.specs.Words.{places, wordCount}
-use Rattle.slot_spec.specs.Row.{slotsOf, nodeFrom}
+use Rattle.word_round_laws.specs.SlotRow.{places, rowLength, slotsIn, Blank}
+use Rattle.slot_spec.specs.Row.{nodeFrom}
 
 -- The words of a node, and the node that words hold.
 abbrev pub wordsFor : Node ℕ → Slot
@@ -24,11 +24,12 @@ InWidths n = Ranged (fromNode n)
 
 -- The nodes that the first n slots hold.
 abbrev pub waitingIn : ℕ → List ℕ → List (Node ℕ)
-waitingIn n words = map nodeIn (take n (slotsOf words))
+waitingIn n row = map nodeIn (take n (slotsIn row))
 
--- The first n slots are the words of nodes.
-pub record Holds (n : ℕ) (words : List ℕ) : Type 0 where
-  pub sized : length words ≡ wordCount
+-- The first n slots are the words of nodes, and the other places are empty.
+pub record Holds (n : ℕ) (row : List ℕ) : Type 0 where
+  pub sized : length row ≡ rowLength
   pub few : n ≤ places
-  pub exact : take n (slotsOf words) ≡ map wordsFor (waitingIn n words)
-  pub ranged : All InWidths (waitingIn n words)
+  pub exact : take n (slotsIn row) ≡ map wordsFor (waitingIn n row)
+  pub ranged : All InWidths (waitingIn n row)
+  pub blank : Blank n row

@@ -1,4 +1,4 @@
--- Words that are those of some nodes hold those nodes; a round over such words is the round over the nodes.
+-- Slots that are the words of some nodes hold those nodes; a round over such slots is the round over the nodes.
 use mathlib.Core.Path.{_≡_, refl, sym, _∙_, ap, ap₂, subst}
 use mathlib.Core.List.{List, [], _∷_, map, List·Memᴰ·head, List·Memᴰ·tail}
 use mathlib.Core.Option.{Option, Option·map}
@@ -21,9 +21,8 @@ use Rattle.round_laws.specs.NodeLaws.{reading-full, read-ranged}
 use Rattle.round_laws.specs.Same.{mapRead, mapHand, mapWritten, Carries, insert-carried, read-half-carried, write-half-carried}
 use Rattle.leaf_spec.specs.Convert.{toNode, fromNode}
 use Rattle.leaf_spec.specs.Leaf.{readLeaf, leafFormat}
-use Rattle.word_round_laws.specs.Words.{places, wordCount}
-use Rattle.slot_spec.specs.Row.{slotsOf}
-use Rattle.word_round_laws.specs.WordsLaws.{slots-count}
+use Rattle.word_round_laws.specs.SlotRow.{places, rowLength, slotsIn, Blank}
+use Rattle.word_round_laws.specs.SlotRowLaws.{slots-count}
 use Rattle.stash_laws.specs.Waiting.{wordsFor, nodeIn, InWidths, waitingIn, Holds}
 
 words-fields-in : (n : node.Node) → Ranged n → fieldsIn (slotBytes (slotOf n)) ≡ fieldsOf n
@@ -40,24 +39,25 @@ nodes-in-words (n ∷ ns) r =
     (nodes-in-words ns (λ m h. r m (List·Memᴰ·tail h)))
 
 -- Slots that are the words of some nodes hold them.
-module _ (n : ℕ) (words : List ℕ) (ns : List (Node ℕ)) (r : All InWidths ns) (e : take n (slotsOf words) ≡ map wordsFor ns) where
-  pub waiting-are : waitingIn n words ≡ ns
+module _ (n : ℕ) (row : List ℕ) (ns : List (Node ℕ)) (r : All InWidths ns) (e : take n (slotsIn row) ≡ map wordsFor ns) where
+  pub waiting-are : waitingIn n row ≡ ns
   waiting-are = ap (map nodeIn) e ∙ nodes-in-words ns r
 
-  pub holds-them : length words ≡ wordCount → n ≤ places → Holds n words
-  holds-them sized few =
+  pub holds-them : length row ≡ rowLength → n ≤ places → Blank n row → Holds n row
+  holds-them sized few blank =
       record {
         sized = sized;
         few = few;
         exact = e ∙ ap (map wordsFor) (sym waiting-are);
         ranged = subst (All InWidths) (sym waiting-are) r;
+        blank = blank;
       }
 
 -- As many nodes as slots.
-pub waiting-length : {n : ℕ} {words : List ℕ} → Holds n words → length (waitingIn n words) ≡ n
-waiting-length {n} {words} h =
-    let all = slots-count words (h .sized) in
-    length-map (take n (slotsOf words)) nodeIn ∙ length-take n (slotsOf words) ∙ omega (arith, h .few)
+pub waiting-length : {n : ℕ} {row : List ℕ} → Holds n row → length (waitingIn n row) ≡ n
+waiting-length {n} {row} h =
+    let all = slots-count row in
+    length-map (take n (slotsIn row)) nodeIn ∙ length-take n (slotsIn row) ∙ omega (arith, h .few)
 
 -- ---- the two formats
 leaf-words : (r : Reading) → wordsOf (readingOf r) ≡ mapRead wordsFor (readLeaf r)

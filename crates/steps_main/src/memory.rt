@@ -2,6 +2,7 @@
 use node_rows::ROW;
 use node_rows::node_at;
 use operation_spec::Outcome;
+use short_outcomes::OneMade;
 use slot_fields::no_node;
 use slot_spec::Link;
 use slot_spec::Node;
@@ -89,6 +90,22 @@ pub fn put_back(memory: Memory, o: Outcome, made: &[u64; ROW]) -> Memory
     m.root = root;
     m.entries = o.entries;
     m
+}
+
+// The memory with what a step makes, which is at most one node.
+pub fn put_one(memory: Memory, o: OneMade) -> Memory
+    requires { ⌜ memory .count ≤ 16 ⌝ }
+    ensures { λ r. ⌜ r .count ≤ 16 ⌝ }
+{
+    let mut m = memory;
+    let root = o.root;
+    m.root = root;
+    m.entries = o.entries;
+    if !o.made {
+        return m;
+    }
+    let n = o.node;
+    with_node(m, n)
 }
 
 // The number of the node with the least key from `least` on, or how many nodes there are.

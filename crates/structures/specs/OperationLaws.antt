@@ -1,25 +1,22 @@
--- The operations by their programs.
-use Prim.Native.Nat.{ℕ, suc, _^_, _<_}
-use mathlib.Core.Path.{_≡_, refl, sym, _∙_, ap, subst}
+-- The map's and the heap's operations by their programs, and what is known ahead after any structure's.
+use Prim.Native.Nat.{ℕ}
+use mathlib.Core.Path.{_≡_, sym, _∙_, ap}
 use mathlib.Core.List.{List}
-use mathlib.Core.Option.{Option, none}
+use mathlib.Core.Option.{Option}
 use native.Mathlib.Omega.{arith}
-use native.Mathlib.Decide.{decLt}
-use Rattle.method_spec.specs.Node.{Link, Ahead}
+use Rattle.method_spec.specs.Node.{Link}
 use Rattle.method_spec.specs.Prog.{Want, Prog, after}
 use Rattle.method_spec.specs.Outcome.{Outcome}
 use Rattle.method_spec.specs.Map.{getProg, putProg, removeProg}
-use Rattle.method_spec.specs.Stack.{pushProg, popProg}
 use Rattle.method_spec.specs.Heap.{addProg, takeProg}
-use Rattle.method_spec.specs.Queue.{enqueueProg, enqueueAhead, dequeueProg, dequeueAhead}
+use Rattle.method_spec.specs.Queue.{enqueueAhead, dequeueAhead}
 use Rattle.method_spec.specs.Call.{program, aheadAfter}
 use Rattle.slot_spec.specs.declared.Link as link
 use Rattle.leaf_spec.specs.Convert.{toAhead}
-use Rattle.leaf_spec.specs.Entries.{KeyLeft}
 use Rattle.operation_spec.specs.declared.Op.{Op}
-use Rattle.operation_spec.specs.declared.Op.the-variants.{Get, Put, Remove, Push, Pop, Add, Take, Enqueue, Dequeue}
+use Rattle.operation_spec.specs.declared.Op.the-variants.{Get, Put, Remove, Add, Take, Enqueue, Dequeue}
 use Rattle.operation_spec.specs.declared.Spares.{Spares}
-use Rattle.operation_spec.specs.Method.{toOp, programFor, aheadFor, wantedIn, outcomeIn}
+use Rattle.operation_spec.specs.Method.{programFor, aheadFor, wantedIn, outcomeIn}
 use Rattle.operations.specs.Resume.{resume, wantedOf, outcomeOf}
 use Rattle.operations.specs.ResumeLaws.{wanted-after, outcome-after}
 use Rattle.node_rows.specs.Held.{Held, heldIn, nodesOf}
@@ -28,8 +25,6 @@ use Rattle.map_changes.specs.declared.Bottom.{Bottom}
 use Rattle.map_descent.specs.Walk.{Walks}
 use Rattle.map_changes.specs.Bottom.{StartsUp}
 use Rattle.map_steps.specs.Outcome.{fromBottom}
-use Rattle.stack_steps.specs.StackLaws.{push-full, push-one}
-use Rattle.queue_steps.specs.QueueLaws.{enqueue-full, enqueue-one}
 use Rattle.structures.specs.Operation.{LowHeld}
 
 -- What the map's ways down and up ask.
@@ -59,14 +54,6 @@ module _ (op : Op) (spares : Spares) (limit entries : ℕ) (l : Link ℕ) where
   unfolding program
   program-remove e = ap at e
 
-  pub program-push : {value : ℕ} → op ≡ Push value → programOf ≡ pushProg 0 value (spares .first) entries limit l
-  unfolding program
-  program-push e = ap at e
-
-  pub program-pop : op ≡ Pop → programOf ≡ popProg entries l
-  unfolding program
-  program-pop e = ap at e
-
   pub program-add : {value : ℕ} → op ≡ Add value → programOf ≡ addProg 0 value (spares .first) entries limit l
   unfolding program
   program-add e = ap at e
@@ -74,19 +61,6 @@ module _ (op : Op) (spares : Spares) (limit entries : ℕ) (l : Link ℕ) where
   pub program-take : op ≡ Take → programOf ≡ takeProg 0 entries l
   unfolding program
   program-take e = ap at e
-
-  pub program-enqueue : {value : ℕ} → op ≡ Enqueue value
-      → programOf ≡ enqueueProg 0 value (spares .first) (spares .second) entries limit (toAhead (spares .ahead)) l
-  unfolding program
-  program-enqueue e = ap at e
-
-  pub program-dequeue : op ≡ Dequeue → programOf ≡ dequeueProg 0 entries l
-  unfolding program
-  program-dequeue e = ap at e
-
--- An in has a key for the node that comes next.
-pub in-has-key : {op : Op} {value next : ℕ} → op ≡ Enqueue value → KeyLeft (toOp op) next → suc next < 2 ^ 32
-in-has-key {next = next} e k = subst (λ (o : Op). KeyLeft (toOp o) next) e k
 
 -- What is known ahead after the step.
 module _ {op : Op} (spares : Spares) (limit entries : ℕ) where
@@ -115,18 +89,3 @@ module _ {p q : Prog ℕ (Outcome ℕ)} (e : p ≡ q) (h : Held) where
     pub outcome-up : (l : Link ℕ) (entries : ℕ) {o : Outcome ℕ} → o ≡ outcomeOf l entries (fromBottom key root h b)
         → o ≡ outcomeIn l entries (after p (nodesOf h))
     outcome-up l entries f = outcome-by l entries (f ∙ ap (outcomeOf l entries) (sym (starts .resumes)))
-
-pub push-wants-none : (value tag entries limit : ℕ) (l : Link ℕ) (h : Held) → none ≡ wantedOf (resume (pushProg 0 value tag entries limit l) (nodesOf h))
-push-wants-none value tag entries limit l h = go (decLt entries limit)
-  where
-    go : Dec (entries < limit) → none ≡ wantedOf (resume (pushProg 0 value tag entries limit l) (nodesOf h))
-    go (yes k) = sym (ap wantedOf (push-one value tag entries limit l (nodesOf h) k))
-    go (no k) = sym (ap wantedOf (push-full value tag entries limit l (nodesOf h) (omega arith)))
-
-pub enqueue-wants-none : (value draw1 draw2 entries limit : ℕ) (a : Ahead ℕ) (l : Link ℕ) (h : Held)
-    → none ≡ wantedOf (resume (enqueueProg 0 value draw1 draw2 entries limit a l) (nodesOf h))
-enqueue-wants-none value draw1 draw2 entries limit a l h = go (decLt entries limit)
-  where
-    go : Dec (entries < limit) → none ≡ wantedOf (resume (enqueueProg 0 value draw1 draw2 entries limit a l) (nodesOf h))
-    go (yes k) = sym (ap wantedOf (enqueue-one value draw1 draw2 entries limit a l (nodesOf h) refl k))
-    go (no k) = sym (ap wantedOf (enqueue-full value draw1 draw2 entries limit a l (nodesOf h) (omega arith)))

@@ -1,4 +1,5 @@
-// What an operation wants next of the nodes fetched for it so far, its step once it wants none, and what is known ahead after it.
+// What a map's or a heap's operation wants next of the nodes fetched for it so far, and its step once it wants none; what is known ahead
+// after any structure's.
 use heap_steps::add;
 use heap_steps::add_wanted;
 use heap_steps::take;
@@ -13,28 +14,24 @@ use operation_spec::Op;
 use operation_spec::Outcome;
 use operation_spec::Spares;
 use operation_spec::Wanted;
-use queue_steps::dequeue;
 use queue_steps::dequeue_ahead;
-use queue_steps::dequeue_wanted;
-use queue_steps::enqueue;
 use queue_steps::enqueue_ahead;
 use slot_spec::Ahead;
 use slot_spec::Link;
-use stack_steps::pop;
-use stack_steps::pop_wanted;
-use stack_steps::push;
 ghost use mathlib.Core.Path.{_≡_};
+ghost use mathlib.Core.Bool.{false};
 ghost use Prim.Native.Nat.{_≤_};
 ghost use lib.ListN.{length};
 ghost use Rattle.leaf_spec.specs.Convert.{toLink, toAhead};
 ghost use Rattle.leaf_spec.specs.Entries.{KeyLeft};
-ghost use Rattle.operation_spec.specs.Method.{toOp, toOutcome, toWanted, wantedIn, outcomeIn, aheadFor};
+ghost use Rattle.operation_spec.specs.Method.{structureAsked, toOp, toOutcome, toWanted, wantedIn, outcomeIn, aheadFor};
 ghost use Rattle.node_rows.specs.Row.{places, words};
 ghost use Rattle.node_rows.specs.Held.{heldIn, nodesOf};
+ghost use Rattle.short_outcomes.specs.OneFetch.{oneFetch};
 ghost use Rattle.structures.specs.Operation.{LowHeld, afterHeld};
 
-// The next wanted node, for a store of that capacity with those entries and that root link, and what a new node's tags come from.
-// The first `count` nodes of the row are held; `made` is scratch space.
+// The next wanted node of a map or a heap, for a store of that capacity with those entries and that root link, and what a new node's tags
+// come from. The first `count` nodes of the row are held; `made` is scratch space. What is left after the named operations is a take.
 pub fn wanted(
     op: Op,
     limit: u16,
@@ -45,7 +42,7 @@ pub fn wanted(
     count: usize,
     made: &mut [u64; ROW],
 ) -> Wanted
-    requires { ⌜ LowHeld root (now held) count × (length (now made) ≡ words) ⌝ }
+    requires { ⌜ LowHeld root (now held) count × ((length (now made) ≡ words) × (oneFetch (structureAsked op) ≡ false)) ⌝ }
     ensures { λ r. ⌜ (toWanted r ≡ wantedIn (afterHeld op spares limit entries root (heldIn (now (held .entry)) count))) × (length (now (made .exit)) ≡ words) ⌝ }
 {
     match op {
@@ -73,17 +70,13 @@ pub fn wanted(
             count,
             made,
         ),
-        Op::Push(_) => Wanted::Done,
-        Op::Pop => pop_wanted(entries, root, held, count),
         Op::Add(_) => add_wanted(limit, entries, root, held, count),
-        Op::Take => take_wanted(entries, root, held, count, made),
-        Op::Enqueue(_) => Wanted::Done,
-        Op::Dequeue => dequeue_wanted(entries, root, held, count),
+        _ => take_wanted(entries, root, held, count, made),
     }
 }
 
-// The step, where no node is wanted any more; else nothing, with root link and entries as they were. The nodes that it makes are in
-// the first places of `made`. An in has a key for the node that comes next.
+// The step of a map or a heap, where no node is wanted any more; else nothing, with root link and entries as they were. The nodes that it makes are in
+// the first places of `made`.
 pub fn step(
     op: Op,
     limit: u16,
@@ -94,7 +87,7 @@ pub fn step(
     count: usize,
     made: &mut [u64; ROW],
 ) -> Outcome
-    requires { ⌜ LowHeld root (now held) count × ((length (now made) ≡ words) × KeyLeft (toOp op) (spares .ahead .key)) ⌝ }
+    requires { ⌜ LowHeld root (now held) count × ((length (now made) ≡ words) × (oneFetch (structureAsked op) ≡ false)) ⌝ }
     ensures { λ r. ⌜ (toOutcome r (nodesOf (heldIn (now (made .exit)) (r .made))) ≡ outcomeIn (toLink root) entries (afterHeld op spares limit entries root (heldIn (now (held .entry)) count))) × ((r .made ≤ places) × (length (now (made .exit)) ≡ words)) ⌝ }
 {
     match op {
@@ -125,16 +118,12 @@ pub fn step(
             count,
             made,
         ),
-        Op::Push(value) => push(value, spares.first, limit, entries, root, made),
-        Op::Pop => pop(entries, root, held, count),
         Op::Add(value) => add(value, spares.first, limit, entries, root, held, count, made),
-        Op::Take => take(entries, root, held, count, made),
-        Op::Enqueue(value) => enqueue(value, spares, limit, entries, root, made),
-        Op::Dequeue => dequeue(entries, root, held, count),
+        _ => take(entries, root, held, count, made),
     }
 }
 
-// What is known ahead after the step. It does not depend on the nodes that were fetched.
+// What is known ahead after the step. It does not depend on the nodes that were fetched. An in has a key for the node that comes next.
 pub fn ahead_after(op: Op, limit: u16, entries: u16, spares: Spares) -> Ahead
     requires { ⌜ KeyLeft (toOp op) (spares .ahead .key) ⌝ }
     ensures { λ r. ⌜ toAhead r ≡ aheadFor op spares limit entries ⌝ }

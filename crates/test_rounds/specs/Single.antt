@@ -1,4 +1,4 @@
--- A round by itself, over the words that hold the waiting nodes: nothing is held but the node that it takes out.
+-- A round by itself, over the row that holds the waiting nodes: nothing is held but the node that it takes out.
 use Prim.Native.Nat.{ℕ, _+_, _≤_}
 use mathlib.Core.Path.{_≡_}
 use mathlib.Core.Bool.{Bool, true}
@@ -12,8 +12,7 @@ use Rattle.slot_spec.specs.declared.Slot.{Slot}
 use Rattle.round_spec.specs.Round as round
 use Rattle.round_spec.specs.Round.{Hand, keysOf, insert, readHalf, writeHalf, exceedsLimit}
 use Rattle.round_spec.specs.Nodes.{wordsFormat}
-use Rattle.word_round_laws.specs.Words.{wordCount, Leaves}
-use Rattle.slot_spec.specs.Row.{slotsOf}
+use Rattle.word_round_laws.specs.SlotRow.{rowLength, slotsIn, Blank, Leaves}
 use Rattle.list_spec.specs.Ascending.{ascending}
 use Rattle.path_reader.specs.Look.{wishOf}
 use Rattle.path_reader.specs.declared.Wish.{Wish}
@@ -46,32 +45,33 @@ reading k t wish ws tree = readHalf wordsFormat k tree t wish [] ws
 abbrev pub roundOf : (size leaf : ℕ) → Option round.Wish → List Slot → List ℕ → RoundLeft
 roundOf k t wish ws tree = closing k t ws tree (reading k t wish ws tree)
 
--- The first n slots wait: their keys ascend, their tags are leaves, and a path's nodes have room beside them.
-pub record Waits (k n : ℕ) (words : List ℕ) : Type 0 where
-  pub sized : length words ≡ wordCount
+-- The first n slots of the row wait, and its other places are empty: the waiting keys ascend, their tags are leaves, and a path's nodes have
+-- room beside them.
+pub record Waits (k n : ℕ) (row : List ℕ) : Type 0 where
+  pub sized : length row ≡ rowLength
   pub few : n ≤ 65
-  pub order : ascending (keysOf wordsFormat (take n (slotsOf words))) ≡ true
-  pub leaves : Leaves k (take n (slotsOf words))
+  pub blank : Blank n row
+  pub order : ascending (keysOf wordsFormat (take n (slotsIn row))) ≡ true
+  pub leaves : Leaves k (take n (slotsIn row))
 
 -- A store between two rounds.
-pub record Resting (k n : ℕ) (words scratch tree : List ℕ) : Type 0 where
+pub record Resting (k n : ℕ) (row tree : List ℕ) : Type 0 where
   pub small : k ≤ 8
-  pub waits : Waits k n words
-  pub scratch-sized : length scratch ≡ wordCount
+  pub waits : Waits k n row
   pub tree-sized : length tree ≡ treeLength k
 
 -- A slot came to wait.
-pub record Waiting (k n : ℕ) (x : Slot) (words words′ : List ℕ) (r : Bool) : Type 0 where
-  pub joined : r ≡ true → take (n + 1) (slotsOf words′) ≡ insert wordsFormat x (take n (slotsOf words))
-  pub waits : r ≡ true → Waits k (n + 1) words′
+pub record Waiting (k n : ℕ) (x : Slot) (row row′ : List ℕ) (r : Bool) : Type 0 where
+  pub joined : r ≡ true → take (n + 1) (slotsIn row′) ≡ insert wordsFormat x (take n (slotsIn row))
+  pub waits : r ≡ true → Waits k (n + 1) row′
 
 -- What a round did, and that the store rests after it unless too many wait.
-pub record Rounded (k leaf : ℕ) (wish : Wish) (n : ℕ) (words tree words′ scratch′ tree′ : List ℕ) (r : Closed) : Type 0 where
-  pub round : roundOf k leaf (wishOf wish) (take n (slotsOf words)) tree ≡ record { mark = r .mark; waiting = take (r .waiting) (slotsOf words′); tree = tree′ }
-  pub node : (h : Hand Slot) (x : Slot) → reading k leaf (wishOf wish) (take n (slotsOf words)) tree ≡ some h → h .taken ≡ some x
+pub record Rounded (k leaf : ℕ) (wish : Wish) (n : ℕ) (row tree row′ tree′ : List ℕ) (r : Closed) : Type 0 where
+  pub round : roundOf k leaf (wishOf wish) (take n (slotsIn row)) tree ≡ record { mark = r .mark; waiting = take (r .waiting) (slotsIn row′); tree = tree′ }
+  pub node : (h : Hand Slot) (x : Slot) → reading k leaf (wishOf wish) (take n (slotsIn row)) tree ≡ some h → h .taken ≡ some x
       → r .node ≡ nodeOf (fieldsIn (slotBytes x))
-  pub rests : (r .mark ≡ 9 → ⊥) → Resting k (r .waiting) words′ scratch′ tree′
+  pub rests : (r .mark ≡ 9 → ⊥) → Resting k (r .waiting) row′ tree′
 
 -- What several steps leave: a store at rest, unless the last has mark 9.
-pub record Rests (k : ℕ) (words scratch tree : List ℕ) (r : Closed) : Type 0 where
-  pub rests : (r .mark ≡ 9 → ⊥) → Resting k (r .waiting) words scratch tree
+pub record Rests (k : ℕ) (row tree : List ℕ) (r : Closed) : Type 0 where
+  pub rests : (r .mark ≡ 9 → ⊥) → Resting k (r .waiting) row tree

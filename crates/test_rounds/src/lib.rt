@@ -1,6 +1,7 @@
 // A round of a bucket store by itself, with no call around it and nothing held, and a node that comes to wait: for programs that
 // show rounds or time them.
 use eviction::settle;
+use held_keys::MOST_HELD;
 use path_reader::Wish;
 use path_reader::look;
 use path_slots::PATH_SLOTS;
@@ -8,15 +9,16 @@ use round_close::LIMIT;
 use round_close::mark_at_close;
 use slot_fields::slot_of;
 use slot_fields::tag_of;
+use slot_row::join_slot;
 use slot_spec::Node;
-use stash_words::WORDS;
-use stash_words::join_slot;
 use tree_paths::leaves;
 ghost use mathlib.Core.Path.{_≡_};
 ghost use mathlib.Core.Bool.{true};
 ghost use Prim.Native.Nat.{_+_, _^_, _<_};
+ghost use lib.ListN.{length};
 ghost use Rattle.list_spec.specs.Choice.{pick};
 ghost use Rattle.slot_spec.specs.Slot.{slotOf};
+ghost use Rattle.word_round_laws.specs.SlotRow.{pathSlots};
 ghost use Rattle.path_reader.specs.Look.{wanted};
 ghost use Rattle.test_rounds.specs.Single.{Waits, Resting, Waiting, Rounded, Rests};
 
@@ -46,22 +48,20 @@ fn taken_count(taken: bool) -> usize
     0
 }
 
-// A round of a leaf. The n waiting nodes are in w; s is scratch space.
+// A round of a leaf. The n waiting nodes are the first slots of w; `from` is scratch space.
 pub fn round(
-    w: &mut [u64; WORDS],
+    w: &mut [u8],
     n: usize,
-    s: &mut [u64; WORDS],
     tree: &mut [u8],
     size: usize,
     leaf: usize,
     wish: Wish,
+    from: &mut [u32; PATH_SLOTS],
 ) -> Closed
-    requires { ⌜ Resting size n (now w) (now s) (now tree) × (leaf < 2 ^ size) ⌝ }
-    ensures { λ r. ⌜ Rounded size leaf wish n (now (w .entry)) (now (tree .entry)) (now (w .exit)) (now (s .exit)) (now (tree .exit)) r ⌝ }
+    requires { ⌜ Resting size n (now w) (now tree) × (leaf < 2 ^ size) × (length (now from) ≡ pathSlots) ⌝ }
+    ensures { λ r. ⌜ Rounded size leaf wish n (now (w .entry)) (now (tree .entry)) (now (w .exit)) (now (tree .exit)) r × (length (now (from .exit)) ≡ pathSlots) ⌝ }
 {
-    let held = [0u32; 0];
-    let mut from = [0u32; PATH_SLOTS];
-    let r = look(w, n, s, tree, size, leaf, wish, &held, &mut from);
+    let r = look(w, n, tree, size, leaf, wish, &[0u32; MOST_HELD], 0, from);
     let node = r.node;
     if !r.ok {
         return Closed {
@@ -71,7 +71,7 @@ pub fn round(
         };
     }
     let taken = is_wanted(wish);
-    let left = settle(s, r.count, taken, r.at, w, tree, size, leaf, &from, r.full);
+    let left = settle(w, r.count, taken, r.at, tree, size, leaf, from, r.full);
     Closed {
         mark: mark_at_close(left, taken_count(taken)),
         waiting: left,
@@ -80,7 +80,7 @@ pub fn round(
 }
 
 // A node comes to wait with the n that do. Not so if more than 64 wait, if its tag is no leaf, or if its key waits already.
-pub fn wait(w: &mut [u64; WORDS], n: usize, size: usize, node: Node) -> bool
+pub fn wait(w: &mut [u8], n: usize, size: usize, node: Node) -> bool
     requires { ⌜ Waits size n (now w) × (size < 17) ⌝ }
     ensures { λ r. ⌜ Waiting size n (slotOf node) (now (w .entry)) (now (w .exit)) r ⌝ }
 {
@@ -97,19 +97,19 @@ pub fn wait(w: &mut [u64; WORDS], n: usize, size: usize, node: Node) -> bool
 // A node is taken out by a round of its leaf, and waits again under a new tag. Mark 8 is damage, as of the round; with mark 9
 // too many nodes wait.
 pub fn take_round(
-    w: &mut [u64; WORDS],
+    w: &mut [u8],
     n: usize,
-    s: &mut [u64; WORDS],
     tree: &mut [u8],
     size: usize,
     key: u32,
     tag: u16,
     new_tag: u16,
+    from: &mut [u32; PATH_SLOTS],
 ) -> Closed
-    requires { ⌜ Resting size n (now w) (now s) (now tree) × (tag < 2 ^ size) ⌝ }
-    ensures { λ r. ⌜ Rests size (now (w .exit)) (now (s .exit)) (now (tree .exit)) r ⌝ }
+    requires { ⌜ Resting size n (now w) (now tree) × (tag < 2 ^ size) × (length (now from) ≡ pathSlots) ⌝ }
+    ensures { λ r. ⌜ Rests size (now (w .exit)) (now (tree .exit)) r × (length (now (from .exit)) ≡ pathSlots) ⌝ }
 {
-    let r = round(w, n, s, tree, size, tag as usize, Wish::Node(key, tag));
+    let r = round(w, n, tree, size, tag as usize, Wish::Node(key, tag), from);
     if r.mark != 0 {
         return r;
     }

@@ -1,13 +1,13 @@
 -- One fetch round that wants a node after another.
 use mathlib.Core.Path.{_≡_, refl, sym, _∙_, ap, ap₂, subst}
 use mathlib.Core.Bool.{Bool, true, false}
-use mathlib.Core.List.{List, [], _∷_, _++_, map, map-append, append-nil}
+use mathlib.Core.List.{List, [], _∷_, _++_, map-append, append-nil}
 use mathlib.Core.Option.{Option, none, some}
 use Prim.Native.Nat.{ℕ, zero, suc, max, _+_, _-_, _^_, _≤_, _<_}
 use native.Mathlib.Nat.{add-zero, zero-add, sub-zero}
 use native.Mathlib.Numerals.{add-one}
 use native.Mathlib.Omega.{arith}
-use lib.ListN.{length, take, drop, set, length-set, length-take}
+use lib.ListN.{length, take, drop, set, length-set, length-append, length-map}
 use lib.Seq.{take-suc-set, drop-set-lt, drop-drop}
 use Rattle.list_spec.specs.Choice.{pick}
 use Rattle.list_spec.specs.Distinct.{All}
@@ -16,7 +16,7 @@ use Rattle.balance_spec.specs.Shape.{shaped}
 use Rattle.balance_spec.specs.Greatest.{tallest, greatest}
 use Rattle.balance_laws.specs.GreatestLaws.{greatest-mono}
 use Rattle.method_spec.specs.Node.{Node, retag}
-use Rattle.method_spec.specs.Prog.{From, Want, Prog, done, want, after}
+use Rattle.method_spec.specs.Prog.{Want, Prog, done, want, after}
 use Rattle.method_spec.specs.Answer as answer
 use Rattle.method_spec.specs.Answer.{Structure}
 use Rattle.method_spec.specs.Outcome.{Outcome}
@@ -40,26 +40,21 @@ use Rattle.idle_rounds.specs.IdleLaws.{put-none, put-goes, put-shuts, goes-on, 
 use Rattle.want_rounds.specs.declared.Job.{Job}
 use Rattle.bucket_call_spec.specs.Peak.{roundsFrom, peakOf, peakAt}
 use Rattle.peak_laws.specs.PeakLaws.{wanting-round, peak-goes, peak-shuts}
-use Rattle.want_rounds.specs.Wanting.{heldBy, structureIn, programOf, storeAt, fetched, listedFrom, listedBy, Begins, Walked, Fetches}
+use Rattle.want_rounds.specs.Wanting.{nodesHeld, structureIn, programOf, storeAt, fetched, Begins, Walked, FetchedAs}
 use Rattle.operation_spec.specs.declared.Want as code
-use Rattle.slot_spec.specs.declared.Node as node
 use Rattle.leaf_spec.specs.Convert.{toLink, toAhead, toNode}
-use Rattle.operation_spec.specs.Method.{toFrom, toOp, toWant, wantedIn, sparesIn, aheadFor}
-use Rattle.node_rows.specs.Row.{places, fetches, fromIn, fromsIn}
-use Rattle.node_rows.specs.Held.{Held, nodesOf}
+use Rattle.operation_spec.specs.Method.{toOp, toWant, wantedIn, sparesIn, aheadFor}
 use Rattle.node_rows.specs.Heights.{Low, Lows}
-use Rattle.node_rows.specs.HeldLaws.{first-length, first-more, held-more}
 use Rattle.map_nodes.specs.HeightLaws.{lows-append}
-use Rattle.tag_moves.specs.Moved.{heldOf}
 use Rattle.state_laws.specs.FetchingLaws.{rounds-most}
 use Rattle.structures.specs.WantLaws.{wanted-low, tested-low}
 use Rattle.stash_laws.specs.WaitingLaws.{waiting-length}
 use Rattle.one_round.specs.declared.Took.{Took}
-use Rattle.one_round.specs.OneRound.{going, endedWith, RoundReady, heldToo, takenAs, Wanted}
+use Rattle.one_round.specs.OneRound.{going, endedWith, RoundReady, Rests, heldToo, takenAs, Wanted}
 
 -- ---- programs after some nodes
 module _ {A : Type 0} where
-  after-none : (q : Prog ℕ A) → after q [] ≡ q
+  pub after-none : (q : Prog ℕ A) → after q [] ≡ q
   unfolding after
   after-none (done a) = refl
   after-none (want w c) = refl
@@ -83,22 +78,6 @@ module _ {A : Type 0} where
   pub wants : (q : Prog ℕ A) (w : Want ℕ) → wantedIn q ≡ some w → Wants q w
   wants (done a) w e = let z : _≡_ {A = ℕ} 0 1 = cc in absurd (omega arith)
   wants (want v k) w e = let d : v ≡ w = cc in record { then = k; is = ap (λ (u : Want ℕ). want u k) d }
-
--- ---- held nodes
-held-one-more : (fs : List From) (ns : List (Node ℕ)) (f : From) (n : Node ℕ) → length fs ≡ length ns
-    → heldOf (fs ++ (f ∷ [])) (ns ++ (n ∷ [])) ≡ heldOf fs ns ++ (record { from = f; node = n } ∷ [])
-unfolding heldOf
-held-one-more [] [] f n e = refl
-held-one-more [] (m ∷ ns) f n e = let z : ⊥ = omega arith in absurd z
-held-one-more (g ∷ fs) [] f n e = let z : ⊥ = omega arith in absurd z
-held-one-more (g ∷ fs) (m ∷ ns) f n e = ap (λ (hs : List fetch.Held). record { from = g; node = m } ∷ hs) (held-one-more fs ns f n (omega arith))
-
-pub held-length : (fs : List From) (ns : List (Node ℕ)) → length fs ≡ length ns → length (heldOf fs ns) ≡ length ns
-unfolding heldOf
-held-length [] [] e = refl
-held-length [] (m ∷ ns) e = let z : ⊥ = omega arith in absurd z
-held-length (g ∷ fs) [] e = let z : ⊥ = omega arith in absurd z
-held-length (g ∷ fs) (m ∷ ns) e = let r = held-length fs ns (omega arith) in omega arith
 
 -- ---- one round more
 module _ (s : Structure) (entries k : ℕ) (draw : ℕ → ℕ) (p : Prog ℕ (Outcome ℕ)) (g : Going) where
@@ -152,7 +131,7 @@ pub record Midway (k i : ℕ) (g : Going) (q : Prog ℕ (Outcome ℕ)) : Type 0 
   pub seen : length (g .leaves) ≡ i
   pub leads : (w : Want ℕ) (c : Node ℕ → Prog ℕ (Outcome ℕ)) → q ≡ want w c → w .link .tag < 2 ^ k
 
-module _ (j : Job) (draw : ℕ → ℕ) (is-leaf : (d : ℕ) → draw d < 2 ^ j .size) {n : ℕ} {words scratch tree : List ℕ} (b : Begins j draw n words scratch tree) where
+module _ (j : Job) (draw : ℕ → ℕ) (is-leaf : (d : ℕ) → draw d < 2 ^ j .size) {n : ℕ} {row tree : List ℕ} (b : Begins j draw n row tree) where
   pub at-most : j .rounds ≤ 33
   at-most = rw (b .rounds-are) (rounds-most (structureIn j) (j .size) (b .small))
 
@@ -160,7 +139,7 @@ module _ (j : Job) (draw : ℕ → ℕ) (is-leaf : (d : ℕ) → draw d < 2 ^ j 
   root-low = let h = most-high (structureIn j) (j .size) (b .small) in omega (arith, b .fit .low)
 
   Ends : ℕ → Round (Outcome ℕ) → Type 0
-  Ends i x = FetchEnds {s = structureIn j} (j .size) i (j .rounds - i) (toOp (j .op)) (storeAt j n words tree) x
+  Ends i x = FetchEnds {s = structureIn j} (j .size) i (j .rounds - i) (toOp (j .op)) (storeAt j n row tree) x
 
   -- The spare draws that the job has are those of the call.
   spares-agree : AgreeOn (structureIn j) (sparesIn (j .spares)) (spareTags (j .rounds) draw)
@@ -175,19 +154,19 @@ module _ (j : Job) (draw : ℕ → ℕ) (is-leaf : (d : ℕ) → draw d < 2 ^ j 
       (program-agrees 0 (toOp (j .op)) (sparesIn (j .spares)) (spareTags (j .rounds) draw) (j .limit) (j .entries) (toAhead (j .spares .ahead)) (toLink (j .root)) spares-agree)
 
   -- What is known ahead after the step.
-  pub same-ahead : aheadFor (j .op) (j .spares) (j .limit) (j .entries) ≡ aheadThen (j .size) (j .rounds) (toOp (j .op)) draw (storeAt j n words tree)
+  pub same-ahead : aheadFor (j .op) (j .spares) (j .limit) (j .entries) ≡ aheadThen (j .size) (j .rounds) (toOp (j .op)) draw (storeAt j n row tree)
   same-ahead =
       rw (← b .limit-is)
       (ahead-agrees 0 (toOp (j .op)) (sparesIn (j .spares)) (spareTags (j .rounds) draw) (j .limit) (j .entries) (toAhead (j .spares .ahead)) spares-agree)
 
-  ends : (i : ℕ) → i ≤ j .rounds → Ends i (fetched j draw i n words tree)
+  ends : (i : ℕ) → i ≤ j .rounds → Ends i (fetched j draw i n row tree)
   unfolding Ends
   ends i h =
       rw same-program
-      (fetch-rounds (j .size) (b .some-size) (omega (arith, b .small)) (toOp (j .op)) (b .op-fits) draw is-leaf (storeAt j n words tree) (b .fit) (b .key-left) i (j .rounds - i)
+      (fetch-rounds (j .size) (b .some-size) (omega (arith, b .small)) (toOp (j .op)) (b .op-fits) draw is-leaf (storeAt j n row tree) (b .fit) (b .key-left) i (j .rounds - i)
       (omega (arith, b .rounds-are)))
 
-  pub midway : (i : ℕ) (g : Going) (q : Prog ℕ (Outcome ℕ)) → i ≤ j .rounds → fetched j draw i n words tree ≡ on g q → Midway (j .size) i g q
+  pub midway : (i : ℕ) (g : Going) (q : Prog ℕ (Outcome ℕ)) → i ≤ j .rounds → fetched j draw i n row tree ≡ on g q → Midway (j .size) i g q
   unfolding Ends
   midway i g q h e = go (subst (Ends i) e (ends i h))
     where
@@ -202,11 +181,11 @@ module _ (j : Job) (draw : ℕ → ℕ) (is-leaf : (d : ℕ) → draw d < 2 ^ j 
           record { is-tree = sound .is-tree; proper = sound .waiting; few = few; seen = omega (arith, seen); leads = leads-to q (next .yields) }
 
   -- No program is left with a want.
-  pub all-fetched : (g : Going) (q : Prog ℕ (Outcome ℕ)) → fetched j draw (j .rounds) n words tree ≡ on g q → wantedIn q ≡ none
+  pub all-fetched : (g : Going) (q : Prog ℕ (Outcome ℕ)) → fetched j draw (j .rounds) n row tree ≡ on g q → wantedIn q ≡ none
   all-fetched g (done o) e = refl
   all-fetched g (want w c) e =
       absurd
-      (never-left-wanting (j .size) (b .some-size) (omega (arith, b .small)) (toOp (j .op)) (b .op-fits) draw is-leaf (storeAt j n words tree) (b .fit) (b .key-left) g w c
+      (never-left-wanting (j .size) (b .some-size) (omega (arith, b .small)) (toOp (j .op)) (b .op-fits) draw is-leaf (storeAt j n row tree) (b .fit) (b .key-left) g w c
       (rw (← same-program, ← b .rounds-are) e))
 
 -- ---- the rounds that want a node, one by one
@@ -219,246 +198,197 @@ drop-more i xs ys e =
 stored-later : (i : ℕ) (trace trace₀ : List ℕ) (v : ℕ) → drop i trace ≡ drop i trace₀ → drop (suc i) (set trace i v) ≡ drop (suc i) trace₀
 stored-later i trace trace₀ v e = drop-set-lt (suc i) trace i v (omega arith) ∙ drop-more i trace trace₀ e
 
-module _ (j : Job) (draw : ℕ → ℕ) (is-leaf : (d : ℕ) → draw d < 2 ^ j .size) {n : ℕ} {words₀ scratch₀ tree₀ : List ℕ} (b : Begins j draw n words₀ scratch₀ tree₀)
-    (trace₀ : List ℕ) {h : Held} {froms : List ℕ} {m peak : ℕ} {words scratch tree keys trace : List ℕ}
-    (inv : Walked j draw n words₀ tree₀ trace₀ h froms m peak words scratch tree keys trace) where
+module _ (j : Job) (draw : ℕ → ℕ) (is-leaf : (d : ℕ) → draw d < 2 ^ j .size) {n : ℕ} {row₀ tree₀ : List ℕ} (b : Begins j draw n row₀ tree₀)
+    (trace₀ : List ℕ) {hs : List fetch.Held} {m peak : ℕ} {row tree trace : List ℕ} (inv : Walked j draw n row₀ tree₀ trace₀ hs m peak row tree trace) where
+  abbrev i : ℕ
+  i = length hs
+
   abbrev here : Going
-  here = going m words tree (heldBy h froms) (take (h .count) trace)
+  here = going m row tree hs (take i trace)
 
-  now-midway : Midway (j .size) (h .count) here (after (programOf j) (nodesOf h))
-  now-midway = midway j draw is-leaf b (h .count) here (after (programOf j) (nodesOf h)) (inv .upto) (inv .so-far)
+  abbrev q : Prog ℕ (Outcome ℕ)
+  q = after (programOf j) (nodesHeld hs)
 
-  pub walked-few : h .count ≤ 33
+  now-midway : Midway (j .size) i here q
+  now-midway = midway j draw is-leaf b i here q (inv .upto) (inv .so-far)
+
+  pub walked-few : length hs ≤ 33
   walked-few = omega (arith, inv .upto, at-most j draw is-leaf b)
 
-  froms-length : length (fromsIn (h .count) froms) ≡ h .count
-  froms-length = first-length fromIn froms (h .count) (omega (arith, inv .froms-sized, walked-few))
-
-  pub walked-counted : length (nodesOf h) ≡ h .count
-  walked-counted = first-length toNode (h .nodes) (h .count) (omega (arith, inv .row-sized, walked-few))
-
-  walked-paired : length (fromsIn (h .count) froms) ≡ length (nodesOf h)
-  walked-paired = froms-length ∙ sym walked-counted
-
-  held-count : length (heldBy h froms) ≡ h .count
-  held-count = held-length (fromsIn (h .count) froms) (nodesOf h) walked-paired ∙ walked-counted
-
-  pub walked-between : Between (j .size) m words scratch tree (take (h .count) keys)
+  pub walked-between : Between (j .size) m row tree (keysHeld hs)
   walked-between =
       let t = now-midway in
-      let a : length (take (h .count) keys) ≡ h .count = length-take (h .count) keys ∙ omega (arith, inv .keys-sized, walked-few) in
       record {
         small = b .small;
         is-tree = t .is-tree;
         rests = inv .rests;
         proper = t .proper;
-        few = omega (arith, t .few, held-count, a, waiting-length (inv .rests .holds));
+        few = omega (arith, t .few, length-map hs (λ (h : fetch.Held). h .node .key), waiting-length (inv .rests .holds));
       }
 
-  module _ (want : code.Want) (asked : wantedIn (after (programOf j) (nodesOf h)) ≡ some (toWant want)) where
-    there : Wants (after (programOf j) (nodesOf h)) (toWant want)
-    there = wants (after (programOf j) (nodesOf h)) (toWant want) asked
+  -- After the last fetch round.
+  pub walked-all : j .rounds ≤ length hs → wantedIn (after (programOf j) (nodesHeld hs)) ≡ none
+  walked-all e =
+      let same : i ≡ j .rounds = omega (arith, inv .upto) in
+      all-fetched j draw is-leaf b here q (subst (λ (i : ℕ). fetched j draw i n row₀ tree₀ ≡ on here q) same (inv .so-far))
+
+  module _ (want : code.Want) (asked : wantedIn (after (programOf j) (nodesHeld hs)) ≡ some (toWant want)) where
+    there : Wants q (toWant want)
+    there = wants q (toWant want) asked
 
     -- The round can begin.
-    pub want-ready : RoundReady (j .size) (want .link .tag) m words scratch tree (take (h .count) keys)
+    pub want-ready : RoundReady (j .size) (want .link .tag) m row tree (keysHeld hs)
     want-ready = between-ready walked-between (want .link .tag) (now-midway .leads (toWant want) (there .then) (there .is))
 
-    module _ {words′ scratch′ tree′ : List ℕ} {r : Took} (more : h .count < j .rounds)
-        (round : Wanted (j .structure) (j .entries) (j .size) m want words tree (take (h .count) keys) words′ scratch′ tree′ r) {peak′ : ℕ} (raised : peak′ ≡ max peak (r .count)) where
+    module _ {row′ tree′ : List ℕ} {r : Took} (more : length hs < j .rounds) (round : Wanted (j .structure) (j .entries) (j .size) m want row tree (keysHeld hs) row′ tree′ r)
+        {peak′ : ℕ} (raised : peak′ ≡ max peak (r .count)) (room : length hs < length trace₀) where
       abbrev fetchedNode : Node ℕ
-      fetchedNode = retag (draw (h .count)) (toNode (r .node))
+      fetchedNode = retag (draw i) (toNode (r .node))
+
+      -- The node as it is held.
+      abbrev pub nowHeld : fetch.Held
+      nowHeld = takenAs want (draw i) (toNode (r .node))
 
       abbrev trace′ : List ℕ
-      trace′ = set trace (h .count) (want .link .tag)
+      trace′ = set trace i (want .link .tag)
 
       abbrev ended : List fetch.Held → Going
-      ended hs = going (r .waiting) words′ tree′ hs (take (h .count + 1) trace′)
+      ended hs = going (r .waiting) row′ tree′ hs (take (i + 1) trace′)
 
-      one-leaf-more : h .count < length trace₀ → take (h .count) trace ++ (want .link .tag ∷ []) ≡ take (h .count + 1) trace′
-      one-leaf-more k = rw (add-one (h .count)) (sym (take-suc-set trace (h .count) (want .link .tag) (omega (arith, inv .trace-sized))))
+      one-leaf-more : take i trace ++ (want .link .tag ∷ []) ≡ take (i + 1) trace′
+      one-leaf-more = rw (add-one i) (sym (take-suc-set trace i (want .link .tag) (omega (arith, inv .trace-sized))))
 
-      this-round : (taken : Bool) → r .taken ≡ taken → h .count < length trace₀
-          → wantRound (structureIn j) (j .entries) (j .size) (draw (h .count)) (toWant want) (there .then) here
-          ≡ endedWith (r .mark) (ended (heldBy h froms ++ heldToo taken (takenAs want (draw (h .count)) (toNode (r .node))))) (there .then fetchedNode)
-      this-round taken t k =
-          rw (← b .structure-is, ← one-leaf-more k, ← t)
-          (round .round (heldBy h froms) (take (h .count) trace) (draw (h .count)) (there .then) (inv .keys-are))
+      this-round : (taken : Bool) → r .taken ≡ taken
+          → wantRound (structureIn j) (j .entries) (j .size) (draw i) (toWant want) (there .then) here
+          ≡ endedWith (r .mark) (ended (hs ++ heldToo taken nowHeld)) (there .then fetchedNode)
+      this-round taken t = rw (← b .structure-is, ← one-leaf-more, ← t) (round .round hs (take i trace) (draw i) (there .then) refl)
 
-      next-round : (taken : Bool) → r .taken ≡ taken → h .count < length trace₀
-          → fetched j draw (h .count + 1) n words₀ tree₀
-          ≡ endedWith (r .mark) (ended (heldBy h froms ++ heldToo taken (takenAs want (draw (h .count)) (toNode (r .node))))) (there .then fetchedNode)
-      next-round taken t k =
-          round-more (structureIn j) (j .entries) (j .size) draw (programOf j) (going n words₀ tree₀ [] []) (h .count) here (toWant want) (there .then)
+      next-round : (taken : Bool) → r .taken ≡ taken
+          → fetched j draw (i + 1) n row₀ tree₀ ≡ endedWith (r .mark) (ended (hs ++ heldToo taken nowHeld)) (there .then fetchedNode)
+      next-round taken t =
+          round-more (structureIn j) (j .entries) (j .size) draw (programOf j) (going n row₀ tree₀ [] []) i here (toWant want) (there .then)
           (inv .so-far ∙ ap (on here) (there .is))
-          ∙ this-round taken t k
+          ∙ this-round taken t
 
       -- The same round as the next of those that are listed, and what it counts.
       abbrev listedRound : Round (Outcome ℕ)
-      listedRound = fetchRound (structureIn j) (j .entries) (j .size) (draw (h .count)) (after (programOf j) (nodesOf h)) here
+      listedRound = fetchRound (structureIn j) (j .entries) (j .size) (draw i) q here
 
-      listed-wants : listedRound ≡ wantRound (structureIn j) (j .entries) (j .size) (draw (h .count)) (toWant want) (there .then) here
+      listed-wants : listedRound ≡ wantRound (structureIn j) (j .entries) (j .size) (draw i) (toWant want) (there .then) here
       listed-wants =
-          ap (λ (q : Prog ℕ (Outcome ℕ)). fetchRound (structureIn j) (j .entries) (j .size) (draw (h .count)) q here) (there .is)
-          ∙ wanting-round (structureIn j) (j .entries) (j .size) (draw (h .count)) (toWant want) (there .then) here
+          ap (λ (p : Prog ℕ (Outcome ℕ)). fetchRound (structureIn j) (j .entries) (j .size) (draw i) p here) (there .is)
+          ∙ wanting-round (structureIn j) (j .entries) (j .size) (draw i) (toWant want) (there .then) here
 
       most-then : max peak (peakAt listedRound) ≡ peak′
       most-then =
           ap (λ (x : Round (Outcome ℕ)). max peak (peakAt x)) listed-wants
-          ∙ ap (max peak) (rw (← b .structure-is) (round .counted (heldBy h froms) (take (h .count) trace) (draw (h .count)) (there .then) (inv .keys-are)))
+          ∙ ap (max peak) (rw (← b .structure-is) (round .counted hs (take i trace) (draw i) (there .then) refl))
           ∙ sym raised
 
-      rounds-then : j .rounds - h .count ≡ suc (j .rounds - (h .count + 1))
+      rounds-then : j .rounds - i ≡ suc (j .rounds - (i + 1))
       rounds-then = omega arith
 
-      trace-later : drop (h .count + 1) trace′ ≡ drop (h .count + 1) trace₀
-      trace-later = rw (add-one (h .count)) (stored-later (h .count) trace trace₀ (want .link .tag) (inv .untouched))
+      trace-later : drop (i + 1) trace′ ≡ drop (i + 1) trace₀
+      trace-later = rw (add-one i) (stored-later i trace trace₀ (want .link .tag) (inv .untouched))
 
       trace-length : length trace′ ≡ length trace₀
-      trace-length = length-set trace (h .count) (want .link .tag) ∙ inv .trace-sized
+      trace-length = length-set trace i (want .link .tag) ∙ inv .trace-sized
 
-      -- The store was closed in this round, with these nodes held.
-      closed-here : (h′ : Held) (froms′ : List ℕ) (taken : Bool) → r .taken ≡ taken → (r .mark ≡ 0 → ⊥) → h .count < length trace₀
-          → heldBy h′ froms′ ≡ heldBy h froms ++ heldToo taken (takenAs want (draw (h .count)) (toNode (r .node)))
-          → h′ .count ≤ fetches → length (h′ .nodes) ≡ places → length froms′ ≡ fetches → Lows 100 (nodesOf h′)
-          → keysHeld (heldBy h′ froms′) ≡ take (h .count) keys ++ heldToo taken (r .node .key)
-          → Fetches j draw n words₀ tree₀ trace₀ h′ froms′ words′ scratch′ tree′ trace′ (record { count = h′ .count; waiting = r .waiting; mark = r .mark; leaves = h .count + 1; peak = peak′ })
-      closed-here h′ froms′ taken t marked k same few row-sized froms-sized low keys-same =
+      keys-then : (taken : Bool) → keysHeld (hs ++ heldToo taken nowHeld) ≡ keysHeld hs ++ heldToo taken (r .node .key)
+      keys-then true = map-append (λ (h : fetch.Held). h .node .key) hs (nowHeld ∷ [])
+      keys-then false = map-append (λ (h : fetch.Held). h .node .key) hs []
+
+      rests-then : (taken : Bool) → r .taken ≡ taken → Rests (r .waiting) row′ (keysHeld (hs ++ heldToo taken nowHeld))
+      rests-then taken t = rw (keys-then taken, ← t) (round .rests)
+
+      -- The wanted link is low, and so is the node that passed its test.
+      node-low : r .taken ≡ true → Low 100 fetchedNode
+      node-low t =
+          let low = wanted-low (toOp (j .op)) (sparesIn (j .spares)) (j .limit) (j .entries) (toAhead (j .spares .ahead)) (toLink (j .root)) (nodesHeld hs) 100 (omega arith) (root-low j draw is-leaf b) (inv .low) asked in
+          let passed : test (structureIn j) (j .entries) (toWant want) (toNode (r .node)) ≡ true = rw (← b .structure-is) (round .tested t) in
+          tested-low (structureIn j) (j .entries) (toWant want) (toNode (r .node)) 100 passed (omega arith) low
+
+      nodes-more : nodesHeld (hs ++ (nowHeld ∷ [])) ≡ nodesHeld hs ++ (fetchedNode ∷ [])
+      nodes-more = map-append (λ (h : fetch.Held). h .node) hs (nowHeld ∷ [])
+
+      lows-then : (taken : Bool) → r .taken ≡ taken → Lows 100 (nodesHeld (hs ++ heldToo taken nowHeld))
+      lows-then true t = rw nodes-more (lows-append 100 (nodesHeld hs) fetchedNode (inv .low) (node-low t))
+      lows-then false t = rw (append-nil hs) (inv .low)
+
+      counted-then : (taken : Bool) → length (hs ++ heldToo taken nowHeld) ≤ i + 1
+      counted-then true = omega (arith, length-append hs (nowHeld ∷ []))
+      counted-then false = omega (arith, ap length (append-nil hs))
+
+      -- The store was closed in this round, whether the node was taken out, as with overflow, or not, as with damage.
+      pub walked-shut : (taken : Bool) → r .taken ≡ taken → (r .mark ≡ 0 → ⊥) → {count : ℕ} → count ≡ length (hs ++ heldToo taken nowHeld)
+          → FetchedAs j draw n row₀ tree₀ trace₀ (hs ++ heldToo taken nowHeld) row′ tree′ trace′
+          (record { count = count; waiting = r .waiting; mark = r .mark; leaves = length hs + 1; peak = peak′ })
+      walked-shut taken t marked counted =
+          let hs′ = hs ++ heldToo taken nowHeld in
           record {
             outcome =
-                closed-early (structureIn j) (j .entries) (j .size) draw (programOf j) (going n words₀ tree₀ [] []) (h .count + 1) (j .rounds) (r .mark) (ended (heldBy h′ froms′)) (omega arith)
-                (next-round taken t k ∙ rw (← same) (stops-here (r .mark) (ended (heldBy h′ froms′)) (there .then fetchedNode) marked))
-                ∙ sym (stops-here (r .mark) (ended (heldBy h′ froms′)) (after (programOf j) (nodesOf h′)) marked);
+                closed-early (structureIn j) (j .entries) (j .size) draw (programOf j) (going n row₀ tree₀ [] []) (i + 1) (j .rounds) (r .mark) (ended hs′) (omega arith)
+                (next-round taken t ∙ stops-here (r .mark) (ended hs′) (there .then fetchedNode) marked)
+                ∙ sym (stops-here (r .mark) (ended hs′) (after (programOf j) (nodesHeld hs′)) marked);
             peaked =
                 inv .peaks ∙ rw rounds-then
-                (peak-shuts (structureIn j) (j .entries) (j .size) draw (j .rounds - (h .count + 1)) (h .count) (after (programOf j) (nodesOf h)) here (ended (heldBy h′ froms′)) (r .mark)
-                (listed-wants ∙ this-round taken t k ∙ rw (← same) (stops-here (r .mark) (ended (heldBy h′ froms′)) (there .then fetchedNode) marked)) peak
+                (peak-shuts (structureIn j) (j .entries) (j .size) draw (j .rounds - (i + 1)) i q here (ended hs′) (r .mark)
+                (listed-wants ∙ this-round taken t ∙ stops-here (r .mark) (ended hs′) (there .then fetchedNode) marked) peak
                 ∙ most-then);
             finished = λ e. absurd (marked e);
-            counted = refl;
-            few = few;
-            low = low;
-            row-sized = row-sized;
-            froms-sized = froms-sized;
-            rests = rw (keys-same, ← t) (round .rests);
+            counted = counted;
+            upto = omega (arith, counted-then taken);
+            rests = rests-then taken t;
+            low = lows-then taken t;
             no-more = omega arith;
             all-shown = λ e. absurd (marked e);
             trace-sized = trace-length;
             untouched = trace-later;
           }
 
-      -- Damage: nothing was taken out.
-      pub walked-damaged : r .taken ≡ false → h .count < length trace₀
-          → Fetches j draw n words₀ tree₀ trace₀ h froms words′ scratch′ tree′ trace′ (record { count = h .count; waiting = r .waiting; mark = r .mark; leaves = h .count + 1; peak = peak′ })
-      walked-damaged t k =
-          closed-here h froms false t (λ e. let q : true ≡ false = sym (round .goes-on e) ∙ t in let z : _≡_ {A = ℕ} 0 1 = cc in absurd (omega arith)) k (sym (append-nil (heldBy h froms))) walked-few (inv .row-sized) (inv .froms-sized) (inv .low)
-          (inv .keys-are ∙ sym (append-nil (take (h .count) keys)))
+      abbrev pub heldMore : List fetch.Held
+      heldMore = hs ++ (nowHeld ∷ [])
 
-      module _ (x : node.Node) (is : toNode x ≡ fetchedNode) (v : ℕ) (from-is : fromIn v ≡ toFrom (want .from)) (taken : r .taken ≡ true) (k : h .count < length trace₀) where
-        abbrev pub heldMore : Held
-        heldMore = record { nodes = set (h .nodes) (h .count) x; count = h .count + 1 }
+      pub more-counted : length heldMore ≡ length hs + 1
+      more-counted = length-append hs (nowHeld ∷ [])
 
-        abbrev pub fromsMore : List ℕ
-        fromsMore = set froms (h .count) v
+      went : r .mark ≡ 0 → endedWith (r .mark) (ended heldMore) (there .then fetchedNode) ≡ on (ended heldMore) (after (programOf j) (nodesHeld heldMore))
+      went e =
+          goes-on (r .mark) (ended heldMore) (there .then fetchedNode) e
+          ∙ ap (on (ended heldMore)) (sym (ap (after (programOf j)) nodes-more ∙ after-more (programOf j) (nodesHeld hs) fetchedNode (there .is)))
 
-        abbrev keysMore : List ℕ
-        keysMore = set keys (h .count) (x .key)
-
-        nodes-more : nodesOf heldMore ≡ nodesOf h ++ (fetchedNode ∷ [])
-        nodes-more = held-more h x (omega (arith, inv .row-sized, inv .upto, at-most j draw is-leaf b)) ∙ ap (λ (m : Node ℕ). nodesOf h ++ (m ∷ [])) is
-
-        froms-more : fromsIn (heldMore .count) fromsMore ≡ fromsIn (h .count) froms ++ (toFrom (want .from) ∷ [])
-        froms-more =
-            rw (add-one (h .count))
-            (first-more fromIn froms (h .count) v (omega (arith, inv .froms-sized, inv .upto, at-most j draw is-leaf b)))
-            ∙ ap (λ (f : From). fromsIn (h .count) froms ++ (f ∷ [])) from-is
-
-        held-more-is : heldBy heldMore fromsMore ≡ heldBy h froms ++ (takenAs want (draw (h .count)) (toNode (r .node)) ∷ [])
-        held-more-is =
-            ap₂ heldOf froms-more nodes-more
-            ∙ held-one-more (fromsIn (h .count) froms) (nodesOf h) (toFrom (want .from)) fetchedNode (froms-length ∙ sym walked-counted)
-
-        keys-more : keysHeld (heldBy heldMore fromsMore) ≡ take (h .count) keys ++ (r .node .key ∷ [])
-        keys-more =
-            ap keysHeld held-more-is
-            ∙ map-append (λ (g : fetch.Held). g .node .key) (heldBy h froms) (takenAs want (draw (h .count)) (toNode (r .node)) ∷ [])
-            ∙ ap (λ (ks : List ℕ). ks ++ (r .node .key ∷ [])) (inv .keys-are)
-
-        -- The wanted link is low, and so is the node that passed its test.
-        node-low : Low 100 fetchedNode
-        node-low =
-            let low = wanted-low (toOp (j .op)) (sparesIn (j .spares)) (j .limit) (j .entries) (toAhead (j .spares .ahead)) (toLink (j .root)) (nodesOf h) 100 (omega arith) (root-low j draw is-leaf b) (inv .low) asked in
-            let passed : test (structureIn j) (j .entries) (toWant want) (toNode (r .node)) ≡ true = rw (← b .structure-is) (round .tested taken) in
-            tested-low (structureIn j) (j .entries) (toWant want) (toNode (r .node)) 100 passed (omega arith) low
-
-        low-more : Lows 100 (nodesOf heldMore)
-        low-more = rw nodes-more (lows-append 100 (nodesOf h) fetchedNode (inv .low) node-low)
-
-        row-kept : length (heldMore .nodes) ≡ places
-        row-kept = length-set (h .nodes) (h .count) x ∙ inv .row-sized
-
-        froms-kept : length fromsMore ≡ fetches
-        froms-kept = length-set froms (h .count) v ∙ inv .froms-sized
-
-        -- Overflow: the node was taken out.
-        pub walked-overflows : (r .mark ≡ 0 → ⊥)
-            → Fetches j draw n words₀ tree₀ trace₀ heldMore fromsMore words′ scratch′ tree′ trace′ (record { count = h .count + 1; waiting = r .waiting; mark = r .mark; leaves = h .count + 1; peak = peak′ })
-        walked-overflows marked =
-            closed-here heldMore fromsMore true taken marked k held-more-is (omega (arith, inv .upto, at-most j draw is-leaf b)) row-kept froms-kept low-more keys-more
-
-        went : r .mark ≡ 0
-            → endedWith (r .mark) (ended (heldBy h froms ++ heldToo true (takenAs want (draw (h .count)) (toNode (r .node))))) (there .then fetchedNode)
-            ≡ on (ended (heldBy heldMore fromsMore)) (after (programOf j) (nodesOf heldMore))
-        went e =
-            rw (← held-more-is) (goes-on (r .mark) (ended (heldBy heldMore fromsMore)) (there .then fetchedNode) e)
-            ∙ ap (on (ended (heldBy heldMore fromsMore))) (sym (ap (after (programOf j)) nodes-more ∙ after-more (programOf j) (nodesOf h) fetchedNode (there .is)))
-
-        -- The call goes on.
-        pub walked-on : r .mark ≡ 0 → Walked j draw n words₀ tree₀ trace₀ heldMore fromsMore (r .waiting) peak′ words′ scratch′ tree′ keysMore trace′
-        walked-on e =
-            let keys-first : take (h .count + 1) keysMore ≡ take (h .count) keys ++ (r .node .key ∷ []) =
-            rw (add-one (h .count)) (take-suc-set keys (h .count) (x .key) (omega (arith, inv .keys-sized, inv .upto, at-most j draw is-leaf b)))
-            ∙ ap (λ (key : ℕ). take (h .count) keys ++ (key ∷ [])) (ap (λ (m : Node ℕ). m .key) is) in
-            record {
-              upto = omega arith;
-              so-far = next-round true taken k ∙ went e;
-              peaks =
-                  inv .peaks ∙ rw rounds-then
-                  (peak-goes (structureIn j) (j .entries) (j .size) draw (j .rounds - (h .count + 1)) (h .count) (after (programOf j) (nodesOf h)) here (ended (heldBy heldMore fromsMore))
-                  (after (programOf j) (nodesOf heldMore)) (listed-wants ∙ this-round true taken k ∙ went e) peak
-                  ∙ ap₂ (λ (p i : ℕ). max p (peakOf (roundsFrom (structureIn j) (j .entries) (j .size) draw (j .rounds - (h .count + 1)) i (after (programOf j) (nodesOf heldMore)) (ended (heldBy heldMore fromsMore)))))
-                  most-then (sym (add-one (h .count))));
-              rests = rw keys-first (rw taken at (round .rests));
-              keys-are = keys-more ∙ sym keys-first;
-              low = low-more;
-              row-sized = row-kept;
-              froms-sized = froms-kept;
-              keys-sized = length-set keys (h .count) (x .key) ∙ inv .keys-sized;
-              trace-sized = trace-length;
-              untouched = trace-later;
-            }
+      -- The call goes on.
+      pub walked-on : r .taken ≡ true → r .mark ≡ 0 → Walked j draw n row₀ tree₀ trace₀ heldMore (r .waiting) peak′ row′ tree′ trace′
+      walked-on t e =
+          record {
+            upto = omega (arith, more-counted);
+            so-far = rw more-counted (next-round true t ∙ went e);
+            peaks =
+                inv .peaks ∙ rw (rounds-then, more-counted)
+                (peak-goes (structureIn j) (j .entries) (j .size) draw (j .rounds - (i + 1)) i q here (ended heldMore)
+                (after (programOf j) (nodesHeld heldMore)) (listed-wants ∙ this-round true t ∙ went e) peak
+                ∙ ap₂ (λ (p i′ : ℕ). max p (peakOf (roundsFrom (structureIn j) (j .entries) (j .size) draw (j .rounds - (i + 1)) i′ (after (programOf j) (nodesHeld heldMore)) (ended heldMore))))
+                most-then (sym (add-one i)));
+            rests = rests-then true t;
+            low = lows-then true t;
+            trace-sized = trace-length;
+            untouched = rw more-counted trace-later;
+          }
 
 -- ---- before the first
-module _ (j : Job) (draw : ℕ → ℕ) {n : ℕ} {words scratch tree : List ℕ} (b : Begins j draw n words scratch tree) (trace : List ℕ) where
-  pub walked-begins : (h : Held) (froms keys : List ℕ) → h .count ≡ 0 → length (h .nodes) ≡ places → length froms ≡ fetches → length keys ≡ fetches
-      → Walked j draw n words tree trace h froms n 0 words scratch tree keys trace
-  unfolding heldOf
-  walked-begins h froms keys zero-held row-sized froms-sized keys-sized =
-      record {
-        upto = omega arith;
-        so-far =
-            rw zero-held
-            (fetches-none (structureIn j) (j .entries) (j .size) draw 0 (programOf j) (going n words tree [] [])
-            ∙ ap (on (going n words tree [] [])) (sym (after-none (programOf j))));
-        peaks = rw (zero-held, sub-zero (j .rounds), after-none (programOf j)) (omega arith);
-        rests = rw zero-held (b .rests);
-        keys-are = rw zero-held;
-        low = rw zero-held tt;
-        row-sized = row-sized;
-        froms-sized = froms-sized;
-        keys-sized = keys-sized;
-        trace-sized = refl;
-        untouched = refl;
-      }
+pub walked-begins : (j : Job) (draw : ℕ → ℕ) {n : ℕ} {row tree : List ℕ} → Begins j draw n row tree → (trace : List ℕ) → Walked j draw n row tree trace [] n 0 row tree trace
+walked-begins j draw {n} {row} {tree} b trace =
+    record {
+      upto = omega arith;
+      so-far =
+          fetches-none (structureIn j) (j .entries) (j .size) draw 0 (programOf j) (going n row tree [] [])
+          ∙ ap (on (going n row tree [] [])) (sym (after-none (programOf j)));
+      peaks = rw (sub-zero (j .rounds), after-none (programOf j)) (omega arith);
+      rests = b .rests;
+      low = tt;
+      trace-sized = refl;
+      untouched = refl;
+    }
 
 -- ---- once none is wanted
 -- The rounds that are left want none, as put rounds do.

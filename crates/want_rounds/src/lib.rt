@@ -1,4 +1,5 @@
 // The fetch rounds: those that want a node, one after the other, and then those that are left.
+use held_keys::MOST_HELD;
 use idle_rounds::idle::draw_at;
 use node_rows::FETCHES;
 use node_rows::ROW;
@@ -8,9 +9,10 @@ use one_round::want_round;
 use operation_spec::Op;
 use operation_spec::Spares;
 use operation_spec::Wanted;
+use path_slots::PATH_SLOTS;
 use round_close::greater;
 use slot_spec::Link;
-use stash_words::WORDS;
+use slot_spec::Node;
 use structures::wanted;
 ghost use mathlib.Core.Path.{_≡_};
 ghost use Rattle.bucket_call_spec.specs.Call.{drawOf};
@@ -41,7 +43,13 @@ pub struct Fetched {
     pub peak: usize,
 }
 
-fn came_to(count: usize, waiting: usize, mark: u8, leaves: usize, peak: usize) -> Fetched
+// What the one fetch round of a stack or a queue came to, and the node that is held under the round's draw, if one is.
+pub struct FetchedOne {
+    pub fetched: Fetched,
+    pub node: Node,
+}
+
+pub fn came_to(count: usize, waiting: usize, mark: u8, leaves: usize, peak: usize) -> Fetched
     ensures { λ r. ⌜ r ≡ record { count = count; waiting = waiting; mark = mark; leaves = leaves; peak = peak } ⌝ }
 {
     Fetched {
@@ -55,22 +63,22 @@ fn came_to(count: usize, waiting: usize, mark: u8, leaves: usize, peak: usize) -
 
 // The fetch rounds that want a node, one after the other, until none is wanted any more. Each reveals the tag in the link to the
 // wanted node, which is held from then on under the round's draw. `keys` has the keys of the held nodes, `froms` where the links to
-// them stood; `made` is scratch space.
+// them stood; `made` and `from` are scratch space.
 pub fn want_rounds(
     job: Job,
-    w: &mut [u64; WORDS],
+    w: &mut [u8],
     n: usize,
-    s: &mut [u64; WORDS],
     tree: &mut [u8],
     held: &mut [u64; ROW],
     froms: &mut [u64; FETCHES],
     made: &mut [u64; ROW],
-    keys: &mut [u32],
+    keys: &mut [u32; MOST_HELD],
     tape: &[u16],
     trace: &mut [u16],
+    from: &mut [u32; PATH_SLOTS],
 ) -> Fetched
-    requires { ⌜ CanFetch job n (now w) (now s) (now tree) (now held) (now froms) (now made) (now keys) (now tape) (now trace) ⌝ }
-    ensures { λ r. ⌜ (Walks job (drawOf (job .size) (now (tape .entry))) n (now (w .entry)) (now (tree .entry)) (now (trace .entry)) (heldIn (now (held .exit)) (r .count)) (now (froms .exit)) (now (w .exit)) (now (s .exit)) (now (tree .exit)) (now (keys .exit)) (now (trace .exit)) r) × (RowsSized (now (held .exit)) (now (made .exit))) ⌝ }
+    requires { ⌜ CanFetch job n (now w) (now tree) (now held) (now froms) (now made) (now keys) (now tape) (now trace) (now from) ⌝ }
+    ensures { λ r. ⌜ Walks job (drawOf (job .size) (now (tape .entry))) n (now (w .entry)) (now (tree .entry)) (now (trace .entry)) (heldIn (now (held .exit)) (r .count)) (now (froms .exit)) (now (w .exit)) (now (tree .exit)) (now (keys .exit)) (now (trace .exit)) r × RowsSized (now (held .exit)) (now (froms .exit)) (now (made .exit)) (now (keys .exit)) (now (from .exit)) ⌝ }
 {
     let op = job.op;
     let root = job.root;
@@ -84,7 +92,7 @@ pub fn want_rounds(
             return came_to(count, waiting, 0, count, peak);
         };
         let link = want.link;
-        let from = want.from;
+        let origin = want.from;
         trace[count] = link.tag;
         let r = want_round(
             job.structure,
@@ -92,10 +100,11 @@ pub fn want_rounds(
             want,
             w,
             waiting,
-            s,
             tree,
             job.size,
-            &keys[0..count],
+            keys,
+            count,
+            from,
         );
         peak = greater(peak, r.count);
         if !r.taken {
@@ -104,7 +113,7 @@ pub fn want_rounds(
         let mut node = r.node;
         node.tag = draw_at(tape, count, job.size) as u16;
         set_node(held, count, node);
-        froms[count] = word_of(from);
+        froms[count] = word_of(origin);
         keys[count] = node.key;
         count += 1;
         if r.mark != 0 {

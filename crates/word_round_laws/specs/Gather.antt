@@ -9,7 +9,7 @@ use Rattle.slot_spec.specs.Slot.{allZero}
 use Rattle.slot_spec.specs.declared.Slot.{Slot}
 use Rattle.round_spec.specs.Format.{Read}
 use Rattle.round_spec.specs.Nodes.{wordsFormat}
-use Rattle.word_round_laws.specs.Words.{pathSlots}
+use Rattle.word_round_laws.specs.SlotRow.{pathSlots}
 
 -- The bytes of the slot that starts at a byte.
 abbrev pub slotFrom : List ℕ → ℕ → List ℕ

@@ -1,5 +1,5 @@
-pub mod Words
-pub mod WordsLaws
+pub mod SlotRow
+pub mod SlotRowLaws
 pub mod Stash
 pub mod PlaceLaws
 pub mod StashLaws
@@ -9,6 +9,7 @@ pub mod ReadingLaws
 pub mod PathLaws
 pub mod Gather
 pub mod GatherLaws
+pub mod UndoLaws
 pub mod LookLaws
 pub mod ChooseLaws
 pub mod Fill

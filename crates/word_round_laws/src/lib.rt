@@ -1,1 +1,2 @@
-// A round on words: waiting slots as words in a lent array, and the path filled in one pass; no code.
+// A round on a row of slots: waiting slots in lent bytes, slots that join them and are taken out again, and the path filled in one pass; no
+// code.

@@ -1,30 +1,35 @@
 -- `bench_rounds_main::checksum_waiting` is safe and ends.
+use mathlib.Core.Path.{_≡_}
 use Prim.Native.Nat.{_≤_, _-_}
-use Rattle.word_round_laws.specs.Words.{wordCount}
+use lib.ListN.{length}
+use Rattle.word_round_laws.specs.SlotRow.{places, rowLength}
 use borrow.Author.Needs.{needs}
 use Rattle.bench_rounds_main.proofs.checksum_waiting.Statement.{statement}
 use Rattle.bench_rounds_main.proofs.checksum_waiting.Tie as tie
 
 abbrev Inv-loop : tie.InvT-loop
-Inv-loop w n words sum₀ i₀ sum i = (i ≤ words) × (words ≤ wordCount)
+Inv-loop w n sum₀ i₀ sum i = (i ≤ n) × (n ≤ places) × (length w ≡ rowLength)
 
 abbrev μ-loop : tie.MeasureT-loop
-μ-loop w n words sum₀ i₀ sum i = words - i
-
-mul-words : tie.Need-mul-words Inv-loop μ-loop
-mul-words c = search needs
+μ-loop w n sum₀ i₀ sum i = n - i
 
 loop-holds : tie.Need-loop-holds Inv-loop μ-loop
 loop-holds c = search needs
 
-mul-join : tie.Need-mul-join Inv-loop μ-loop
-mul-join c = search needs
-
-element-copy-out-join : tie.Need-element-copy-out-join Inv-loop μ-loop
-element-copy-out-join c = search needs
+get-requires : tie.Need-get-requires Inv-loop μ-loop
+get-requires c κs = search needs
 
 join-requires : tie.Need-join-requires Inv-loop μ-loop
 join-requires c κs = search needs
+
+join-requires-2 : tie.Need-join-requires-2 Inv-loop μ-loop
+join-requires-2 c κs = search needs
+
+join-requires-3 : tie.Need-join-requires-3 Inv-loop μ-loop
+join-requires-3 c κs = search needs
+
+join-requires-4 : tie.Need-join-requires-4 Inv-loop μ-loop
+join-requires-4 c κs = search needs
 
 add-i : tie.Need-add-i Inv-loop μ-loop
 add-i c = search needs
@@ -44,11 +49,12 @@ checksum-waiting-spec =
     (tie.spec
     Inv-loop
     μ-loop
-    mul-words
     loop-holds
-    mul-join
-    element-copy-out-join
+    get-requires
     join-requires
+    join-requires-2
+    join-requires-3
+    join-requires-4
     add-i
     loop-less
     loop-again

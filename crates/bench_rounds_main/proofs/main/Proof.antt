@@ -1,4 +1,5 @@
 -- `bench_rounds_main::main` is safe and ends: the store is at rest after each run that did not fail.
+use mathlib.Core.Path.{refl}
 use Rattle.test_rounds.specs.SingleLaws.{none-waits}
 use Rattle.bench_rounds_main.specs.Run.{size}
 use borrow.Author.Tests.{not-false}
@@ -13,8 +14,11 @@ rounds-asked-requires c κs = search needs
 slice-aggregate-fill : tie.Need-slice-aggregate-fill
 slice-aggregate-fill c = search needs
 
+slice-aggregate-fill-2 : tie.Need-slice-aggregate-fill-2
+slice-aggregate-fill-2 c = search needs
+
 fill-requires : tie.Need-fill-requires
-fill-requires c κs = (none-waits size _ _ _ (omega arith) (search needs) (search needs) (search needs), search needs)
+fill-requires c κs = (none-waits size _ _ (omega arith) refl (search needs), search needs, search needs)
 
 slice-aggregate-write-all : tie.Need-slice-aggregate-write-all
 slice-aggregate-write-all c = search needs
@@ -28,10 +32,13 @@ returns c = search needs
 slice-aggregate-run : tie.Need-slice-aggregate-run
 slice-aggregate-run c = search needs
 
+slice-aggregate-run-2 : tie.Need-slice-aggregate-run-2
+slice-aggregate-run-2 c = search needs
+
 run-requires : tie.Need-run-requires
 run-requires c κs =
-    let fill = c .before .before .before .before .before .before .before .fill in
-    (fill .ensures .rests (not-false (fill .result .ok) (c .before .before .before .before .if1 .left)), fill .ensures .tags-sized)
+    let fill = c .before .before .before .before .before .before .before .before .fill in
+    (fill .ensures .rests (not-false (fill .result .ok) (c .before .before .before .before .if1 .left)), fill .ensures .tags-sized, fill .ensures .starts-sized)
 
 slice-aggregate-write-all-2 : tie.Need-slice-aggregate-write-all-2
 slice-aggregate-write-all-2 c = search needs
@@ -63,9 +70,12 @@ line-requires-3 c κs = search needs
 slice-aggregate-line-4 : tie.Need-slice-aggregate-line-4
 slice-aggregate-line-4 c = search needs
 
+slice-aggregate-checksum-waiting : tie.Need-slice-aggregate-checksum-waiting
+slice-aggregate-checksum-waiting c = search needs
+
 checksum-waiting-requires : tie.Need-checksum-waiting-requires
 checksum-waiting-requires c κs =
-    let run = c .before .before .before .before .before .before .before .before .before .before .before .run in
+    let run = c .before .before .before .before .before .before .before .before .before .before .before .before .run in
     let rest = run .ensures .rests (not-false (run .result .ok) (c .before .before .before .before .before .before .before .before .if2 .left)) in
     (rest .waits .sized, omega (arith, rest .waits .few))
 
@@ -93,11 +103,13 @@ main-spec =
     (tie.spec
     rounds-asked-requires
     slice-aggregate-fill
+    slice-aggregate-fill-2
     fill-requires
     slice-aggregate-write-all
     write-all-requires
     returns
     slice-aggregate-run
+    slice-aggregate-run-2
     run-requires
     slice-aggregate-write-all-2
     write-all-requires-2
@@ -109,6 +121,7 @@ main-spec =
     slice-aggregate-line-3
     line-requires-3
     slice-aggregate-line-4
+    slice-aggregate-checksum-waiting
     checksum-waiting-requires
     line-requires-4
     slice-aggregate-line-5

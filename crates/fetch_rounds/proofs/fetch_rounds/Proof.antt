@@ -1,21 +1,18 @@
-use mathlib.Core.Path.{_≡_}
+-- `fetch_rounds::fetch_rounds` meets its contract: the rounds that want a node closed the store, or the rounds that are left follow.
+use mathlib.Core.Path.{_≡_, sym, _∙_}
 use Prim.Native.Nat.{ℕ, _^_, _≤_, _<_}
 use Rattle.bucket_call_spec.specs.Call.{drawOf}
 use Rattle.node_rows.specs.Held.{heldIn}
 use Rattle.idle_rounds.specs.IdleLaws.{draw-leaf}
 use Rattle.want_rounds.specs.declared.Job.{Job}
 use Rattle.want_rounds.specs.declared.Fetched.{Fetched}
-use Rattle.want_rounds.specs.Wanting.{Walked}
-use Rattle.want_rounds.specs.WantingLaws.{walked-few, walked-between}
-use Rattle.fetch_rounds.specs.FetchLaws.{between-part, rest-fetched}
+use Rattle.want_rounds.specs.Wanting.{heldBy, Walked, InRows}
+use Rattle.want_rounds.specs.WalkLaws.{rows-few}
+use Rattle.fetch_rounds.specs.FetchLaws.{rows-between, rows-rest}
 use native.Mathlib.Omega.{arith}
 use borrow.Author.Needs.{needs}
 use Rattle.fetch_rounds.proofs.fetch_rounds.Statement.{statement}
 use Rattle.fetch_rounds.proofs.fetch_rounds.Tie as tie
-use Rattle.fetch_rounds.proofs.fetch_rounds.Reads as reads
-use Rattle.fetch_rounds.proofs.fetch_rounds.Lts as lts
-use Rattle.idle_rounds.proofs.idle.idle_rounds.Reads as idle-rounds-reads
-use Rattle.want_rounds.proofs.want_rounds.Reads as want-rounds-reads
 
 -- ---- once none is wanted
 module _ (c : tie.After-struct-known2) where
@@ -40,12 +37,16 @@ module _ (c : tie.After-struct-known2) where
   no-mark : f .mark ≡ 0
   no-mark = omega (arith, c .before .if1 .left)
 
-  abbrev inv : Walked job draw (start .args .n) (start .args .w .now) (start .args .tree .now) (start .args .trace .now) (heldIn (walked .want-rounds .last .1 .1 .1 .1 .1 .0) (f .count)) (walked .want-rounds .last .1 .1 .1 .1 .1 .1 .0) (f .waiting) (f .peak)
-      (walked .want-rounds .last .1 .0) (walked .want-rounds .last .1 .1 .1 .0) (walked .want-rounds .last .1 .1 .1 .1 .0) (walked .want-rounds .last .1 .1 .1 .1 .1 .1 .1 .1 .0) (walked .want-rounds .last .1 .1 .1 .1 .1 .1 .1 .1 .1 .1 .0)
+  abbrev inv : Walked job draw (start .args .n) (start .args .w .now) (start .args .tree .now) (start .args .trace .now) (heldBy (heldIn (walked .want-rounds .last .1 .1 .1 .1 .0) (f .count)) (walked .want-rounds .last .1 .1 .1 .1 .1 .0)) (f .waiting) (f .peak)
+      (walked .want-rounds .last .1 .0) (walked .want-rounds .last .1 .1 .1 .0) (walked .want-rounds .last .1 .1 .1 .1 .1 .1 .1 .1 .1 .0)
+      × InRows (heldIn (walked .want-rounds .last .1 .1 .1 .1 .0) (f .count)) (walked .want-rounds .last .1 .1 .1 .1 .1 .0) (walked .want-rounds .last .1 .1 .1 .1 .1 .1 .1 .0)
   inv = walked .want-rounds .ensures .0 .goes no-mark
 
   few : f .count ≤ 33
-  few = walked-few job draw is-leaf (start .pre .0) (start .args .trace .now) inv
+  few = rows-few job draw is-leaf (start .pre .begins) (start .args .trace .now) (inv .0) (inv .1)
+
+  upto : f .count ≤ job .rounds
+  upto = omega (arith, inv .0 .upto, inv .1 .counted)
 
 want-rounds-requires : tie.Need-want-rounds-requires
 want-rounds-requires c κs = search needs
@@ -65,25 +66,16 @@ returns c =
     (w .0 .stops (λ e. omega (arith, e, c .if1 .taken)), w .1)
 
 sub-left : tie.Need-sub-left
-sub-left c = omega (arith, inv c .upto)
-
-sub-idle-rounds : tie.Need-sub-idle-rounds
-sub-idle-rounds c = search needs
-
-part-idle-rounds-start : tie.Need-part-idle-rounds-start
-part-idle-rounds-start c = search needs
-
-part-idle-rounds-end : tie.Need-part-idle-rounds-end
-part-idle-rounds-end c =
-    let k = c .before .before .before .before in
-    omega (arith, inv k .keys-sized, few k)
+sub-left c = omega (arith, upto c)
 
 idle-rounds-requires : tie.Need-idle-rounds-requires
 idle-rounds-requires c κs =
-    let k = c .before .before .before .before .before .before in
-    let s = start k in (
-      between-part (f k .count) _ (walked-between (job k) (draw k) (is-leaf k) (s .pre .0) (s .args .trace .now) (inv k)),
-      (omega (arith, inv k .upto, s .pre .0 .puts-are, s .pre .1 .1 .1 .1 .0), omega (arith, inv k .upto, inv k .trace-sized, s .pre .1 .1 .1 .1 .1)),
+    let k = c .before .before .before .before .before in
+    let s = start k in
+    let rows = walked k .want-rounds .ensures .1 in (
+      rows-between (job k) (draw k) (is-leaf k) (start k .pre .begins) (start k .args .trace .now) (inv k .0) (inv k .1),
+      (rows .keys-row, omega (arith, few k), rows .from-row),
+      (omega (arith, upto k, s .pre .long .0), omega (arith, upto k, inv k .0 .trace-sized, s .pre .long .1)),
     )
 
 add-f : tie.Need-add-f
@@ -93,7 +85,7 @@ greater-requires : tie.Need-greater-requires
 greater-requires c κs = search needs
 
 same-length-4 : tie.Need-same-length-4
-same-length-4 c = search needs
+same-length-4 c = c .before .before .before .before .before .before .before .before .idle-rounds .ensures .0 .rests .holds .sized ∙ sym (start (c .before .before .before .before .before .before .before .before .before .before .before .before .before .before) .pre .begins .rests .holds .sized)
 
 same-length-5 : tie.Need-same-length-5
 same-length-5 c = search needs
@@ -103,11 +95,11 @@ same-length-6 c = search needs
 
 returns-2 : tie.Need-returns-2
 returns-2 c =
-    let k = c .before .before .before .before .before .before .before .before .before .before .before .before .before in
-    let s = start k in (
-      rest-fetched (job k) (draw k) (is-leaf k) (s .pre .0) (s .args .trace .now) (inv k) (walked k .want-rounds .ensures .0 .finished (no-mark k)) (omega (arith, s .pre .1 .1 .1 .1 .1))
-          (c .greater .ensures) (c .before .before .before .before .before .before .idle-rounds .ensures),
-      walked k .want-rounds .ensures .1,
+    let k = c .before .before .before .before .before .before .before .before .before .before .before .before .before .before in
+    let rows = walked k .want-rounds .ensures .1 in
+    let idle = c .before .before .before .before .before .before .before .before .idle-rounds .ensures in (
+      rows-rest (job k) (draw k) (is-leaf k) (start k .pre .begins) (start k .args .trace .now) (inv k .0) (inv k .1) (walked k .want-rounds .ensures .0 .finished (no-mark k)) (omega (arith, start k .pre .long .1)) (c .greater .ensures) (idle .0),
+      record { held-row = rows .held-row; froms-row = rows .froms-row; made-row = rows .made-row; keys-row = rows .keys-row; from-row = idle .1 },
     )
 
 pub fetch-rounds-spec : {M : Type 1} → statement M
@@ -120,9 +112,6 @@ fetch-rounds-spec =
     same-length-3
     returns
     sub-left
-    sub-idle-rounds
-    part-idle-rounds-start
-    part-idle-rounds-end
     idle-rounds-requires
     add-f
     greater-requires

@@ -1,8 +1,9 @@
 -- `host_calls::call_numbers` meets its contract.
-use mathlib.Core.Path.{sym, _∙_, ap}
-use Prim.Native.Nat.{ℕ, min, _*_, _/_, _≤_}
-use lib.ListN.{length, replicate}
+use mathlib.Core.Path.{_≡_, sym, _∙_, ap₂}
+use Prim.Native.Nat.{ℕ, _+_, _*_}
+use lib.ListN.{length, take, replicate}
 use lib.Seq.{length-take-le}
+use Rattle.state_spec.specs.Fetching.{roundsOf, drawsOf}
 use Rattle.host_calls.specs.LeftLaws.{head-size}
 use native.Mathlib.Omega.{arith}
 use borrow.Author.Needs.{needs}
@@ -10,71 +11,90 @@ use Rattle.host_calls.proofs.call_numbers.Statement.{statement}
 use Rattle.host_calls.proofs.call_numbers.Tie as tie
 use Rattle.host_calls.proofs.call_numbers.Reads as reads
 use Rattle.host_calls.proofs.call_numbers.Lts as lts
-use Rattle.call_draws.proofs.draws_of.Reads as draws-of-reads
 use Rattle.call_draws.proofs.rounds_of.Reads as rounds-of-reads
+use Rattle.call_draws.proofs.spare_of.Reads as spare-of-reads
 use Rattle.host_calls.proofs.call_rows.Reads as call-rows-reads
 use Rattle.host_calls.proofs.lesser.Reads as lesser-reads
 
-few-draws : (c : tie.After-lesser) → c .lesser .result ≤ length (replicate {A = ℕ} 68 0)
-few-draws c = omega (arith, c .lesser .ensures, c .before .before .draws-of .ensures)
+-- As many numbers and leaves as are taken: their rows have room for them.
+module _ (c : tie.After-lesser2) where
+  abbrev start : tie.Start
+  start = c .before .before .before .before .before .before .before .before .before
 
-few-leaves : (c : tie.After-lesser2) → c .lesser2 .result ≤ length (replicate {A = ℕ} 66 0)
-few-leaves c = omega (arith, c .lesser2 .ensures, c .before .before .rounds-of .ensures)
+  abbrev rounds : ℕ
+  rounds = c .before .before .before .rounds-of .result
 
--- src/lib.rt:97:9
-draws-of-requires : tie.Need-draws-of-requires
-draws-of-requires c κs = head-size (c .before .before .before .before .pre)
+  abbrev draws : ℕ
+  draws = 2 * rounds + c .before .before .spare-of .result
 
--- src/lib.rt:98:21
+  abbrev taken : ℕ
+  taken = c .before .lesser .result
+
+  numbers-sized : length (take taken (replicate {A = ℕ} 68 0)) ≡ taken
+  numbers-sized = length-take-le taken (replicate 68 0) (omega (arith, c .before .lesser .ensures, c .before .before .spare-of .ensures, c .before .before .before .rounds-of .ensures))
+
+  leaves-sized : length (take (c .lesser2 .result) (replicate {A = ℕ} 66 0)) ≡ c .lesser2 .result
+  leaves-sized = length-take-le (c .lesser2 .result) (replicate 66 0) (omega (arith, c .lesser2 .ensures, c .before .before .before .rounds-of .ensures))
+
+  rounds-are : rounds ≡ roundsOf (start .args .head .structure) (start .args .head .size)
+  rounds-are = c .before .before .before .rounds-of .ensures .0
+
+  draws-are : draws ≡ drawsOf (start .args .head .structure) (start .args .head .size)
+  draws-are = ap₂ (λ (f s : ℕ). 2 * f + s) rounds-are (c .before .before .spare-of .ensures .0)
+
 rounds-of-requires : tie.Need-rounds-of-requires
 rounds-of-requires c κs = head-size (c .before .before .before .before .before .pre)
 
--- src/lib.rt:98:17
-mul-shown : tie.Need-mul-shown
-mul-shown c = search needs
+mul-draws : tie.Need-mul-draws
+mul-draws c = search needs
 
--- src/lib.rt:99:9
+spare-of-requires : tie.Need-spare-of-requires
+spare-of-requires c κs = search needs
+
+add-draws : tie.Need-add-draws
+add-draws c = search needs
+
 lesser-requires : tie.Need-lesser-requires
 lesser-requires c κs = search needs
 
--- src/lib.rt:100:9
+mul-lesser : tie.Need-mul-lesser
+mul-lesser c = search needs
+
 lesser-requires-2 : tie.Need-lesser-requires-2
 lesser-requires-2 c κs = search needs
 
--- src/lib.rt:110:9
 array-borrow-prefix-numbers : tie.Need-array-borrow-prefix-numbers
 array-borrow-prefix-numbers c = search needs
 
--- src/lib.rt:110:9
 slice-aggregate-call-rows : tie.Need-slice-aggregate-call-rows
-slice-aggregate-call-rows c = sym (length-take-le (c .before .before .before .before .before .lesser .result) (replicate 68 0) (few-draws (c .before .before .before .before .before)))
+slice-aggregate-call-rows c = sym (numbers-sized (c .before .before .before .before))
 
--- src/lib.rt:111:9
 array-borrow-prefix-leaves : tie.Need-array-borrow-prefix-leaves
 array-borrow-prefix-leaves c = search needs
 
--- src/lib.rt:111:9
 slice-aggregate-call-rows-2 : tie.Need-slice-aggregate-call-rows-2
-slice-aggregate-call-rows-2 c = sym (length-take-le (c .before .before .before .before .before .lesser2 .result) (replicate 66 0) (few-leaves (c .before .before .before .before .before)))
+slice-aggregate-call-rows-2 c = sym (leaves-sized (c .before .before .before .before .before))
 
--- src/lib.rt:103:5
 call-rows-requires : tie.Need-call-rows-requires
 call-rows-requires c κs =
+    let k = c .before .before .before .before .before in
     record {
-      stands = c .before .before .before .before .before .before .before .before .before .before .before .before .before .pre;
-      draws = length-take-le (c .before .before .before .before .before .before .lesser .result) (replicate 68 0) (few-draws (c .before .before .before .before .before .before)) ∙ c .before .before .before .before .before .before .lesser .ensures ∙ ap (λ (n : ℕ). min (length (c .before .before .before .before .before .before .before .before .before .before .before .before .before .args .tape .now) / 2) n) (c .before .before .before .before .before .before .before .before .draws-of .ensures .0);
-      places = length-take-le (c .before .before .before .before .before .lesser2 .result) (replicate 66 0) (few-leaves (c .before .before .before .before .before)) ∙ c .before .before .before .before .before .lesser2 .ensures ∙ ap (λ (n : ℕ). min (length (c .before .before .before .before .before .before .before .before .before .before .before .before .before .args .trace .now) / 2) (2 * n)) (c .before .before .before .before .before .before .before .rounds-of .ensures .0);
+      stands = start k .pre;
+      rounds-are = rounds-are k;
+      draws-are = draws-are k;
+      taken = numbers-sized k ∙ k .before .lesser .ensures;
+      places = leaves-sized k ∙ k .lesser2 .ensures;
     }
 
--- src/lib.rt:86:1
 same-length : tie.Need-same-length
 same-length c = search needs
 
--- src/lib.rt:86:1
 same-length-2 : tie.Need-same-length-2
 same-length-2 c = search needs
 
--- src/lib.rt:86:1
+same-length-3 : tie.Need-same-length-3
+same-length-3 c = search needs
+
 returns : tie.Need-returns
 returns c = search needs
 
@@ -82,10 +102,12 @@ pub call-numbers-spec : {M : Type 1} → statement M
 call-numbers-spec =
     tie.close
     (tie.spec
-    draws-of-requires
     rounds-of-requires
-    mul-shown
+    mul-draws
+    spare-of-requires
+    add-draws
     lesser-requires
+    mul-lesser
     lesser-requires-2
     array-borrow-prefix-numbers
     slice-aggregate-call-rows
@@ -94,4 +116,5 @@ call-numbers-spec =
     call-rows-requires
     same-length
     same-length-2
+    same-length-3
     returns)

@@ -1,5 +1,5 @@
 -- `host_calls::call_rows` meets its contract: what the core does with the cut tape and a trace of its own, the call does with the lent ones.
-use mathlib.Core.Path.{_≡_, sym, _∙_, ap, subst}
+use mathlib.Core.Path.{_≡_, sym, _∙_, ap, ap₂, subst}
 use mathlib.Core.List.{List, _++_}
 use Prim.Native.Nat.{ℕ, min, _*_, _/_, _≤_}
 use lib.ListN.{length, take, drop}
@@ -15,46 +15,56 @@ use Rattle.host_calls.proofs.call_rows.Statement.{statement}
 use Rattle.host_calls.proofs.call_rows.Tie as tie
 use Rattle.host_calls.proofs.call_rows.Reads as reads
 use Rattle.host_calls.proofs.call_rows.Lts as lts
-use Rattle.call_core.proofs.call_words.Reads as call-words-reads
+use Rattle.call_core.proofs.call_row.Reads as call-row-reads
 use Rattle.lent_numbers.proofs.read_numbers.Reads as read-numbers-reads
 use Rattle.lent_numbers.proofs.write_numbers.Reads as write-numbers-reads
 
 -- What the core was handed and left.
-same-own : (c : tie.After-leaves) → length (c .before .before .before .call-words .last .1 .1 .1 .1 .1 .0) ≡ length (c .before .before .before .before .before .before .before .before .before .before .before .before .before .before .before .before .before .before .args .leaves .now)
-same-own c = c .leaves .given
+module _ (c : tie.After-leaves) where
+  abbrev core : tie.After-call-row
+  core = c .before .before .before .before .before
 
-own-sized : (c : tie.After-leaves) → (let a = c .before .before .before .before .before .before .before .before .before .before .before .before .before .before .before .before .before .before .args in length (a .leaves .now) ≡ min (length (numbersOf (a .trace .now))) (2 * roundsOf (a .head .structure) (a .head .size)))
-own-sized c =
-    let b = c .before .before .before .before .before .before .before .before .before .before .before .before .before .before .before .before .before .before in
-    b .pre .places ∙ ap (λ (n : ℕ). min n (2 * roundsOf (b .args .head .structure) (b .args .head .size))) (sym (numbers-length (length (b .args .trace .now) / 2) (b .args .trace .now)))
+  abbrev start : tie.Start
+  start = core .before .before .before .before .before .before .before .before .before .before .before .before .before .before .before .before
 
-made : (c : tie.After-leaves)
-    → (let a = c .before .before .before .before .before .before .before .before .before .before .before .before .before .before .before .before .before .before .args in
-    let r = c .before .before .before .call-words in
-    CallsAs (a .head) (a .w .now) (a .tree .now) (a .ticket .now) (take (drawsOf (a .head .structure) (a .head .size)) (numbersOf (a .tape .now))) (a .leaves .now)
-    (r .last .1 .0) (r .last .1 .1 .0) (r .last .1 .1 .1 .1 .1 .0) (r .result))
-made c =
-    let b = c .before .before .before .before .before .before .before .before .before .before .before .before .before .before .before .before .before .before in
-    let a = b .args in
-    let r = c .before .before .before .call-words in
-    let n = c .before .before .before .before .before .before .before .before .before .before .read-numbers in
-    let e : n .last .1 .0 ≡ take (drawsOf (a .head .structure) (a .head .size)) (numbersOf (a .tape .now)) =
-    n .ensures ∙ ap (λ (m : ℕ). numbersIn m (a .tape .now)) (b .pre .draws) ∙ numbers-cut (a .tape .now) (drawsOf (a .head .structure) (a .head .size)) in
-    subst (λ (t : List ℕ). CallsAs (a .head) (a .w .now) (a .tree .now) (a .ticket .now) t (a .leaves .now) (r .last .1 .0) (r .last .1 .1 .0) (r .last .1 .1 .1 .1 .1 .0) (r .result)) e (r .ensures)
+  abbrev draws : ℕ
+  draws = drawsOf (start .args .head .structure) (start .args .head .size)
 
-shown : (c : tie.After-leaves) → c .before .before .before .call-words .result .leaves ≤ length (c .before .before .before .call-words .last .1 .1 .1 .1 .1 .0)
-shown c =
-    let b = c .before .before .before .before .before .before .before .before .before .before .before .before .before .before .before .before .before .before in
-    let a = b .args in
-    omega (arith, shown-within (numbersOf (a .tape .now)) (a .trace .now) (b .pre .stands) (own-sized c) (made c) (same-own c), same-own c)
+  abbrev most : ℕ
+  most = 2 * roundsOf (start .args .head .structure) (start .args .head .size)
+
+  abbrev own : List ℕ
+  own = core .call-row .last .1 .1 .1 .1 .1 .0
+
+  same-own : length own ≡ length (start .args .leaves .now)
+  same-own = c .leaves .given
+
+  own-sized : length (start .args .leaves .now) ≡ min (length (numbersOf (start .args .trace .now))) most
+  own-sized =
+      let trace = start .args .trace .now in
+      start .pre .places ∙ ap₂ (λ (n m : ℕ). min n (2 * m)) (sym (numbers-length (length trace / 2) trace)) (start .pre .rounds-are)
+
+  made : CallsAs (start .args .head) (start .args .w .now) (start .args .tree .now) (start .args .ticket .now) (take draws (numbersOf (start .args .tape .now)))
+      (start .args .leaves .now) (core .call-row .last .1 .0) (core .call-row .last .1 .1 .0) own (core .call-row .result)
+  made =
+      let a = start .args in
+      let r = core .call-row in
+      let n = core .before .before .before .before .before .before .before .read-numbers in
+      let tape = a .tape .now in
+      let e : n .last .1 .0 ≡ take draws (numbersOf tape) =
+      n .ensures ∙ ap (λ (m : ℕ). numbersIn m tape) (start .pre .taken ∙ ap (min (length tape / 2)) (start .pre .draws-are)) ∙ numbers-cut tape draws in
+      subst (λ (t : List ℕ). CallsAs (a .head) (a .w .now) (a .tree .now) (a .ticket .now) t (a .leaves .now) (r .last .1 .0) (r .last .1 .1 .0) own (r .result)) e (r .ensures)
+
+  shown : core .call-row .result .leaves ≤ length own
+  shown = omega (arith, shown-within (numbersOf (start .args .tape .now)) (start .args .trace .now) (start .pre .stands) own-sized made same-own, same-own)
 
 -- src/lib.rt:78:5
 read-numbers-requires : tie.Need-read-numbers-requires
 read-numbers-requires c κs = search needs
 
 -- src/lib.rt:79:9
-call-words-requires : tie.Need-call-words-requires
-call-words-requires c κs = search needs
+call-row-requires : tie.Need-call-row-requires
+call-row-requires c κs = let b = c .before .before .before .before .before .before .before .before .before .before .before .before .before .before .before in (b .pre .stands, (b .pre .rounds-are, b .pre .draws-are))
 
 -- src/lib.rt:81:26
 slice-reshare-prefix-write-numbers : tie.Need-slice-reshare-prefix-write-numbers
@@ -62,17 +72,13 @@ slice-reshare-prefix-write-numbers c = shown (c .before .before)
 
 -- src/lib.rt:81:26
 slice-aggregate-write-numbers : tie.Need-slice-aggregate-write-numbers
-slice-aggregate-write-numbers c =
-    let own = c .before .before .before .before .before .before .call-words .last .1 .1 .1 .1 .1 .0 in
-    sym (length-take-le (c .before .before .before .before .before .before .call-words .result .leaves) own (shown (c .before .before .before)))
+slice-aggregate-write-numbers c = let k = c .before .before .before in sym (length-take-le (core k .call-row .result .leaves) (own k) (shown k))
 
 -- src/lib.rt:81:5
 write-numbers-requires : tie.Need-write-numbers-requires
 write-numbers-requires c κs =
-    let b = c .before .before .before .before .before .before .before .before .before .before .before .before .before .before .before .before .before .before .before .before .before in
-    let own = c .before .before .before .before .before .before .call-words .last .1 .1 .1 .1 .1 .0 in
-    let few = shown (c .before .before .before) in
-    omega (arith, length-take-le (c .before .before .before .before .before .before .call-words .result .leaves) own few, few, same-own (c .before .before .before), b .pre .places)
+    let k = c .before .before .before in
+    omega (arith, length-take-le (core k .call-row .result .leaves) (own k) (shown k), shown k, same-own k, start k .pre .places)
 
 -- src/lib.rt:65:1
 same-length : tie.Need-same-length
@@ -91,22 +97,23 @@ same-length-4 : tie.Need-same-length-4
 same-length-4 c = search needs
 
 -- src/lib.rt:65:1
+same-length-5 : tie.Need-same-length-5
+same-length-5 c = search needs
+
+-- src/lib.rt:65:1
 returns : tie.Need-returns
 returns c =
-    let b = c .before .before .before .before .before .before .before .before .before .before .before .before .before .before .before .before .before .before .before .before .before .before .before .before in
-    let a = b .args in
     let k = c .before .before .before .before .before .before in
+    let a = start k .args in
     let w = c .before .before .write-numbers in
-    let r = c .before .before .before .before .before .before .before .before .before .call-words in
-    let own = r .last .1 .1 .1 .1 .1 .0 in
-    let few = shown k in
-    let ns = take (r .result .leaves) own in
-    let many : length ns ≡ r .result .leaves = length-take-le (r .result .leaves) own few in
-    let left : numbersOf (w .last .0) ≡ ns ++ drop (r .result .leaves) (numbersOf (a .trace .now)) =
+    let n = core k .call-row .result .leaves in
+    let ns = take n (own k) in
+    let many : length ns ≡ n = length-take-le n (own k) (shown k) in
+    let left : numbersOf (w .last .0) ≡ ns ++ drop n (numbersOf (a .trace .now)) =
     ap numbersOf (w .ensures)
-    ∙ numbers-left (a .trace .now) ns (omega (arith, many, few, same-own k, b .pre .places)) (take-low (r .result .leaves) own (λ i. c .before .before .before .before .before .slice-known7 .given i .fits))
-    ∙ ap (λ (n : ℕ). ns ++ drop n (numbersOf (a .trace .now))) many in (
-      made-lent (numbersOf (a .tape .now)) (a .trace .now) (b .pre .stands) (own-sized k) (made k) (same-own k) (w .last .0) left,
+    ∙ numbers-left (a .trace .now) ns (omega (arith, many, shown k, same-own k, start k .pre .places)) (take-low n (own k) (λ i. c .before .before .before .before .before .slice-known9 .given i .fits))
+    ∙ ap (λ (m : ℕ). ns ++ drop m (numbersOf (a .trace .now))) many in (
+      made-lent (numbersOf (a .tape .now)) (a .trace .now) (start k .pre .stands) (own-sized k) (made k) (same-own k) (w .last .0) left,
       ap length (w .ensures) ∙ length-sets (a .trace .now) 0 (numbersBytes ns),
     )
 
@@ -115,7 +122,7 @@ call-rows-spec =
     tie.close
     (tie.spec
     read-numbers-requires
-    call-words-requires
+    call-row-requires
     slice-reshare-prefix-write-numbers
     slice-aggregate-write-numbers
     write-numbers-requires
@@ -123,4 +130,5 @@ call-rows-spec =
     same-length-2
     same-length-3
     same-length-4
+    same-length-5
     returns)

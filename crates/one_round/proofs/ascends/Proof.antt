@@ -23,7 +23,7 @@ add-loop : tie.Need-add-loop Inv-loop μ-loop
 add-loop c = search needs
 
 get-requires : tie.Need-get-requires Inv-loop μ-loop
-get-requires c κs = let h = c .before .before .pre in (h .sized, omega (arith, h .few, c .loop-test .taken))
+get-requires c κs = let h = c .before .before .before .pre in (h .sized, omega (arith, h .few, c .loop-test .taken))
 
 key-of-requires : tie.Need-key-of-requires Inv-loop μ-loop
 key-of-requires c κs = search needs
@@ -33,7 +33,7 @@ add-get c = search needs
 
 get-requires-2 : tie.Need-get-requires-2 Inv-loop μ-loop
 get-requires-2 c κs =
-    let h = c .before .before .before .before .pre in
+    let h = c .before .before .before .before .before .pre in
     (h .sized, omega (arith, h .few, c .before .before .loop-test .taken))
 
 key-of-requires-2 : tie.Need-key-of-requires-2 Inv-loop μ-loop
@@ -41,7 +41,7 @@ key-of-requires-2 c κs = search needs
 
 returns : tie.Need-returns Inv-loop μ-loop
 returns c =
-    let b = c .before .before .before .before .before .before .before in
+    let b = c .before .before .before .before .before .before .before .before in
     let a = b .args in
     let l = c .before .before .before .before .before .before .loop in
     let t = c .before .before .before .before .before .loop-test .taken in
@@ -62,7 +62,7 @@ loop-less c = search needs
 
 loop-again : tie.Need-loop-again Inv-loop μ-loop
 loop-again c =
-    let b = c .before .before .before .before .before .before .before in
+    let b = c .before .before .before .before .before .before .before .before in
     let a = b .args in
     let l = c .before .before .before .before .before .before .loop in
     let t = c .before .before .before .before .before .loop-test .taken in
@@ -77,7 +77,7 @@ loop-again c =
 
 returns-2 : tie.Need-returns-2 Inv-loop μ-loop
 returns-2 c =
-    let b = c .before .before in
+    let b = c .before .before .before in
     let a = b .args in
     let l = c .before .loop in
     let n = keys-count (a .n) (a .w .now) (b .pre) in

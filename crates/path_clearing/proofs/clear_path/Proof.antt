@@ -34,7 +34,7 @@ cast-clear-slot c =
     let b = c .before .before .before .before .before in
     let a = b .args in
     let g = b .pre .3 in
-    let w = start-small (a .size) (a .leaf) (a .tree .now) (b .pre .1) (b .pre .2) (a .from .now) (a .full) (c .before .before .before .loop .i) (b .pre .0) (g .starts) (omega arith) (omega (arith, g .sized, g .fewer, b .pre .0)) in
+    let w = start-small (a .size) (a .leaf) (a .tree .now) (b .pre .1) (b .pre .2) (a .from .now) (a .full) (c .before .before .before .loop .i) (omega (arith, b .pre .0)) (g .starts) (omega arith) (omega (arith, g .sized, g .fewer, b .pre .0)) in
     omega arith
 
 clear-slot-requires : tie.Need-clear-slot-requires Inv-loop μ-loop
@@ -44,7 +44,7 @@ clear-slot-requires c κs =
     let g = b .pre .3 in
     let l = c .before .before .before .loop in
     let w = start-within (a .size) (a .leaf) (a .tree .now) (b .pre .1) (b .pre .2) (a .from .now) (a .full) (l .i) (g .starts) (omega arith) (omega (arith, g .sized, g .fewer, b .pre .0)) in
-    let v = start-small (a .size) (a .leaf) (a .tree .now) (b .pre .1) (b .pre .2) (a .from .now) (a .full) (l .i) (b .pre .0) (g .starts) (omega arith) (omega (arith, g .sized, g .fewer, b .pre .0)) in
+    let v = start-small (a .size) (a .leaf) (a .tree .now) (b .pre .1) (b .pre .2) (a .from .now) (a .full) (l .i) (omega (arith, b .pre .0)) (g .starts) (omega arith) (omega (arith, g .sized, g .fewer, b .pre .0)) in
     (l .inv .1 ∙ b .pre .2, rw (l .inv .1) w, v, start-aligned (a .size) (a .leaf) (a .tree .now) (a .from .now) (a .full) (l .i) g (b .pre .0) (omega arith))
 
 add-i : tie.Need-add-i Inv-loop μ-loop

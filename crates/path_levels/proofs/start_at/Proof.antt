@@ -12,7 +12,7 @@ bucket-start-requires c κs =
     let a = c .before .args in
     let p = c .before .pre in
     let e = c .path-bucket .ensures in
-    (rw e (bucket-positive (a .size) (a .leaf) (a .level) (p .1) (p .2)), rw e (bucket-small (a .size) (a .leaf) (a .level) (p .1) (p .2) (p .0)))
+    (rw e (bucket-positive (a .size) (a .leaf) (a .level) (p .1) (p .2)), rw e (bucket-small (a .size) (a .leaf) (a .level) (p .1) (p .2) (omega (arith, p .0))))
 
 returns : tie.Need-returns
 returns c =
@@ -21,7 +21,7 @@ returns c =
     let e = c .before .path-bucket .ensures in
     let s = c .bucket-start .ensures in
     let i = bucket-inside (a .size) (a .leaf) (a .level) (p .1) (p .2) in
-    let m = bucket-small (a .size) (a .leaf) (a .level) (p .1) (p .2) (p .0) in
+    let m = bucket-small (a .size) (a .leaf) (a .level) (p .1) (p .2) (omega (arith, p .0)) in
     (rw (← e) s, rw (s, e) i, rw (s, e) (omega arith))
 
 pub start-at-spec : {M : Type 1} → statement M

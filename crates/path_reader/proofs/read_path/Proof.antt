@@ -1,43 +1,37 @@
--- `path_reader::read_path` meets its contract. The invariant: the first i full slots have joined, the others are left to join.
-use mathlib.Core.Path.{_≡_, sym, subst}
+-- `path_reader::read_path` meets its contract. The invariant: the first i full slots have joined.
+use mathlib.Core.Path.{_≡_, refl, sym, _∙_, ap}
 use mathlib.Core.Bool.{true, false}
-use mathlib.Core.List.{List, [], _∷_, _++_, map}
-use Prim.Native.Nat.{ℕ, _+_, _-_, _≤_}
-use lib.ListN.{length, take, drop, getD, length-take, length-map, drop-of-length-le}
-use lib.Seq.{getD-take}
+use mathlib.Core.List.{List, map}
+use Prim.Native.Nat.{ℕ, _-_, _^_, _≤_, _<_}
+use lib.ListN.{length, take, drop, getD}
 use borrow.Author.Tests.{not-true, not-false}
-use Rattle.slot_spec.specs.Slot.{slotBytes}
-use Rattle.slot_spec.specs.declared.Slot.{Slot}
-use Rattle.round_spec.specs.Format.{Read}
-use Rattle.round_spec.specs.Round.{keysOf}
-use Rattle.round_spec.specs.Nodes.{wordsFormat}
-use Rattle.slot_spec.specs.Row.{slotsOf}
-use Rattle.word_round_laws.specs.StashLaws.{ascending-test}
-use Rattle.path_reader.specs.JoinedLaws.{Joining, joining-start, joining-turn, joining-damage, joining-end, full-joined}
-use Rattle.word_round_laws.specs.Gather.{bucketOf, readFrom}
-use Rattle.word_round_laws.specs.GatherLaws.{start-within, start-small, loaded-from}
+use Rattle.word_round_laws.specs.SlotRow.{places, slotsIn}
+use Rattle.word_round_laws.specs.Gather.{readFrom}
+use Rattle.word_round_laws.specs.GatherLaws.{Within, start-within, start-small}
+use Rattle.path_reader.specs.Joined.{ReadingsJoined}
+use Rattle.path_reader.specs.JoinedLaws.{joined-none, joined-order, first-within, next-joined, next-damage, damaged, full-joined}
+use Rattle.path_reader.specs.Undo.{PathJoined}
+use Rattle.path_reader.specs.UndoneLaws.{first-joined, were-joined, undone-slots}
 use borrow.Author.Needs.{needs}
 use native.Mathlib.Omega.{arith}
 use Rattle.path_reader.proofs.read_path.Statement.{statement}
 use Rattle.path_reader.proofs.read_path.Tie as tie
 
 abbrev Inv-loop : tie.InvT-loop
-Inv-loop s₀ n tree size leaf held from full count₀ i₀ s count i =
-    (i ≤ full) × (count ≤ n + i)
-    × Joining size held (map (readFrom size tree) (take full from)) (drop i (map (readFrom size tree) (take full from))) n s₀ s count
+Inv-loop s₀ n tree size leaf held holds from full count₀ i₀ s count i =
+    (i ≤ full) × ReadingsJoined size (take holds held) (map (readFrom size tree) (take i from)) n s₀ s (record { ok = true; count = count })
 
 abbrev μ-loop : tie.MeasureT-loop
-μ-loop s₀ n tree size leaf held from full count₀ i₀ s count i = full - i
+μ-loop s₀ n tree size leaf held holds from full count₀ i₀ s count i = full - i
 
 gather-path-requires : tie.Need-gather-path-requires Inv-loop μ-loop
-gather-path-requires c κs = search needs
+gather-path-requires c κs = let b = c .before .before .before in (b .pre .0 .size, b .pre .0 .is-leaf, b .pre .0 .tree-sized, b .pre .3)
 
 loop-holds : tie.Need-loop-holds Inv-loop μ-loop
 loop-holds c =
     let b = c .before .before .before .before in
     let a = b .args in
-    let g = c .gather-path in
-    (omega arith, omega arith, joining-start (a .size) (a .held .now) (map (readFrom (a .size) (a .tree .now)) (take (g .result) (g .last .1 .1 .1 .0))) (a .n) (a .s .now) (b .pre .0) (b .pre .2))
+    (omega arith, joined-none (a .size) (take (a .holds) (a .held .now)) (a .n) (a .s .now) (b .pre .0 .waiting-sized) (b .pre .0 .blank))
 
 mul-at : tie.Need-mul-at Inv-loop μ-loop
 mul-at c = search needs
@@ -45,81 +39,115 @@ mul-at c = search needs
 element-copy-out-at : tie.Need-element-copy-out-at Inv-loop μ-loop
 element-copy-out-at c = search needs
 
+-- One more slot is asked.
+module _ (c : tie.In-loop Inv-loop μ-loop) where
+  abbrev start : tie.Start Inv-loop μ-loop
+  start = c .before .before .before .before .before .before
+
+  abbrev gathered : tie.After-gather-path Inv-loop μ-loop
+  gathered = c .before .before
+
+  abbrev turn : tie.At-loop Inv-loop μ-loop
+  turn = c .before
+
+  -- Where the full slots start, and the keys that are held.
+  abbrev starts : List ℕ
+  starts = gathered .gather-path .last .1 .1 .1 .0
+
+  abbrev held : List ℕ
+  held = take (start .args .holds) (start .args .held .now)
+
+  few : gathered .gather-path .result ≤ length starts
+  few = let g = gathered .gather-path in omega (arith, g .ensures .sized, g .ensures .fewer, start .pre .0 .size)
+
+  within : Within (start .args .tree .now) (getD starts (turn .loop .i) 0)
+  within =
+      let a = start .args in
+      let g = gathered .gather-path in
+      start-within (a .size) (a .leaf) (a .tree .now) (start .pre .0 .is-leaf) (start .pre .0 .tree-sized) starts (g .result) (turn .loop .i) (g .ensures .starts) (c .loop-test .taken) few
+
+  small : getD starts (turn .loop .i) 0 < 2 ^ 24
+  small =
+      let a = start .args in
+      let g = gathered .gather-path in
+      start-small (a .size) (a .leaf) (a .tree .now) (start .pre .0 .is-leaf) (start .pre .0 .tree-sized) starts (g .result) (turn .loop .i) (omega (arith, start .pre .0 .size)) (g .ensures .starts) (c .loop-test .taken) few
+
+  room : turn .loop .count < places
+  room =
+      let a = start .args in
+      let l = turn .loop in
+      omega (arith, first-within (a .size) held (a .tree .now) starts (a .n) (a .s .now) (l .s) (l .i) (record { ok = true; count = l .count }) (l .inv .1), gathered .gather-path .ensures .fewer, start .pre .0 .room, c .loop-test .taken)
+
 cast-at : tie.Need-cast-at Inv-loop μ-loop
-cast-at c =
-    let b = c .before .before .before .before .before .before .before in
-    let a = b .args in
-    let g = c .before .before .before .gather-path in
-    let w = start-small (a .size) (a .leaf) (a .tree .now) (b .pre .4) (b .pre .5) (g .last .1 .1 .1 .0) (g .result) (c .before .before .loop .i) (b .pre .3) (g .ensures .starts) (c .before .loop-test .taken) (omega (arith, g .ensures .sized, g .ensures .fewer, b .pre .3)) in
-    omega arith
+cast-at c = let w = small (c .before) in omega arith
 
 load-requires : tie.Need-load-requires Inv-loop μ-loop
-load-requires c κs =
-    let b = c .before .before .before .before .before .before .before in
-    let a = b .args in
-    let g = c .before .before .before .gather-path in
-    start-within (a .size) (a .leaf) (a .tree .now) (b .pre .4) (b .pre .5) (g .last .1 .1 .1 .0) (g .result) (c .before .before .loop .i) (g .ensures .starts) (c .before .loop-test .taken) (omega (arith, g .ensures .sized, g .ensures .fewer, b .pre .3))
+load-requires c κs = within (c .before)
 
 add-join-reading : tie.Need-add-join-reading Inv-loop μ-loop
-add-join-reading c =
-    let b = c .before .before .before .before .before .before .before .before .before in
-    let a = b .args in
-    let g = c .before .before .before .before .before .gather-path in
-    let w = start-small (a .size) (a .leaf) (a .tree .now) (b .pre .4) (b .pre .5) (g .last .1 .1 .1 .0) (g .result) (c .before .before .before .before .loop .i) (b .pre .3) (g .ensures .starts) (c .before .before .before .loop-test .taken) (omega (arith, g .ensures .sized, g .ensures .fewer, b .pre .3)) in
-    omega arith
+add-join-reading c = let w = small (c .before .before .before) in omega arith
 
 join-reading-requires : tie.Need-join-reading-requires Inv-loop μ-loop
 join-reading-requires c κs =
-    let b = c .before .before .before .before .before .before .before .before .before in
-    let l = c .before .before .before .before .loop in
-    let g = c .before .before .before .before .before .gather-path in
-    (l .inv .2 .sized, omega (arith, l .inv .1, g .ensures .fewer, b .pre .1, c .before .before .before .loop-test .taken), ascending-test (keysOf wordsFormat (take (l .count) (slotsOf (l .s)))) (l .inv .2 .order), b .pre .3)
+    let t = c .before .before .before in
+    let b = start t in
+    let a = b .args in
+    let l = turn t .loop in
+    let p = b .pre in
+    (l .inv .1 .sized, room t, joined-order (a .size) (held t) (map (readFrom (a .size) (a .tree .now)) (take (l .i) (starts t))) (a .n) (a .s .now) (l .s) (l .count) (l .inv .1) (p .0 .order), l .inv .1 .blank refl, p .0 .size, p .1, p .2)
 
--- One more slot was read.
-module _ (c : tie.After-struct-known Inv-loop μ-loop) where
-  abbrev start : tie.Start Inv-loop μ-loop
-  start = c .before .before .before .before .before .before .before .before .before .before .before
+-- It joined, or it did not, and then the row is that of the first i.
+module _ (c : tie.After-join-reading Inv-loop μ-loop) where
+  abbrev asked : tie.In-loop Inv-loop μ-loop
+  asked = c .before .before .before .before
 
-  abbrev gathered : tie.After-gather-path Inv-loop μ-loop
-  gathered = c .before .before .before .before .before .before .before
+  abbrev row : List ℕ
+  row = turn asked .loop .s
 
-  abbrev turn : tie.At-loop Inv-loop μ-loop
-  turn = c .before .before .before .before .before .before
+  module _ (bad : c .join-reading .result .ok ≡ false) where
+    were : PathJoined (start asked .args .size) (held asked) (take (start asked .args .n) (slotsIn (start asked .args .s .now))) (start asked .args .tree .now) (starts asked) (turn asked .loop .i) (turn asked .loop .count) (c .join-reading .last .0)
+    were =
+        let b = start asked in
+        let a = b .args in
+        let g = gathered asked .gather-path in
+        let l = turn asked .loop in
+        let k = c .join-reading in
+        first-joined (a .size) (a .leaf) (a .tree .now) (b .pre .0 .is-leaf) (b .pre .0 .tree-sized) (b .pre .0 .size) (starts asked) (g .result) (g .ensures)
+        (held asked) (a .n) (a .s .now) row (k .last .0) (l .i) (l .count) (l .inv .0) (let r = room asked in omega arith) (l .inv .1) (k .ensures .sized) (k .ensures .same bad)
 
-  -- The starts and the readings of the full slots, and the reading of this one.
-  abbrev starts : List ℕ
-  starts = take (gathered .gather-path .result) (gathered .gather-path .last .1 .1 .1 .0)
+undo-requires : tie.Need-undo-requires Inv-loop μ-loop
+undo-requires c κs =
+    let k = c .before .before .before .before .before .before in
+    let b = start (asked k) in
+    let a = b .args in
+    let l = turn (asked k) .loop in
+    were-joined (a .size) (held (asked k)) (take (a .n) (slotsIn (a .s .now))) (a .tree .now) (starts (asked k)) (l .i) (l .count) (k .join-reading .last .0) (were k (not-true (k .join-reading .result .ok) (c .before .before .if1 .taken)))
 
-  abbrev readings : List (Read Slot)
-  readings = map (readFrom (start .args .size) (start .args .tree .now)) starts
-
-  abbrev next : List (Read Slot)
-  next = wordsFormat .read (start .args .size) (bucketOf (getD (gathered .gather-path .last .1 .1 .1 .0) (turn .loop .i) 0)) (slotBytes (c .before .before .before .load .result)) ∷ []
-
-  -- What is left to join begins with it.
-  left : Joining (start .args .size) (start .args .held .now) readings (next ++ drop (turn .loop .i + 1) readings) (start .args .n) (start .args .s .now) (turn .loop .s) (turn .loop .count)
-  left =
-      let a = start .args in
-      let l = turn .loop in
-      let g = gathered .gather-path in
-      let from = g .last .1 .1 .1 .0 in
-      let x = c .before .before .before .load in
-      let t = c .before .before .before .before .before .loop-test .taken in
-      let n : length starts ≡ g .result = simp length-take (omega (arith, g .ensures .sized, g .ensures .fewer, start .pre .3)) in
-      let d = loaded-from (a .size) (a .tree .now) starts (l .i) (getD from (l .i) 0) (x .result) (omega arith) (sym (getD-take (g .result) from (l .i) 0 t)) (x .ensures) in
-      subst (λ (r : List (Read Slot)). Joining (a .size) (a .held .now) readings r (a .n) (a .s .now) (l .s) (l .count)) d (l .inv .2)
+same-length : tie.Need-same-length Inv-loop μ-loop
+same-length c =
+    let k = c .before .before .before .before .before .before .before .before .before in
+    c .before .before .undo .ensures .sized ∙ sym (start (asked k) .pre .0 .waiting-sized)
 
 returns : tie.Need-returns Inv-loop μ-loop
 returns c =
-    let b = start (c .before) in
+    let k = c .before .before .before .before .before .before .before .before .before in
+    let t = asked k in
+    let b = start t in
     let a = b .args in
-    let l = turn (c .before) .loop in
-    let g = gathered (c .before) .gather-path in
-    let k = c .before .before .join-reading in
-    let rs = readings (c .before) in (
-      full-joined (a .size) (a .leaf) (a .tree .now) (b .pre .4) (b .pre .5) (a .held .now) (a .n) (a .s .now) (k .last .0) (record { ok = false; count = a .n })
-          (rw (g .ensures .starts) at (joining-damage (a .size) (a .held .now) rs (next (c .before)) (drop (l .i + 1) rs) (a .n) (a .s .now) (l .s) (k .last .0) (l .count) (k .result) (left (c .before)) (k .ensures) (not-true (k .result .ok) (c .if1 .taken)))),
+    let p = b .pre .0 in
+    let g = gathered t .gather-path in
+    let l = turn t .loop in
+    let r = k .join-reading in
+    let x = k .before .before .load in
+    let u = c .before .before .undo in
+    let e = not-true (r .result .ok) (c .before .before .before .before .before .if1 .taken) in
+    let f = few t in
+    let n = next-damage (a .size) (held t) (a .tree .now) (starts t) (a .n) (a .s .now) (l .s) (r .last .0) (l .i) (l .count) (x .result) (r .result) (omega (arith, t .loop-test .taken)) (x .ensures) (l .inv .1) (r .ensures) (g .result) (t .loop-test .taken) f e in
+    let same = undone-slots (a .size) (held t) (a .tree .now) (starts t) (a .n) (l .i) (l .count) (a .s .now) (r .last .0) (u .last .0) (were k e) (u .ensures) (omega (arith, p .room)) (p .blank) (ap (drop (l .count)) (r .ensures .same e) ∙ l .inv .1 .blank refl) in (
+      full-joined (a .size) (a .leaf) (a .tree .now) (p .is-leaf) (p .tree-sized) (held t) (a .n) (a .s .now) (u .last .0) (record { ok = false; count = a .n })
+          (rw (g .ensures .starts) at (damaged (a .size) (held t) (map (readFrom (a .size) (a .tree .now)) (take (g .result) (starts t))) (a .n) (a .s .now) (u .last .0) (u .ensures .sized) n same)),
       g .ensures,
+      λ q. let z : _≡_ {A = ℕ} 0 1 = cc in absurd (omega arith),
     )
 
 add-i : tie.Need-add-i Inv-loop μ-loop
@@ -130,30 +158,35 @@ loop-less c = search needs
 
 loop-again : tie.Need-loop-again Inv-loop μ-loop
 loop-again c =
-    let a = start (c .before) .args in
-    let l = turn (c .before) .loop in
-    let k = c .before .before .join-reading in
-    let rs = readings (c .before) in (
+    let k = c .before .before .before .before in
+    let t = asked k in
+    let a = start t .args in
+    let l = turn t .loop in
+    let r = k .join-reading in
+    let x = k .before .before .load in
+    let f = few t in (
       omega arith,
-      omega (arith, k .ensures .within, l .inv .1),
-      joining-turn (a .size) (a .held .now) rs (next (c .before)) (drop (l .i + 1) rs) (a .n) (a .s .now) (l .s) (k .last .0) (l .count) (k .result) (left (c .before)) (k .ensures) (not-false (k .result .ok) (c .if1 .left)),
+      next-joined (a .size) (held t) (a .tree .now) (starts t) (a .n) (a .s .now) (l .s) (r .last .0) (l .i) (l .count) (x .result) (r .result) (omega (arith, t .loop-test .taken)) (x .ensures) (l .inv .1) (r .ensures) (not-false (r .result .ok) (c .if1 .left)),
     )
+
+same-length-2 : tie.Need-same-length-2 Inv-loop μ-loop
+same-length-2 c = search needs
 
 returns-2 : tie.Need-returns-2 Inv-loop μ-loop
 returns-2 c =
     let b = c .before .before .before .before .before .before in
     let a = b .args in
+    let p = b .pre .0 in
     let l = c .before .loop in
     let g = c .before .before .gather-path in
-    let starts = take (g .result) (g .last .1 .1 .1 .0) in
-    let rs = map (readFrom (a .size) (a .tree .now)) starts in
-    let n : length starts ≡ g .result = simp length-take (omega (arith, g .ensures .sized, g .ensures .fewer, b .pre .3)) in
-    let m = length-map starts (readFrom (a .size) (a .tree .now)) in
-    let e : drop (l .i) rs ≡ [] = drop-of-length-le rs {i = l .i} (omega (arith, c .loop-test .left)) in (
-      full-joined (a .size) (a .leaf) (a .tree .now) (b .pre .4) (b .pre .5) (a .held .now) (a .n) (a .s .now) (l .s) (record { ok = true; count = l .count })
-          (rw (g .ensures .starts) at (joining-end (a .size) (a .held .now) rs (a .n) (a .s .now) (l .s) (l .count) (omega (arith, l .inv .1, l .inv .0))
-          (subst (λ (r : List (Read Slot)). Joining (a .size) (a .held .now) rs r (a .n) (a .s .now) (l .s) (l .count)) e (l .inv .2)))),
+    let from = g .last .1 .1 .1 .0 in
+    let held = take (a .holds) (a .held .now) in
+    let e : l .i ≡ g .result = omega (arith, c .loop-test .left, l .inv .0) in
+    let j : ReadingsJoined (a .size) held (map (readFrom (a .size) (a .tree .now)) (take (g .result) from)) (a .n) (a .s .now) (l .s) (record { ok = true; count = l .count }) = rw e at (l .inv .1) in
+    let w = first-within (a .size) held (a .tree .now) from (a .n) (a .s .now) (l .s) (g .result) (record { ok = true; count = l .count }) j in (
+      full-joined (a .size) (a .leaf) (a .tree .now) (p .is-leaf) (p .tree-sized) held (a .n) (a .s .now) (l .s) (record { ok = true; count = l .count }) (rw (g .ensures .starts) at j),
       g .ensures,
+      λ _. first-joined (a .size) (a .leaf) (a .tree .now) (p .is-leaf) (p .tree-sized) (p .size) from (g .result) (g .ensures) held (a .n) (a .s .now) (l .s) (l .s) (g .result) (l .count) (omega arith) (omega (arith, w, g .ensures .fewer, p .room)) j (j .sized) refl,
     )
 
 pub read-path-spec : {M : Type 1} → statement M
@@ -170,8 +203,11 @@ read-path-spec =
     load-requires
     add-join-reading
     join-reading-requires
+    undo-requires
+    same-length
     returns
     add-i
     loop-less
     loop-again
+    same-length-2
     returns-2)

@@ -4,7 +4,7 @@ use mathlib.Core.List.{_++_}
 use Prim.Native.Nat.{_+_, _*_, _-_, _≤_}
 use lib.ListN.{length, take, drop, length-set}
 use Rattle.slot_spec.specs.Slot.{allZero, slotBytes}
-use Rattle.word_round_laws.specs.Words.{pathSlots}
+use Rattle.word_round_laws.specs.SlotRow.{pathSlots}
 use Rattle.word_round_laws.specs.Gather.{fourFrom, fullStarts}
 use Rattle.word_round_laws.specs.GatherLaws.{full-one, gather-four, gather-four-end}
 use borrow.Author.Needs.{needs}

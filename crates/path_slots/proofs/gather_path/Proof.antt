@@ -4,7 +4,7 @@ use mathlib.Core.List.{_++_}
 use Prim.Native.Nat.{_+_, _*_, _-_, _≤_}
 use lib.ListN.{length, take, drop}
 use Rattle.slot_spec.specs.Tree.{path}
-use Rattle.word_round_laws.specs.Words.{pathSlots}
+use Rattle.word_round_laws.specs.SlotRow.{pathSlots}
 use Rattle.word_round_laws.specs.Gather.{slotStarts, fullStarts}
 use Rattle.word_round_laws.specs.GatherLaws.{gather-level, gather-end}
 use borrow.Author.Needs.{needs}

@@ -2,13 +2,13 @@
 use mathlib.Core.Path.{_≡_}
 use Prim.Native.Nat.{_≤_, _-_}
 use lib.ListN.{length}
-use Rattle.word_round_laws.specs.Words.{places, wordCount}
+use Rattle.word_round_laws.specs.SlotRow.{places, rowLength}
 use borrow.Author.Needs.{needs}
 use Rattle.rounds_main.proofs.print_waiting.Statement.{statement}
 use Rattle.rounds_main.proofs.print_waiting.Tie as tie
 
 abbrev Inv-loop : tie.InvT-loop
-Inv-loop w n i₀ i = (i ≤ n) × (n ≤ places) × (length w ≡ wordCount)
+Inv-loop w n i₀ i = (i ≤ n) × (n ≤ places) × (length w ≡ rowLength)
 
 abbrev μ-loop : tie.MeasureT-loop
 μ-loop w n i₀ i = n - i

@@ -2,6 +2,7 @@
 use mathlib.Core.Path.{_≡_, _∙_}
 use Prim.Native.Nat.{_+_, _≤_, _-_}
 use lib.ListN.{length}
+use Rattle.word_round_laws.specs.SlotRow.{pathSlots}
 use Rattle.test_rounds.specs.Single.{Resting}
 use borrow.Author.Needs.{needs}
 use native.Mathlib.Omega.{arith}
@@ -9,10 +10,22 @@ use Rattle.rounds_main.proofs.run.Statement.{statement}
 use Rattle.rounds_main.proofs.run.Tie as tie
 
 abbrev Inv-loop : tie.InvT-loop
-Inv-loop script w₀ s₀ tree₀ n₀ i₀ w s tree n i = (i ≤ length script + 1) × (length script ≤ 1000) × Resting 2 n w s tree × (length tree ≡ length tree₀)
+Inv-loop script w₀ tree₀ from₀ n₀ i₀ w tree from n i =
+    (i ≤ length script + 1) × (length script ≤ 1000) × Resting 2 n w tree × (length from ≡ pathSlots) × (length w ≡ length w₀) × (length tree ≡ length tree₀)
 
 abbrev μ-loop : tie.MeasureT-loop
-μ-loop script w₀ s₀ tree₀ n₀ i₀ w s tree n i = length script + 1 - i
+μ-loop script w₀ tree₀ from₀ n₀ i₀ w tree from n i = length script + 1 - i
+
+-- ---- a turn: its step was made
+module _ (c : tie.After-struct-known Inv-loop μ-loop) where
+  abbrev stepped : tie.After-step Inv-loop μ-loop
+  stepped = c .before .before .before .before .before
+
+  abbrev turn : tie.In-loop Inv-loop μ-loop
+  turn = stepped .before .before .before .before .before .before .before .before .before .before .before .before
+
+  abbrev head : tie.At-loop Inv-loop μ-loop
+  head = turn .before
 
 loop-holds : tie.Need-loop-holds Inv-loop μ-loop
 loop-holds c = search needs
@@ -60,33 +73,43 @@ say-stopped-requires : tie.Need-say-stopped-requires Inv-loop μ-loop
 say-stopped-requires c κs = search needs
 
 same-length : tie.Need-same-length Inv-loop μ-loop
-same-length c = c .before .before .before .before .tree .given ∙ c .before .before .before .before .before .before .before .before .before .before .before .before .before .before .before .before .before .before .loop .inv .3
+same-length c = let t = c .before .before in t .before .before .before .before .w .given ∙ head t .loop .inv .4
+
+same-length-2 : tie.Need-same-length-2 Inv-loop μ-loop
+same-length-2 c = let t = c .before .before in t .before .before .tree .given ∙ head t .loop .inv .5
 
 returns : tie.Need-returns Inv-loop μ-loop
 returns c = search needs
 
 print-store-requires : tie.Need-print-store-requires Inv-loop μ-loop
 print-store-requires c κs =
-    let rest = c .before .before .before .before .before .before .step .ensures .rests (c .before .before .if1 .left) in
+    let rest = stepped (c .before .before .before) .step .ensures .0 .rests (c .before .before .if1 .left) in
     (rest .waits .sized, omega (arith, rest .waits .few), rest .tree-sized)
 
 add-i : tie.Need-add-i Inv-loop μ-loop
-add-i c = omega (arith, c .before .before .before .before .before .before .before .before .before .before .before .before .before .before .before .before .before .before .before .loop-test .taken, c .before .before .before .before .before .before .before .before .before .before .before .before .before .before .before .before .before .before .before .before .loop .inv .1)
+add-i c = let t = c .before .before .before .before in omega (arith, turn t .loop-test .taken, head t .loop .inv .1)
 
 loop-less : tie.Need-loop-less Inv-loop μ-loop
-loop-less c = omega (arith, c .before .before .before .before .before .before .before .before .before .before .before .before .before .before .before .before .before .before .before .loop-test .taken)
+loop-less c = omega (arith, turn (c .before .before .before .before) .loop-test .taken)
 
 loop-again : tie.Need-loop-again Inv-loop μ-loop
 loop-again c =
-    let loop = c .before .before .before .before .before .before .before .before .before .before .before .before .before .before .before .before .before .before .before .before .loop in (
-      omega (arith, c .before .before .before .before .before .before .before .before .before .before .before .before .before .before .before .before .before .before .before .loop-test .taken),
+    let t = c .before .before .before .before in
+    let loop = head t .loop in
+    let step = stepped t .step in (
+      omega (arith, turn t .loop-test .taken),
       loop .inv .1,
-      c .before .before .before .before .before .before .before .step .ensures .rests (c .before .before .before .if1 .left),
-      c .before .before .before .before .before .before .tree .given ∙ loop .inv .3,
+      step .ensures .0 .rests (c .before .before .before .if1 .left),
+      step .ensures .1,
+      t .before .before .before .before .w .given ∙ loop .inv .4,
+      t .before .before .tree .given ∙ loop .inv .5,
     )
 
-same-length-2 : tie.Need-same-length-2 Inv-loop μ-loop
-same-length-2 c = search needs
+same-length-3 : tie.Need-same-length-3 Inv-loop μ-loop
+same-length-3 c = search needs
+
+same-length-4 : tie.Need-same-length-4 Inv-loop μ-loop
+same-length-4 c = search needs
 
 returns-2 : tie.Need-returns-2 Inv-loop μ-loop
 returns-2 c = search needs
@@ -113,10 +136,12 @@ run-spec =
     step-requires
     say-stopped-requires
     same-length
+    same-length-2
     returns
     print-store-requires
     add-i
     loop-less
     loop-again
-    same-length-2
+    same-length-3
+    same-length-4
     returns-2)

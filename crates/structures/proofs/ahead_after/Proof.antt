@@ -13,7 +13,8 @@ use Rattle.operation_spec.specs.declared.Op.{Op}
 use Rattle.operation_spec.specs.declared.Op.the-variants.{Get, Put, Remove, Push, Pop, Add, Take, Enqueue, Dequeue}
 use Rattle.operation_spec.specs.declared.Spares.{Spares}
 use Rattle.operation_spec.specs.Method.{aheadFor}
-use Rattle.structures.specs.OperationLaws.{in-has-key, ahead-enqueue, ahead-dequeue}
+use Rattle.queue_steps.specs.QueueLaws.{in-has-key}
+use Rattle.structures.specs.OperationLaws.{ahead-enqueue, ahead-dequeue}
 use borrow.Author.Needs.{needs}
 use Rattle.structures.proofs.ahead_after.Statement.{statement}
 use Rattle.structures.proofs.ahead_after.Tie as tie

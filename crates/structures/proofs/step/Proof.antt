@@ -1,8 +1,9 @@
 use native.Mathlib.Omega.{arith}
 use Rattle.leaf_spec.specs.Convert.{toLink}
-use Rattle.node_rows.specs.Held.{heldIn, nodesOf}
-use Rattle.structures.specs.OperationLaws.{walks-of, in-has-key, program-get, program-put, program-remove, program-push, program-pop, program-add, program-take, program-enqueue, program-dequeue, outcome-by, outcome-up}
+use Rattle.node_rows.specs.Held.{heldIn}
+use Rattle.structures.specs.OperationLaws.{walks-of, program-get, program-put, program-remove, program-add, program-take, outcome-by, outcome-up}
 use borrow.Author.Needs.{needs}
+use Rattle.structures.proofs.OnlyTake.{only-take}
 use Rattle.structures.proofs.step.Statement.{statement}
 use Rattle.structures.proofs.step.Tie as tie
 
@@ -36,38 +37,11 @@ map-step-requires-3 c κs = let s = c .before .before .before .before .before in
 enum-known-op-4 : tie.Need-enum-known-op-4
 enum-known-op-4 c = search needs
 
-push-requires : tie.Need-push-requires
-push-requires c κs = c .before .before .before .before .pre .1 .0
-
-enum-told : tie.Need-enum-told
-enum-told c = search needs
-
-pop-requires : tie.Need-pop-requires
-pop-requires c κs = let s = c .before .before in (s .pre .0 .sized, omega (arith, s .pre .0 .few))
-
-enum-known-op-5 : tie.Need-enum-known-op-5
-enum-known-op-5 c = search needs
-
 add-requires : tie.Need-add-requires
 add-requires c κs = let s = c .before .before .before .before in (s .pre .0 .sized, s .pre .1 .0, omega (arith, s .pre .0 .few))
 
-enum-told-2 : tie.Need-enum-told-2
-enum-told-2 c = search needs
-
 take-requires : tie.Need-take-requires
-take-requires c κs = let s = c .before .before .before in (s .pre .0 .sized, s .pre .1 .0, omega (arith, s .pre .0 .few))
-
-enum-known-op-6 : tie.Need-enum-known-op-6
-enum-known-op-6 c = search needs
-
-enqueue-requires : tie.Need-enqueue-requires
-enqueue-requires c κs = let s = c .before .before .before .before in (s .pre .1 .0, in-has-key (c .before .before .op6 .given .1) (s .pre .1 .1))
-
-enum-told-3 : tie.Need-enum-told-3
-enum-told-3 c = search needs
-
-dequeue-requires : tie.Need-dequeue-requires
-dequeue-requires c κs = let s = c .before .before in (s .pre .0 .sized, omega (arith, s .pre .0 .few))
+take-requires c κs = let s = c .before .before in (s .pre .0 .sized, s .pre .1 .0, omega (arith, s .pre .0 .few))
 
 returns : tie.Need-returns
 returns c =
@@ -100,52 +74,17 @@ returns-4 : tie.Need-returns-4
 returns-4 c =
     let a = c .before .before .before .before .before .args in
     let h = heldIn (a .held .now) (a .count) in (
-      outcome-by (program-push (a .op) (a .spares) (a .limit) (a .entries) (toLink (a .root)) (c .before .before .before .op4 .given .1)) h (toLink (a .root)) (a .entries) (c .push .ensures .0 (nodesOf h)),
-      (omega (arith, c .push .ensures .1 .0), c .push .ensures .1 .1),
+      outcome-by (program-add (a .op) (a .spares) (a .limit) (a .entries) (toLink (a .root)) (c .before .before .before .op4 .given .1)) h (toLink (a .root)) (a .entries) (c .add .ensures .0),
+      c .add .ensures .1,
     )
 
 returns-5 : tie.Need-returns-5
 returns-5 c =
     let s = c .before .before .before in
     let a = s .args in
-    let h = heldIn (a .held .now) (a .count) in
-    let none = c .pop .ensures .1 in (
-      rw none (outcome-by (program-pop (a .op) (a .spares) (a .limit) (a .entries) (toLink (a .root)) (c .before .enum-told .given .1)) h (toLink (a .root)) (a .entries) (c .pop .ensures .0)),
-      (omega arith, s .pre .1 .0),
-    )
-
-returns-6 : tie.Need-returns-6
-returns-6 c =
-    let a = c .before .before .before .before .before .args in
     let h = heldIn (a .held .now) (a .count) in (
-      outcome-by (program-add (a .op) (a .spares) (a .limit) (a .entries) (toLink (a .root)) (c .before .before .before .op5 .given .1)) h (toLink (a .root)) (a .entries) (c .add .ensures .0),
-      c .add .ensures .1,
-    )
-
-returns-7 : tie.Need-returns-7
-returns-7 c =
-    let a = c .before .before .before .before .args in
-    let h = heldIn (a .held .now) (a .count) in (
-      outcome-by (program-take (a .op) (a .spares) (a .limit) (a .entries) (toLink (a .root)) (c .before .before .enum-told2 .given .1)) h (toLink (a .root)) (a .entries) (c .take .ensures .0),
+      outcome-by (program-take (a .op) (a .spares) (a .limit) (a .entries) (toLink (a .root)) (only-take (a .op) (c .before .before .match .keys5) (s .pre .1 .1))) h (toLink (a .root)) (a .entries) (c .take .ensures .0),
       c .take .ensures .1,
-    )
-
-returns-8 : tie.Need-returns-8
-returns-8 c =
-    let a = c .before .before .before .before .before .args in
-    let h = heldIn (a .held .now) (a .count) in (
-      outcome-by (program-enqueue (a .op) (a .spares) (a .limit) (a .entries) (toLink (a .root)) (c .before .before .before .op6 .given .1)) h (toLink (a .root)) (a .entries) (c .enqueue .ensures .0 (nodesOf h)),
-      (omega (arith, c .enqueue .ensures .1 .0), c .enqueue .ensures .1 .1),
-    )
-
-returns-9 : tie.Need-returns-9
-returns-9 c =
-    let s = c .before .before .before in
-    let a = s .args in
-    let h = heldIn (a .held .now) (a .count) in
-    let none = c .dequeue .ensures .1 in (
-      rw none (outcome-by (program-dequeue (a .op) (a .spares) (a .limit) (a .entries) (toLink (a .root)) (c .before .enum-told3 .given .1)) h (toLink (a .root)) (a .entries) (c .dequeue .ensures .0)),
-      (omega arith, s .pre .1 .0),
     )
 
 pub step-spec : {M : Type 1} → statement M
@@ -162,23 +101,10 @@ step-spec =
     remove-requires
     map-step-requires-3
     enum-known-op-4
-    push-requires
-    enum-told
-    pop-requires
-    enum-known-op-5
     add-requires
-    enum-told-2
     take-requires
-    enum-known-op-6
-    enqueue-requires
-    enum-told-3
-    dequeue-requires
     returns
     returns-2
     returns-3
     returns-4
-    returns-5
-    returns-6
-    returns-7
-    returns-8
-    returns-9)
+    returns-5)

@@ -1,8 +1,9 @@
 use native.Mathlib.Omega.{arith}
-use Rattle.leaf_spec.specs.Convert.{toLink, toAhead}
+use Rattle.leaf_spec.specs.Convert.{toLink}
 use Rattle.node_rows.specs.Held.{heldIn}
-use Rattle.structures.specs.OperationLaws.{walks-of, program-get, program-put, program-remove, program-push, program-pop, program-add, program-take, program-enqueue, program-dequeue, push-wants-none, enqueue-wants-none, wanted-by, wanted-up}
+use Rattle.structures.specs.OperationLaws.{walks-of, program-get, program-put, program-remove, program-add, program-take, wanted-by, wanted-up}
 use borrow.Author.Needs.{needs}
+use Rattle.structures.proofs.OnlyTake.{only-take}
 use Rattle.structures.proofs.wanted.Statement.{statement}
 use Rattle.structures.proofs.wanted.Tie as tie
 
@@ -13,7 +14,7 @@ get-requires : tie.Need-get-requires
 get-requires c κs = let s = c .before .before .before in (s .pre .0 .sized, walks-of (s .pre .0))
 
 map-wanted-requires : tie.Need-map-wanted-requires
-map-wanted-requires c κs = let s = c .before .before .before .before .before in (s .pre .0 .sized, s .pre .1, walks-of (s .pre .0), c .before .get .ensures .ready)
+map-wanted-requires c κs = let s = c .before .before .before .before .before in (s .pre .0 .sized, s .pre .1 .0, walks-of (s .pre .0), c .before .get .ensures .ready)
 
 enum-known-op-2 : tie.Need-enum-known-op-2
 enum-known-op-2 c = search needs
@@ -22,7 +23,7 @@ put-requires : tie.Need-put-requires
 put-requires c κs = let s = c .before .before .before in (s .pre .0 .sized, walks-of (s .pre .0))
 
 map-wanted-requires-2 : tie.Need-map-wanted-requires-2
-map-wanted-requires-2 c κs = let s = c .before .before .before .before .before in (s .pre .0 .sized, s .pre .1, walks-of (s .pre .0), c .before .put .ensures .ready)
+map-wanted-requires-2 c κs = let s = c .before .before .before .before .before in (s .pre .0 .sized, s .pre .1 .0, walks-of (s .pre .0), c .before .put .ensures .ready)
 
 enum-known-op-3 : tie.Need-enum-known-op-3
 enum-known-op-3 c = search needs
@@ -31,37 +32,16 @@ remove-requires : tie.Need-remove-requires
 remove-requires c κs = let s = c .before .before .before in (s .pre .0 .sized, walks-of (s .pre .0))
 
 map-wanted-requires-3 : tie.Need-map-wanted-requires-3
-map-wanted-requires-3 c κs = let s = c .before .before .before .before .before in (s .pre .0 .sized, s .pre .1, walks-of (s .pre .0), c .before .remove .ensures .ready)
+map-wanted-requires-3 c κs = let s = c .before .before .before .before .before in (s .pre .0 .sized, s .pre .1 .0, walks-of (s .pre .0), c .before .remove .ensures .ready)
 
 enum-told : tie.Need-enum-told
 enum-told c = search needs
 
-enum-told-2 : tie.Need-enum-told-2
-enum-told-2 c = search needs
-
-pop-wanted-requires : tie.Need-pop-wanted-requires
-pop-wanted-requires c κs = let s = c .before .before in (s .pre .0 .sized, omega (arith, s .pre .0 .few))
-
-enum-told-3 : tie.Need-enum-told-3
-enum-told-3 c = search needs
-
 add-wanted-requires : tie.Need-add-wanted-requires
 add-wanted-requires c κs = let s = c .before .before in (s .pre .0 .sized, omega (arith, s .pre .0 .few))
 
-enum-told-4 : tie.Need-enum-told-4
-enum-told-4 c = search needs
-
 take-wanted-requires : tie.Need-take-wanted-requires
-take-wanted-requires c κs = let s = c .before .before .before in (s .pre .0 .sized, s .pre .1, omega (arith, s .pre .0 .few))
-
-enum-told-5 : tie.Need-enum-told-5
-enum-told-5 c = search needs
-
-enum-told-6 : tie.Need-enum-told-6
-enum-told-6 c = search needs
-
-dequeue-wanted-requires : tie.Need-dequeue-wanted-requires
-dequeue-wanted-requires c κs = let s = c .before .before in (s .pre .0 .sized, omega (arith, s .pre .0 .few))
+take-wanted-requires c κs = let s = c .before .before in (s .pre .0 .sized, s .pre .1 .0, omega (arith, s .pre .0 .few))
 
 returns : tie.Need-returns
 returns c =
@@ -92,47 +72,17 @@ returns-3 c =
 
 returns-4 : tie.Need-returns-4
 returns-4 c =
-    let s = c .before .before in
+    let s = c .before .before .before in
     let a = s .args in
     let h = heldIn (a .held .now) (a .count) in
-    (wanted-by (program-push (a .op) (a .spares) (a .limit) (a .entries) (toLink (a .root)) (c .enum-told .given .1)) h (push-wants-none _ (a .spares .first) (a .entries) (a .limit) (toLink (a .root)) h), s .pre .1)
+    (wanted-by (program-add (a .op) (a .spares) (a .limit) (a .entries) (toLink (a .root)) (c .before .enum-told .given .1)) h (c .add-wanted .ensures _ (a .spares .first)), s .pre .1 .0)
 
 returns-5 : tie.Need-returns-5
 returns-5 c =
     let s = c .before .before .before in
     let a = s .args in
     let h = heldIn (a .held .now) (a .count) in
-    (wanted-by (program-pop (a .op) (a .spares) (a .limit) (a .entries) (toLink (a .root)) (c .before .enum-told2 .given .1)) h (c .pop-wanted .ensures), s .pre .1)
-
-returns-6 : tie.Need-returns-6
-returns-6 c =
-    let s = c .before .before .before in
-    let a = s .args in
-    let h = heldIn (a .held .now) (a .count) in
-    (wanted-by (program-add (a .op) (a .spares) (a .limit) (a .entries) (toLink (a .root)) (c .before .enum-told3 .given .1)) h (c .add-wanted .ensures _ (a .spares .first)), s .pre .1)
-
-returns-7 : tie.Need-returns-7
-returns-7 c =
-    let a = c .before .before .before .before .args in
-    let h = heldIn (a .held .now) (a .count) in
-    (wanted-by (program-take (a .op) (a .spares) (a .limit) (a .entries) (toLink (a .root)) (c .before .before .enum-told4 .given .1)) h (c .take-wanted .ensures .0), c .take-wanted .ensures .1)
-
-returns-8 : tie.Need-returns-8
-returns-8 c =
-    let s = c .before .before in
-    let a = s .args in
-    let h = heldIn (a .held .now) (a .count) in (
-      wanted-by (program-enqueue (a .op) (a .spares) (a .limit) (a .entries) (toLink (a .root)) (c .enum-told5 .given .1)) h
-          (enqueue-wants-none _ (a .spares .first) (a .spares .second) (a .entries) (a .limit) (toAhead (a .spares .ahead)) (toLink (a .root)) h),
-      s .pre .1,
-    )
-
-returns-9 : tie.Need-returns-9
-returns-9 c =
-    let s = c .before .before .before in
-    let a = s .args in
-    let h = heldIn (a .held .now) (a .count) in
-    (wanted-by (program-dequeue (a .op) (a .spares) (a .limit) (a .entries) (toLink (a .root)) (c .before .enum-told6 .given .1)) h (c .dequeue-wanted .ensures), s .pre .1)
+    (wanted-by (program-take (a .op) (a .spares) (a .limit) (a .entries) (toLink (a .root)) (only-take (a .op) (c .before .before .match .keys5) (s .pre .1 .1))) h (c .take-wanted .ensures .0), c .take-wanted .ensures .1)
 
 pub wanted-spec : {M : Type 1} → statement M
 wanted-spec =
@@ -148,21 +98,10 @@ wanted-spec =
     remove-requires
     map-wanted-requires-3
     enum-told
-    enum-told-2
-    pop-wanted-requires
-    enum-told-3
     add-wanted-requires
-    enum-told-4
     take-wanted-requires
-    enum-told-5
-    enum-told-6
-    dequeue-wanted-requires
     returns
     returns-2
     returns-3
     returns-4
-    returns-5
-    returns-6
-    returns-7
-    returns-8
-    returns-9)
+    returns-5)

@@ -10,7 +10,7 @@ no-place-requires c κs = search needs
 
 returns : tie.Need-returns
 returns c =
-    let b = c .before .before in
+    let b = c .before .before .before in
     c .no-place .ensures ∙ holds-none (b .args .n) (b .args .w .now) (b .pre .0) (b .args .i) (c .before .if1 .taken) (b .pre .1)
 
 get-requires : tie.Need-get-requires
@@ -21,7 +21,7 @@ node-of-requires c κs = search needs
 
 returns-2 : tie.Need-returns-2
 returns-2 c =
-    let b = c .before .before .before in
+    let b = c .before .before .before .before in
     let x = c .before .get in
     holds-node (b .args .n) (b .args .w .now) (b .pre .0) (b .args .i) (x .result) (c .node-of .result) (c .before .before .if1 .left) (x .ensures) (c .node-of .ensures)
 

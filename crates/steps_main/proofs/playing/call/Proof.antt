@@ -1,45 +1,34 @@
--- `steps_main::playing::call` meets its contract: nothing is known ahead, so that there is a key for any operation.
-use Prim.Native.Nat.{ℕ}
-use mathlib.Core.Path.{_≡_}
-use native.Mathlib.Omega.{arith}
-use Rattle.leaf_spec.specs.Entries.{KeyLeft}
-use Rattle.operation_spec.specs.declared.Op.{Op}
-use Rattle.operation_spec.specs.declared.Op.the-variants.{Get, Put, Remove, Push, Pop, Add, Take, Enqueue, Dequeue}
-use Rattle.operation_spec.specs.Method.{toOp}
+-- `steps_main::playing::call` meets its contract: by the structure that the operation is of.
+use mathlib.Core.Path.{sym, _∙_, ap}
 use borrow.Author.Needs.{needs}
+use Rattle.short_outcomes.specs.OneFetch.{oneFetch}
 use Rattle.steps_main.proofs.playing.call.Statement.{statement}
 use Rattle.steps_main.proofs.playing.call.Tie as tie
 
-first-key : (op : Op) (next : ℕ) → next ≡ 0 → KeyLeft (toOp op) next
-first-key (Get key) next e = tt
-first-key (Put key value) next e = tt
-first-key (Remove key) next e = tt
-first-key (Push value) next e = tt
-first-key Pop next e = tt
-first-key (Add value) next e = tt
-first-key Take next e = tt
-first-key (Enqueue value) next e = omega arith
-first-key Dequeue next e = tt
+structure-of-requires : tie.Need-structure-of-requires
+structure-of-requires c κs = search needs
 
-spares-of-requires : tie.Need-spares-of-requires
-spares-of-requires c κs = search needs
+one-fetch-requires : tie.Need-one-fetch-requires
+one-fetch-requires c κs = search needs
 
-gather-requires : tie.Need-gather-requires
-gather-requires c κs = search needs
-
-step-requires : tie.Need-step-requires
-step-requires c κs =
-    let g = c .before .before .gather .ensures in
-    let spares = c .before .before .before .before .before .spares-of in
-    let op = c .before .before .before .before .before .before .before .args .op in
-    (g .1 .0, (g .1 .1, first-key op (spares .result .ahead .key) (spares .ensures)))
-
-put-back-requires : tie.Need-put-back-requires
-put-back-requires c κs = search needs
+short-call-requires : tie.Need-short-call-requires
+short-call-requires c κs =
+    let s = c .before .before .before in
+    let one = sym (c .before .one-fetch .ensures) ∙ c .if1 .taken in
+    ((one, sym (ap oneFetch (c .before .before .structure-of .ensures)) ∙ one), s .pre .0)
 
 returns : tie.Need-returns
 returns c = search needs
 
+long-call-requires : tie.Need-long-call-requires
+long-call-requires c κs =
+    let s = c .before .before .before in
+    let more = sym (c .before .one-fetch .ensures) ∙ c .if1 .left in
+    ((more, sym (ap oneFetch (c .before .before .structure-of .ensures)) ∙ more), s .pre)
+
+returns-2 : tie.Need-returns-2
+returns-2 c = search needs
+
 pub call-spec : {M : Type 1} → statement M
 call-spec =
-    tie.close (tie.spec spares-of-requires gather-requires step-requires put-back-requires returns)
+    tie.close (tie.spec structure-of-requires one-fetch-requires short-call-requires returns long-call-requires returns-2)

@@ -26,10 +26,10 @@ use Rattle.steps_main.proofs.playing.gather.Statement.{statement}
 use Rattle.steps_main.proofs.playing.gather.Tie as tie
 
 abbrev Inv-loop : tie.InvT-loop
-Inv-loop op spares memory held₀ made₀ root structure m₀ count₀ held made m count = (m .count ≤ 16) × (LowHeld (memory .root) held count × (length made ≡ words))
+Inv-loop op structure spares memory held₀ made₀ root m₀ count₀ held made m count = (m .count ≤ 16) × (LowHeld (memory .root) held count × (length made ≡ words))
 
 abbrev μ-loop : tie.MeasureT-loop
-μ-loop op spares memory held₀ made₀ root structure m₀ count₀ held made m count = 33 - count
+μ-loop op structure spares memory held₀ made₀ root m₀ count₀ held made m count = 33 - count
 
 -- One more low node in the row.
 low-more : {root : Link} {row : List ℕ} {count : ℕ} (more : List ℕ) (n : Node) → LowHeld root row count → count < fetches
@@ -54,7 +54,7 @@ module _ (c : tie.After-without Inv-loop μ-loop) where
   looped = told .before .before .before .before .before .before
 
   abbrev start : tie.Start Inv-loop μ-loop
-  start = looped .before .before .before
+  start = looped .before .before
 
   abbrev n : Node
   n = getD (looped .loop .m .nodes) (tested .before .before .before .find .result) noNode
@@ -69,11 +69,8 @@ module _ (c : tie.After-without Inv-loop μ-loop) where
   node-low =
       let asked = sym (told .before .before .wanted .ensures .0) ∙ ap toWanted (told .next .given .1) in
       let passed = sym (tested .passes .ensures) ∙ not-false (tested .passes .result) (c .before .if2 .left) in
-      tested-low (structureOf (looped .before .structure-of .result)) (start .args .memory .entries) (toWant (told .next .given .0 .0)) (toNode n) 100 passed (omega arith)
+      tested-low (structureOf (start .args .structure)) (start .args .memory .entries) (toWant (told .next .given .0 .0)) (toNode n) 100 passed (omega arith)
       (wanted-low (toOp (start .args .op)) (sparesIn (start .args .spares)) 15 (start .args .memory .entries) (toAhead (start .args .spares .ahead)) (toLink (start .args .memory .root)) (nodesOf (heldIn (looped .loop .held) (looped .loop .count))) 100 (omega arith) (low .root-low) (low .low) asked)
-
-structure-of-requires : tie.Need-structure-of-requires Inv-loop μ-loop
-structure-of-requires c κs = search needs
 
 loop-holds : tie.Need-loop-holds Inv-loop μ-loop
 loop-holds c = search needs
@@ -135,7 +132,6 @@ gather-spec =
     (tie.spec
     Inv-loop
     μ-loop
-    structure-of-requires
     loop-holds
     wanted-requires
     enum-known-next

@@ -1,4 +1,6 @@
 // The numbers that the lines of calls show.
+#![tactic(auto)]
+
 ghost use Rattle.std.specs.Prelude.{◌≡◌};
 ghost use Rattle.walk_spec.specs.Lines.{reply_shown};
 

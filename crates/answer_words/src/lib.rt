@@ -1,4 +1,6 @@
 // The words of answers and replies.
+#![tactic(auto)]
+
 ghost use Rattle.std.specs.Prelude.{◌≤◌, length};
 ghost use Rattle.walk_spec.specs.Lines.{reply_word, Put};
 

@@ -1,1 +1,2 @@
 // Balanced search trees and the map of the method over them; no code.
+#![tactic(auto)]

@@ -1,6 +1,8 @@
 // What the benchmark times: reads an input in the walk program's format, makes the calls and prints one number, a checksum of
 // the replies, the leaves and the peaks that bench/README.md defines. An input that a good opening does not start, or that ends within a
 // call, gets a message on the standard error instead.
+#![tactic(auto)]
+
 ghost use Rattle.std.specs.Prelude.{◌≤◌, length};
 ghost use Rattle.state_spec.specs.Fit.{largest_size};
 

@@ -2,6 +2,8 @@
 // tests/README.md says. Its store is read out so many times. Printed is the file's length plus the sum of its bytes after the
 // last time, 0 if there was none. An input that does not hold both whole, or whose record is too long, gets a message on the
 // standard error instead.
+#![tactic(auto)]
+
 ghost use Rattle.std.specs.Prelude.{◌*◌, ◌≤◌, ◌<◌, length};
 ghost use Rattle.io.specs.Counts.{IsPrefixLen};
 ghost use Rattle.store_records.specs.Records.{most_bytes};

@@ -1,6 +1,8 @@
 // Rounds over a tree of size 8 with 255 nodes, as many as the first argument says: each takes a node out by a round of its leaf,
 // and then it waits again under a new pseudo-random tag. Prints checksums of the leaves, the waiting nodes and the tree.
 // bench/rounds.c does the same in C.
+#![tactic(auto)]
+
 ghost use Rattle.std.specs.Prelude.{◌≡◌, false, ◌≤◌, ◌<◌, length};
 ghost use Rattle.word_round_laws.specs.SlotRow.{places, row_length, path_slots};
 ghost use Rattle.test_rounds.specs.Single.{Resting, Rests};

@@ -1,1 +1,2 @@
 // One call over a bucket tree: definitions.
+#![tactic(auto)]

@@ -1,4 +1,6 @@
 // A store's state as lent bytes: its head, and the slots of its waiting places.
+#![tactic(auto)]
+
 ghost use Rattle.std.specs.Prelude.{◌≡◌, true, ◌++◌, ◌≤◌, length, drop};
 ghost use Rattle.lent_bytes_spec.specs.StateBytes.{head_length, head_in, head_bytes, next_key, root_in, ahead_in, key_fits};
 ghost use Rattle.byte_states.specs.Refusal.{bytes_refusal};

@@ -1,4 +1,6 @@
 // Calls on a store whose state is a struct: the state's checks, the core over a row of waiting slots, and what is left.
+#![tactic(auto)]
+
 ghost use Rattle.std.specs.Prelude.{◌≡◌};
 ghost use Rattle.call_spec.specs.Store.{called, call_ended_as};
 

@@ -1,5 +1,7 @@
 // The core of a call, over a lent row: the checks that come after the state's, the rounds and the step, and what is left. What holds the
 // state, a struct or bytes, stands above it.
+#![tactic(auto)]
+
 ghost use Rattle.std.specs.Prelude.{◌≡◌, false};
 ghost use Rattle.state_spec.specs.Fetching.{rounds_of, draws_of};
 ghost use Rattle.call_spec.specs.declared.Reply.TheVariants.{Refused};

@@ -1,4 +1,6 @@
 // How many rounds and draws a call has.
+#![tactic(auto)]
+
 ghost use Rattle.std.specs.Prelude.{◌≡◌, ◌≤◌};
 ghost use Rattle.state_spec.specs.Fit.{largest_size};
 ghost use Rattle.state_spec.specs.Fetching.{rounds_of, spare_of, draws_of, most_rounds, most_spare, most_draws};

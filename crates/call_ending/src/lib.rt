@@ -1,4 +1,6 @@
 // What a call leaves after its fetch rounds: the store closed, or the step made and the put rounds run.
+#![tactic(auto)]
+
 ghost use Rattle.std.specs.Prelude.{◌≡◌, true, false, ◌≤◌, length};
 ghost use Rattle.bucket_call_spec.specs.Call.{draw_of};
 ghost use Rattle.leaf_spec.specs.Entries.{KeyLeft};

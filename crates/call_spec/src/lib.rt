@@ -1,4 +1,6 @@
 // Calls of the oblivious settings store, with all their checks: definitions.
+#![tactic(auto)]
+
 use operation_spec::Answer;
 use state_spec::State;
 

@@ -1,4 +1,6 @@
 // Checksums that the test programs print, and the pseudo-random numbers of a benchmark.
+#![tactic(auto)]
+
 ghost use Rattle.std.specs.Prelude.{◌≡◌};
 ghost use Rattle.checksums.specs.Xorshift.{xorshifted, joined};
 

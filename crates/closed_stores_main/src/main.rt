@@ -1,6 +1,8 @@
 // Reads closed stores out. The standard input has records, one after the other, as tests/README.md says. For each its number,
 // its file's length and its whole output buffer go to the standard output. An input that ends within a record ends the program,
 // and so does a record that is too long, with a message on the standard error.
+#![tactic(auto)]
+
 ghost use Rattle.std.specs.Prelude.{◌≡◌, ◌≤◌, length};
 ghost use Rattle.store_records.specs.Records.{most_bytes};
 

@@ -1,6 +1,8 @@
 // Calls on trees that are damaged between them, for tests: reads what the walk program reads, with five bytes more after each call's
 // tape, a place of four and an amount. Before the call the tree's byte at that place, modulo the tree's length, grows by the amount,
 // modulo 256. Prints the walk program's line for each call, and then that of the program `peaks`.
+#![tactic(auto)]
+
 ghost use Rattle.std.specs.Prelude.{◌≡◌, ◌≤◌, ◌<◌, length};
 ghost use Rattle.state_spec.specs.Fit.{largest_size};
 ghost use Rattle.walk_spec.specs.Input.{record_length};

@@ -1,1 +1,2 @@
 // The three demands, proved; no code.
+#![tactic(auto)]

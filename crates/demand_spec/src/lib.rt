@@ -1,1 +1,2 @@
 // The three demands, as statements about opening and calls.
+#![tactic(auto)]

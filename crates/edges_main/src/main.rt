@@ -1,5 +1,7 @@
 // What the walk program cannot reach: buffers of other lengths, states and trees that no call leaves, and openings on trees of
 // another length. A line of the input is a case, as rows.rt says; prints what each is answered, which document 01 says.
+#![tactic(auto)]
+
 mod calls;
 mod cases;
 mod lines;

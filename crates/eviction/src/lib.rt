@@ -1,5 +1,7 @@
 // The write half of a round: the path's buckets are filled from the leaf up, and what is left waits. One pass over the slots does
 // it: in key order, each goes to the lowest bucket of the path that its own path passes and that has room.
+#![tactic(auto)]
+
 ghost use Rattle.std.specs.Prelude.{◌≡◌, ◌+◌, ◌*◌, ◌^◌, ◌<◌, ◌≤◌, length, take};
 ghost use Rattle.std.proofs.lemmas.List.Edits.{sets};
 ghost use Rattle.slot_spec.specs.Tree.{path_bucket, bucket_start, tree_length};

@@ -1,4 +1,6 @@
 // All fetch rounds of a call: those that want a node, then those that are left; of a stack and a queue the one.
+#![tactic(auto)]
+
 ghost use Rattle.bucket_call_spec.specs.Call.{draw_of};
 ghost use Rattle.node_rows.specs.Held.{held_in};
 ghost use Rattle.want_rounds.specs.Wanting.{CanFetch, RowsSized, Fetches};

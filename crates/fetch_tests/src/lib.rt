@@ -1,4 +1,6 @@
 // What a fetched node of a map or a heap is asked.
+#![tactic(auto)]
+
 ghost use Rattle.std.specs.Prelude.{◌≡◌, false};
 ghost use Rattle.method_spec.specs.Call.{test};
 ghost use Rattle.leaf_spec.specs.Convert.{to_node};

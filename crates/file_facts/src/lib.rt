@@ -1,4 +1,6 @@
 // What the system knows of the file that a name leads to: which one it is, and its mode.
+#![tactic(auto)]
+
 ghost use Rattle.std.specs.Prelude.{◌≡◌, ◌<◌, length};
 ghost use Rattle.libc.specs.Io.{Ended};
 ghost use Rattle.file_facts.specs.Modes.{there, regular, same_file, permission_bits};

@@ -1,4 +1,6 @@
 // Whether the head of a state fits: each cause of document 01's list but those of its places.
+#![tactic(auto)]
+
 ghost use Rattle.std.specs.Prelude.{◌≡◌, ◌&&◌, ◌≤◌, ◌^◌, ltb};
 ghost use Rattle.state_spec.specs.Fit.{zero_link, root_good, ahead_good, in_range, head_fits};
 ghost use Rattle.fitness.specs.Refusal.{head_refusal};

@@ -1,4 +1,6 @@
 // The children of a node from which a number sinks, and the smaller one of them.
+#![tactic(auto)]
+
 ghost use Rattle.std.specs.Prelude.{◌≡◌, Bool, List, ◌+◌, ◌≤◌, length};
 ghost use Rattle.list_spec.specs.Choice.{pick};
 ghost use Rattle.slot_spec.specs.Row.{nodes_from};

@@ -1,1 +1,2 @@
 // Heaps: complete ordered trees of numbers, and the heap of the method over them; no code.
+#![tactic(auto)]

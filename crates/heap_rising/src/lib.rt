@@ -1,4 +1,6 @@
 // A number that rises from a new position of the heap: the nodes of the way to it, from there up to the root.
+#![tactic(auto)]
+
 ghost use Rattle.std.specs.Prelude.{◌≡◌, ℕ, length};
 ghost use Rattle.method_spec.specs.Heap.{way_to};
 ghost use Rattle.leaf_spec.specs.Convert.{to_node};

@@ -1,4 +1,6 @@
 // A number sinks from the root of the heap. The nodes that are done with go into the first places of a lent row.
+#![tactic(auto)]
+
 ghost use Rattle.std.specs.Prelude.{◌≡◌, Bool, List, ◌+◌, ◌≤◌, ◌<◌, length};
 ghost use Rattle.slot_spec.specs.Row.{nodes_from};
 ghost use Rattle.method_spec.specs.Heap.{way_to};

@@ -1,5 +1,7 @@
 // Nodes at hand, by their places in the row of fetched ones. A node of the way has its link to the next one, and none at the way's
 // end, whose node has left; another node is as it was fetched.
+#![tactic(auto)]
+
 ghost use Rattle.std.specs.Prelude.{◌≡◌, ◌∷◌, ◌++◌, ◌+◌, ◌≤◌, ◌<◌, length};
 ghost use Rattle.slot_spec.specs.Row.{nodes_from};
 ghost use Rattle.method_spec.specs.Heap.{way_to, passed};

@@ -1,4 +1,6 @@
 // The heap over the nodes that a call has fetched so far: which node is wanted next, and the step.
+#![tactic(auto)]
+
 ghost use Rattle.std.specs.Prelude.{◌≡◌, ℕ, ◌≤◌, length};
 ghost use Rattle.method_spec.specs.Heap.{add_prog, take_prog};
 ghost use Rattle.leaf_spec.specs.Convert.{to_link};

@@ -1,5 +1,7 @@
 // Balanced binary trees by their numbers: the greatest height for a store's size, and the heights that a number of
 // entries allows.
+#![tactic(auto)]
+
 ghost use Rattle.std.specs.Prelude.{◌≡◌, ◌≤◌};
 ghost use Rattle.balance_spec.specs.Shape.{shaped};
 ghost use Rattle.balance_spec.specs.Greatest.{greatest};

@@ -1,4 +1,6 @@
 // The keys of the nodes that a call holds: the first of an array.
+#![tactic(auto)]
+
 ghost use Rattle.std.specs.Prelude.{◌≡◌, ◌≤◌, length, take};
 ghost use Rattle.slot_spec.specs.Tree.{among};
 ghost use Rattle.held_keys.specs.Held.{most_held};

@@ -1,4 +1,6 @@
 // A call over the bytes that a C host lends: tape and trace around the core, and the state that is left.
+#![tactic(auto)]
+
 ghost use Rattle.std.specs.Prelude.{◌≡◌, true, min, ◌≤◌, length, drop};
 ghost use Rattle.list_spec.specs.Choice.{pick};
 ghost use Rattle.state_spec.specs.Fit.{places};

@@ -1,1 +1,2 @@
 // Calls from a C host mean what the existing ones mean: laws; no code.
+#![tactic(auto)]

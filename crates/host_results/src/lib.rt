@@ -1,4 +1,6 @@
 // What a C host gets of a call beside the store: the number, and the 12 result bytes.
+#![tactic(auto)]
+
 ghost use Rattle.std.specs.Prelude.{◌≡◌, eqb, length};
 ghost use Rattle.list_spec.specs.Choice.{pick};
 ghost use Rattle.host_spec.specs.Result.{reply_number, reply_value, result_length, result_bytes};

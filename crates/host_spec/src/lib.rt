@@ -1,4 +1,5 @@
 // What a C host calls: definitions.
+#![tactic(auto)]
 
 // The result bytes of a call, and where the value starts among them.
 pub const RESULT_LENGTH: usize = 12;

@@ -1,4 +1,6 @@
 // The calls of the walk program's input: each is read and made.
+#![tactic(auto)]
+
 ghost use Rattle.std.specs.Prelude.{◌≡◌, ◌*◌, ◌≤◌, length, take, replicate};
 ghost use Rattle.state_spec.specs.Fetching.{rounds_of};
 ghost use Rattle.state_spec.specs.Fit.{largest_size};

@@ -1,5 +1,7 @@
 // The opening that an input in the walk program's format asks for, and what each program that reads one prints where there is no
 // store to go on with.
+#![tactic(auto)]
+
 ghost use Rattle.std.specs.Prelude.{◌≡◌, ◌≤◌, length};
 ghost use Rattle.state_spec.specs.Fit.{largest_size};
 ghost use Rattle.walk_spec.specs.Input.{largest_tree};

@@ -1,1 +1,2 @@
 // The nodes of the method at leaf tags, and the structs that hold them: definitions.
+#![tactic(auto)]

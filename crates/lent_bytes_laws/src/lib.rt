@@ -1,1 +1,2 @@
 // Laws of what a C host lends as bytes.
+#![tactic(auto)]

@@ -1,4 +1,6 @@
 // What a C host lends as bytes: a store's state, tapes and traces. Definitions.
+#![tactic(auto)]
+
 use slot_spec::SLOT_LENGTH;
 use state_spec::PLACES;
 

@@ -1,4 +1,6 @@
 // Numbers of tapes and traces in lent bytes, two bytes each.
+#![tactic(auto)]
+
 ghost use Rattle.std.specs.Prelude.{◌≡◌, ◌*◌, ◌≤◌, length};
 ghost use Rattle.std.proofs.lemmas.List.Edits.{sets};
 ghost use Rattle.lent_bytes_spec.specs.Numbers.{number_length, numbers_in, numbers_bytes};

@@ -1,1 +1,2 @@
 // Laws of permutations, of lists with no element twice, of choices, of sorting and of merging; no code.
+#![tactic(auto)]

@@ -1,1 +1,2 @@
 // Choices, permutations, lists with no element twice, ascending numbers, sorting: definitions.
+#![tactic(auto)]

@@ -1,4 +1,6 @@
 // The way up from the place of a change to the root. Nodes that are done with go into the first places of a lent row.
+#![tactic(auto)]
+
 ghost use Rattle.std.specs.Prelude.{◌≡◌, ◌++◌, ◌+◌, ◌≤◌, length};
 ghost use Rattle.method_spec.specs.Map.{listed};
 ghost use Rattle.node_rows.specs.Row.{places, words};

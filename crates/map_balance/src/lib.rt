@@ -1,4 +1,6 @@
 // A node's balance, and what it decides.
+#![tactic(auto)]
+
 ghost use Rattle.std.specs.Prelude.{◌≡◌};
 ghost use Rattle.method_spec.specs.Map.{balance_of, balance_from, tall, leans_out};
 ghost use Rattle.leaf_spec.specs.Convert.{to_node};

@@ -1,4 +1,6 @@
 // Where an operation of the map changes it, and what it changes: the subtree there, and the answer.
+#![tactic(auto)]
+
 ghost use Rattle.std.specs.Prelude.{◌≡◌, true, false, ◌+◌, ◌<◌, length};
 ghost use Rattle.node_rows.specs.Row.{words, fetches};
 ghost use Rattle.node_rows.specs.Held.{held_in, HeldFrom};

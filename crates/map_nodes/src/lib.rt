@@ -1,4 +1,6 @@
 // Nodes of the map: their sides, the steps of a walk over them, subtrees as they are at hand, and the fetch test.
+#![tactic(auto)]
+
 use operation_spec::Bound;
 use slot_spec::{Link, Node};
 

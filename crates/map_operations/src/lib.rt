@@ -1,4 +1,6 @@
 // The walk of each of the map's operations down to where its change stands.
+#![tactic(auto)]
+
 ghost use Rattle.std.specs.Prelude.{◌≡◌, length};
 ghost use Rattle.method_spec.specs.Map.{get_prog, put_prog, remove_prog};
 ghost use Rattle.leaf_spec.specs.Convert.{to_link};

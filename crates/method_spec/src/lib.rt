@@ -1,1 +1,2 @@
 // The method without buckets or bytes: definitions.
+#![tactic(auto)]

@@ -1,6 +1,8 @@
 // A file under a name, for a program: the bytes go to a temporary file beside it, which takes the name once they have reached the
 // device. So the name is never that of a part of the file. Whatever fails is said on the standard error, after the program's own
 // name, before anything else is called that could change its cause.
+#![tactic(auto)]
+
 ghost use Rattle.std.specs.Prelude.{◌++◌, ◌+◌, ◌≤◌, length};
 ghost use Rattle.io.specs.Counts.{IsPrefixLen};
 ghost use Rattle.walk_spec.specs.Lines.{Put};

@@ -1,5 +1,7 @@
 // For the length of a call the nodes that it has fetched, and those that its step makes, stand in rows of lent words, a slot's
 // words to a node; a second row says where the link to each fetched node stood.
+#![tactic(auto)]
+
 ghost use Rattle.std.specs.Prelude.{◌≡◌, ◌<◌, length, get_or, set};
 ghost use Rattle.slot_spec.specs.Slot.{no_node};
 ghost use Rattle.slot_spec.specs.Row.{nodes_from};

@@ -1,4 +1,6 @@
 // One round of a call over the lent tree and the row of waiting slots: one that wants none, and one that wants a node.
+#![tactic(auto)]
+
 ghost use Rattle.std.specs.Prelude.{◌≡◌, true, false, ℕ, ◌+◌, ◌<◌, length, take};
 ghost use Rattle.list_spec.specs.Ascending.{ascending};
 ghost use Rattle.word_round_laws.specs.SlotRow.{path_slots};

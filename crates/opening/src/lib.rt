@@ -1,4 +1,6 @@
 // Opening a store.
+#![tactic(auto)]
+
 ghost use Rattle.std.specs.Prelude.{◌≡◌, ◌<◌, ◌%◌, ◌^◌, length, replicate};
 ghost use Rattle.slot_spec.specs.Tree.{bucket_length};
 ghost use Rattle.state_spec.specs.Opening.{empty, opened};

@@ -1,4 +1,6 @@
 // What a ticket asks, what is answered, and what an operation wants on its way: the words that the structures share.
+#![tactic(auto)]
+
 use slot_spec::{Ahead, Link};
 
 // What a ticket asks.

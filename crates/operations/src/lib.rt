@@ -1,4 +1,6 @@
 // What the operations of the structures share.
+#![tactic(auto)]
+
 ghost use Rattle.std.specs.Prelude.{◌≡◌, pred};
 ghost use Rattle.method_spec.specs.Prog as prog;
 ghost use Rattle.leaf_spec.specs.Convert.{to_link};

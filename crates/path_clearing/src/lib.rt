@@ -1,4 +1,6 @@
 // The path of a leaf cleared: only the slots that were full are written.
+#![tactic(auto)]
+
 ghost use Rattle.std.specs.Prelude.{◌≡◌, ◌+◌, ◌%◌, ◌^◌, ◌<◌, ◌≤◌, length};
 ghost use Rattle.std.proofs.lemmas.List.Edits.{sets};
 ghost use Rattle.slot_spec.specs.Tree.{path, slot_length, tree_length};

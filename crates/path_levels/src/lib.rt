@@ -1,4 +1,6 @@
 // The path of a leaf, level by level: where its buckets start, and from where on it is that of another leaf.
+#![tactic(auto)]
+
 ghost use Rattle.std.specs.Prelude.{◌≡◌, ◌+◌, ◌^◌, ◌<◌, ◌≤◌};
 ghost use Rattle.slot_spec.specs.Tree.{path_bucket, bucket_start, bucket_length, tree_length};
 ghost use Rattle.word_round_laws.specs.SlotRow.{levels};

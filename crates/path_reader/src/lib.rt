@@ -1,5 +1,7 @@
 // The read half of a round: the path's nodes join those waiting, in place, and the wanted one is found. Nothing of the tree is
 // written, and with damage the joined ones are taken out again, so that it leaves all as it was.
+#![tactic(auto)]
+
 ghost use Rattle.std.specs.Prelude.{◌≡◌, true, false, [], ◌∷◌, ◌+◌, ◌<◌, ◌≤◌, length, take};
 ghost use Rattle.slot_spec.specs.Tree.{path};
 ghost use Rattle.slot_spec.specs.Slot.{slot_bytes};

@@ -1,4 +1,6 @@
 // Room on a path: the first level whose bucket has a slot left.
+#![tactic(auto)]
+
 ghost use Rattle.std.specs.Prelude.{◌≡◌, ◌+◌, ◌<◌, ◌≤◌, length, take};
 ghost use Rattle.word_round_laws.specs.SlotRow.{levels};
 ghost use Rattle.word_round_laws.specs.Fill.{room_from};

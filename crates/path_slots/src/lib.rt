@@ -1,4 +1,6 @@
 // Where the full slots of a path start in the tree.
+#![tactic(auto)]
+
 ghost use Rattle.std.specs.Prelude.{◌≡◌, ◌++◌, ◌+◌, ◌^◌, ◌<◌, ◌≤◌, length, take};
 ghost use Rattle.list_spec.specs.Choice.{pick};
 ghost use Rattle.slot_spec.specs.Tree.{bucket_length, tree_length};

@@ -1,5 +1,7 @@
 // The buckets of every path of sizes 1 to 15, and which buckets the paths pass. Prints for each size a checksum of the numbers, leaf
 // by leaf and from the leaf up, and one of the tests, which tests/compare compares.
+#![tactic(auto)]
+
 ghost use Rattle.std.specs.Prelude.{◌^◌, ◌<◌, ◌≤◌};
 
 use checksums::join;

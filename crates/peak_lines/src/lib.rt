@@ -1,4 +1,6 @@
 // The line that the program `peaks` prints for a call. It returns the line's length.
+#![tactic(auto)]
+
 ghost use Rattle.std.specs.Prelude.{◌≡◌, ◌++◌, ◌+◌, ◌≤◌, length, drop};
 ghost use Rattle.io.specs.Counts.{IsPrefixLen};
 ghost use Rattle.walk_spec.specs.Lines.{longest_line, Put};

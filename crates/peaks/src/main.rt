@@ -1,5 +1,7 @@
 // The peaks program, for people: reads what the walk program reads, makes the calls, and prints for each how many nodes at most
 // waited and were held at the close of one of its rounds, the largest such number so far, and the limit beyond which a store overflows.
+#![tactic(auto)]
+
 ghost use Rattle.std.specs.Prelude.{◌≡◌, ◌≤◌};
 ghost use Rattle.state_spec.specs.Fit.{largest_size};
 

@@ -1,4 +1,6 @@
 // The put rounds of a call: they want none, and nothing is held.
+#![tactic(auto)]
+
 ghost use Rattle.std.specs.Prelude.{◌+◌, ◌*◌, ◌≤◌, length};
 ghost use Rattle.bucket_call_spec.specs.Call.{draw_of};
 ghost use Rattle.one_round.specs.OneRound.{Lent};

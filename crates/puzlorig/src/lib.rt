@@ -1,4 +1,5 @@
 // The entries for C hosts: include/puzlorig.h says what each takes, returns and leaves.
+#![tactic(auto)]
 
 pub mod calls;
 pub mod lengths;

@@ -1,5 +1,7 @@
 // The queue's operations as functions of the one node that a call fetches: whether it is wanted, the step, what is known ahead after it,
 // and the fetch test.
+#![tactic(auto)]
+
 ghost use Rattle.std.specs.Prelude.{◌≡◌, [], ◌∷◌, suc, ◌<◌, ◌^◌, eqb};
 ghost use Rattle.list_spec.specs.Choice.{pick};
 ghost use Rattle.method_spec.specs.Node as method;

@@ -1,6 +1,8 @@
 // The readout program: reads what the walk program reads, makes the calls, and reads the store out as soon as a call has closed
 // it. The file goes to the standard output or, with one argument, to a new file of that name. Where there is no file the
 // standard error says why.
+#![tactic(auto)]
+
 mod input;
 mod messages;
 mod new_file;

@@ -1,4 +1,6 @@
 // Reading out, over a tree's bytes and the slots of waiting nodes: the items and their marks, those that are taken, the file.
+#![tactic(auto)]
+
 ghost use Rattle.std.specs.Prelude.{◌≡◌, ◌+◌, ◌*◌, ◌≤◌, length};
 ghost use Rattle.std.proofs.lemmas.List.Edits.{sets};
 ghost use Rattle.slot_spec.specs.Tree.{slot_length};

@@ -1,4 +1,6 @@
 // What a read-out answers, as two numbers, for programs.
+#![tactic(auto)]
+
 ghost use Rattle.std.specs.Prelude.{◌≡◌};
 ghost use Rattle.io.specs.Counts.{IsPrefixLen};
 ghost use Rattle.readout_spec.specs.ReadOut.{read_out, read_out_number, length_of};

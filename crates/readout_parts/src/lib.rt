@@ -1,4 +1,6 @@
 // The parts of the file that a closed store is read out to, each written into a part of the output buffer that has just its length.
+#![tactic(auto)]
+
 ghost use Rattle.std.specs.Prelude.{◌≡◌, ◌++◌, map, ◌-◌, ◌*◌, ◌≤◌, length};
 ghost use Rattle.slot_spec.specs.LittleEndian.{bytes};
 ghost use Rattle.slot_spec.specs.Slot.{slot_bytes};

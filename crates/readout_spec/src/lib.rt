@@ -1,4 +1,6 @@
 // Reading out a closed store (document 02, change 3): definitions.
+#![tactic(auto)]
+
 use state_spec::PLACES;
 
 // The most slots and waiting places that a store has: those of the largest tree, of size 8, and of a state.

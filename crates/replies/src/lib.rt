@@ -1,4 +1,6 @@
 // What a call replies.
+#![tactic(auto)]
+
 ghost use Rattle.std.specs.Prelude.{◌≡◌};
 ghost use Rattle.operation_spec.specs.Method.{to_step_answer};
 ghost use Rattle.call_spec.specs.Store.{reply_of};

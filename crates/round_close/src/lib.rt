@@ -1,4 +1,6 @@
 // The close of a round: how many nodes wait and are held then, and how many may.
+#![tactic(auto)]
+
 ghost use Rattle.std.specs.Prelude.{◌≡◌, max, ◌+◌, ◌^◌, ◌<◌};
 ghost use Rattle.list_spec.specs.Choice.{pick};
 ghost use Rattle.round_spec.specs.Round.{exceeds_limit};

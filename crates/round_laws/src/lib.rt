@@ -1,1 +1,2 @@
 // What every round keeps; no code.
+#![tactic(auto)]

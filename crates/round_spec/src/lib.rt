@@ -1,1 +1,2 @@
 // One round over a tree and the waiting nodes: definitions.
+#![tactic(auto)]

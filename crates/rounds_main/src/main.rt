@@ -3,6 +3,8 @@
 //
 // A step is four characters, a kind, a key, a tag and a leaf, and then a blank. n: a new node waits. r: a round of the leaf, which
 // wants none. t: a round of the tag's leaf takes the node out, which waits again under the leaf as its tag. Keys above 9 are letters.
+#![tactic(auto)]
+
 ghost use Rattle.std.specs.Prelude.{◌≡◌, ◌≤◌, length};
 ghost use Rattle.slot_spec.specs.Tree.{tree_length};
 ghost use Rattle.word_round_laws.specs.SlotRow.{places, row_length, path_slots};

@@ -1,4 +1,6 @@
 // The outcome of a step that makes at most one node, as a stack's and a queue's do.
+#![tactic(auto)]
+
 ghost use Rattle.std.specs.Prelude.{◌≡◌};
 ghost use Rattle.leaf_spec.specs.Convert.{to_link};
 ghost use Rattle.operation_spec.specs.Method.{to_step_answer, nothing};

@@ -1,4 +1,6 @@
 // The structures with one fetch round, the stack and the queue: whether an operation wants a node, its step, and the fetch test.
+#![tactic(auto)]
+
 ghost use Rattle.std.specs.Prelude.{◌≡◌, true, [], ◌∷◌, ℕ};
 ghost use Rattle.method_spec.specs.Prog.{done, after};
 ghost use Rattle.method_spec.specs.Call.{test};

@@ -1,1 +1,2 @@
 // The call over buckets does what the method does; no code.
+#![tactic(auto)]

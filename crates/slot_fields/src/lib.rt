@@ -1,4 +1,6 @@
 // The fields of a node in the words of its slot.
+#![tactic(auto)]
+
 ghost use Rattle.std.specs.Prelude.{◌≡◌};
 ghost use Rattle.slot_spec.specs.Slot.{no_link, no_node, slot_bytes, slot_of, fields_in, node_of, encode, all_zero};
 

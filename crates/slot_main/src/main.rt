@@ -1,4 +1,6 @@
 // Writes a node to a slot of a small tree, prints the slot's bytes, and reads the node back.
+#![tactic(auto)]
+
 use libc::STDOUT_FILENO;
 use slot_fields::no_link;
 use slot_spec::{Node, Reading};

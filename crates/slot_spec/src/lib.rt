@@ -1,4 +1,5 @@
 // The slot format and the bucket tree: what stands in the 32 bytes of a slot, and where in a lent tree.
+#![tactic(auto)]
 
 // A slot's length in bytes, and that of a bucket of four slots.
 pub const SLOT_LENGTH: usize = 32;

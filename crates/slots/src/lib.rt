@@ -1,4 +1,6 @@
 // What a slot's words are read as, and whether a slot can be good for a node.
+#![tactic(auto)]
+
 ghost use Rattle.std.specs.Prelude.{◌≡◌, ◌≤◌};
 ghost use Rattle.slot_spec.specs.Slot.{slot_bytes, slot_link_good, well_formed, read_slot};
 

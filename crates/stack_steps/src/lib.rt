@@ -1,4 +1,6 @@
 // The stack's operations as functions of the one node that a call fetches: whether it is wanted, the step, and the fetch test.
+#![tactic(auto)]
+
 ghost use Rattle.std.specs.Prelude.{◌≡◌, [], ◌∷◌, ℕ};
 ghost use Rattle.method_spec.specs.Prog.{done, after};
 ghost use Rattle.method_spec.specs.Stack.{push_prog, pop_prog, stack_test};

@@ -1,5 +1,7 @@
 // The waiting nodes of a state as slots in a lent row: other nodes join them, and a place of a state is loaded into the row and saved
 // from it.
+#![tactic(auto)]
+
 ghost use Rattle.std.specs.Prelude.{◌≡◌};
 ghost use Rattle.leaf_spec.specs.Convert.{to_node};
 ghost use Rattle.stash_laws.specs.Waiting.{words_for, InWidths};

@@ -1,4 +1,6 @@
 // The places of a state for its waiting nodes: an unused one, and what is asked of one.
+#![tactic(auto)]
+
 ghost use Rattle.std.specs.Prelude.{◌≡◌, ◌≤◌};
 ghost use Rattle.state_spec.specs.Fit.{no_place, zero_place, place_good};
 

@@ -1,4 +1,6 @@
 // The state of a store; when it fits, opening, and what a ticket asks: definitions.
+#![tactic(auto)]
+
 use slot_spec::{Ahead, Link, Node};
 
 // The waiting places of a state. Document 01: "It has 101 places for waiting nodes".

@@ -2,6 +2,8 @@
 // tree. A script is pairs of characters: + puts a key, - removes it, ? gets it, < pushes and > pops, * adds a number,
 // which the character says as it does a key, and ! takes the smallest (the second character of <, > and ! says nothing).
 // The value that a call puts or pushes is its number in the script.
+#![tactic(auto)]
+
 ghost use Rattle.std.specs.Prelude.{◌≤◌};
 
 use memory::{Memory, empty};

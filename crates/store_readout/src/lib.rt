@@ -1,4 +1,6 @@
 // Reading out a closed store.
+#![tactic(auto)]
+
 ghost use Rattle.std.specs.Prelude.{◌≡◌, length};
 ghost use Rattle.slot_spec.specs.Tree.{slot_length};
 ghost use Rattle.slot_spec.specs.Slot.{encode, slot_bytes, Ranged};

@@ -1,4 +1,6 @@
 // Closed stores as records, for the programs that test and time reading out: tests/README.md has a record's layout.
+#![tactic(auto)]
+
 ghost use Rattle.std.specs.Prelude.{◌≡◌, ◌≤◌, length};
 ghost use Rattle.io.specs.Counts.{IsPrefixLen};
 ghost use Rattle.store_records.specs.Records.{head_length, most_bytes};

@@ -1,5 +1,7 @@
 // What a closed store holds, item by item: its slots and waiting places numbered by place, the keys and marks of them, the good ones,
 // and of these the first of each key.
+#![tactic(auto)]
+
 ghost use Rattle.std.specs.Prelude.{◌≡◌, ◌+◌, ◌*◌, ◌≤◌, length};
 ghost use Rattle.std.proofs.lemmas.List.Edits.{sets};
 ghost use Rattle.slot_spec.specs.Tree.{slot_length};

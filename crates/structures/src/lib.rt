@@ -1,5 +1,7 @@
 // What a map's or a heap's operation wants next of the nodes fetched for it so far, and its step once it wants none; what is known ahead
 // after any structure's.
+#![tactic(auto)]
+
 ghost use Rattle.std.specs.Prelude.{◌≡◌, false, ◌≤◌, length};
 ghost use Rattle.leaf_spec.specs.Convert.{to_link, to_ahead};
 ghost use Rattle.leaf_spec.specs.Entries.{KeyLeft};

@@ -1,4 +1,6 @@
 // What becomes of the held nodes where a store closes before the step: they are as they were fetched, with only tags moved.
+#![tactic(auto)]
+
 ghost use Rattle.std.specs.Prelude.{◌≡◌, ℕ, ◌≤◌, length};
 ghost use Rattle.method_spec.specs.Node as method;
 ghost use Rattle.method_spec.specs.Prog as prog;

@@ -1,5 +1,7 @@
 // A round of a bucket store by itself, with no call around it and nothing held, and a node that comes to wait: for programs that
 // show rounds or time them.
+#![tactic(auto)]
+
 ghost use Rattle.std.specs.Prelude.{◌≡◌, true, ◌+◌, ◌^◌, ◌<◌, length};
 ghost use Rattle.list_spec.specs.Choice.{pick};
 ghost use Rattle.slot_spec.specs.Slot.{slot_of};

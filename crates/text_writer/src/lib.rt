@@ -1,4 +1,6 @@
 // Text put into a lent buffer at a position. Each function returns the position after it.
+#![tactic(auto)]
+
 ghost use Rattle.std.specs.Prelude.{◌+◌, ◌≤◌, [], ◌∷◌, length};
 ghost use Rattle.walk_spec.specs.Lines.{decimal, numbers, Put};
 

@@ -1,6 +1,8 @@
 // The copying program: `ticket_copy OLD NEW` copies a file of tickets to a second file with the fields that a ticket's kind does
 // not use zeroed, and prints how many tickets it changed. Where it cannot, the standard error says why, nothing is printed, and
 // NEW is what it was.
+#![tactic(auto)]
+
 mod checks;
 mod copying;
 mod messages;

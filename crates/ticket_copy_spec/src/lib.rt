@@ -1,1 +1,2 @@
 // A file of tickets copied with unused fields zeroed: definitions.
+#![tactic(auto)]

@@ -1,4 +1,6 @@
 // Tickets copied with their unused fields zeroed, one and a piece of a file.
+#![tactic(auto)]
+
 ghost use Rattle.std.specs.Prelude.{◌≡◌, ◌-◌, ◌≤◌, length, take, drop};
 ghost use Rattle.std.proofs.lemmas.List.Edits.{sets};
 ghost use Rattle.list_spec.specs.Choice.{pick};

@@ -1,4 +1,6 @@
 // What a ticket asks of a structure.
+#![tactic(auto)]
+
 ghost use Rattle.std.specs.Prelude.{◌≡◌, eqb, length};
 ghost use Rattle.state_spec.specs.Ticket.{ticket_length, key_in, value_in, out_of_keys};
 ghost use Rattle.operation_spec.specs.Method.{to_op};

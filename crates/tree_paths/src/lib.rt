@@ -1,4 +1,6 @@
 // Bucket numbers, paths and places in the lent tree.
+#![tactic(auto)]
+
 ghost use Rattle.std.specs.Prelude.{◌≡◌, ◌+◌, ◌<◌, ◌≤◌, ◌^◌};
 ghost use Rattle.slot_spec.specs.Tree.{leaf_bucket, path_bucket, passes, bucket_start, tree_length};
 

@@ -1,4 +1,6 @@
 // The fields that a ticket's kind does not use, which must be zero.
+#![tactic(auto)]
+
 ghost use Rattle.std.specs.Prelude.{◌≡◌, length};
 ghost use Rattle.state_spec.specs.Ticket.{fields_used, stray, stray_fields};
 

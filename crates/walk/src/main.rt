@@ -1,5 +1,7 @@
 // The walk program: reads a structure byte, a size byte, then for each call a ticket and its tape numbers from standard
 // input, makes the calls on a store, and prints a line for each as soon as it has been made.
+#![tactic(auto)]
+
 ghost use Rattle.std.specs.Prelude.{◌≡◌, ◌≤◌, length};
 ghost use Rattle.io.specs.Counts.{IsPrefixLen};
 ghost use Rattle.state_spec.specs.Fit.{largest_size};

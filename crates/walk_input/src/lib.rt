@@ -1,4 +1,6 @@
 // The parts of the walk program's input.
+#![tactic(auto)]
+
 ghost use Rattle.std.specs.Prelude.{◌≡◌, ◌+◌, ◌*◌, ◌≤◌, length};
 ghost use Rattle.state_spec.specs.Fit.{largest_size};
 ghost use Rattle.state_spec.specs.Ticket.{ticket_length};

@@ -1,4 +1,6 @@
 // The lines that the walk program prints, each with its newline. They return the line's length.
+#![tactic(auto)]
+
 ghost use Rattle.std.specs.Prelude.{◌≡◌, ◌++◌, ◌≤◌, length, take, drop};
 ghost use Rattle.io.specs.Counts.{IsPrefixLen};
 ghost use Rattle.walk_spec.specs.Lines.{line_of, short_line, longest_line, most_leaves};

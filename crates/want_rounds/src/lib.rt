@@ -1,4 +1,6 @@
 // The fetch rounds: those that want a node, one after the other, and then those that are left.
+#![tactic(auto)]
+
 ghost use Rattle.std.specs.Prelude.{◌≡◌};
 ghost use Rattle.bucket_call_spec.specs.Call.{draw_of};
 ghost use Rattle.node_rows.specs.Held.{held_in};

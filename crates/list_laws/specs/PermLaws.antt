@@ -114,15 +114,16 @@ module _ {A : Type 0} where
 
   -- Taking the a out of permutations gives permutations.
   inserted-along : {a : A} {zs xs ys : List A} → Perm xs ys → Inserted a zs xs → (ws : List A) × Inserted a ws ys × Perm zs ws
+  inserted-along {a = a} {zs = zs} nil i = elim i [ ]
   inserted-along (cons b {ys = ys} p) (here e) = (ys, here e, p)
-  inserted-along (cons b p) (later i) =
-      let r = inserted-along p i in (b ∷ r.0, later r.1, cons b r.2)
+  inserted-along {a = a} (cons b {xs = xs} {ys = ys} p) (later {x = b'} {zs = zs} i) =
+      let r = inserted-along {zs = zs} p i in (b ∷ r.0, later r.1, cons b r.2)
   inserted-along (swap b c xs) (here e) = (c ∷ xs, later (here e), perm-refl (c ∷ xs))
   inserted-along (swap b c xs) (later (here e)) = (b ∷ xs, here e, perm-refl (b ∷ xs))
   inserted-along (swap b c xs) (later (later {zs = zs} i)) = (c ∷ b ∷ zs, later (later i), swap b c zs)
-  inserted-along (trans p q) i =
-      let r = inserted-along p i in
-      let s = inserted-along q r.1 in
+  inserted-along {a = a} {zs = zs} (trans p q) i =
+      let r = inserted-along {zs = zs} p i in
+      let s = inserted-along {zs = r.0} q r.1 in
       (s.0, s.1, trans r.2 s.2)
 
   inserted-once : {a : A} {zs ws xs : List A} → Inserted a zs xs → Inserted a ws xs → Perm zs ws

@@ -149,14 +149,14 @@ filled_by_nine =
     called (opened 1 1 (replicate 384 7)).state (opened 1 1 (replicate 384 7)).tree (put_ticket 9 1) (replicate 7 0) (replicate 6 5)
 
 abbrev next : (key number : ℕ) → Ended
-next key number = called filled-by-nine.state filled-by-nine.tree (put_ticket key number) (replicate 7 0) (replicate 6 5)
+next key number = called filled_by_nine.state filled_by_nine.tree (put_ticket key number) (replicate 7 0) (replicate 6 5)
 
 abbrev next_earlier : (key number : ℕ) → Ended
 next_earlier key number =
-    called_before_full_put filled-by-nine.state filled-by-nine.tree (put_ticket key number) (replicate 7 0) (replicate 6 5)
+    called_before_full_put filled_by_nine.state filled_by_nine.tree (put_ticket key number) (replicate 7 0) (replicate 6 5)
 
 abbrev is_full_put_call : ℕ → Bool
-is_full_put_call key = full_put_call filled-by-nine.state filled-by-nine.tree (put_ticket key 2) (replicate 7 0)
+is_full_put_call key = full_put_call filled_by_nine.state filled_by_nine.tree (put_ticket key 2) (replicate 7 0)
 
 calls-on-full : (is_full_put_call 9 ≡ true) × ((next 9 2).reply ≡ Answered (Replaced 1)) × ((next_earlier 9 2).reply ≡ Refused 10)
 unfolding filled_by_nine

@@ -20,7 +20,7 @@ use walk_input::{HEAD_LENGTH, LARGEST_TREE, read_tape, tree_lent};
 const BLOCK: usize = 65536;
 
 // The calls of a block: the state that they leave, the checksum so far, and how many bytes they have.
-#[derive(Drop)]
+#[derive(Clone, Copy)]
 struct Made {
     state: State,
     sum: u64,

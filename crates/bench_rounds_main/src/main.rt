@@ -27,7 +27,7 @@ const SEED: u64 = 88172645463325252;
 
 // What many rounds leave: whether all went through, how many nodes wait, the random numbers' last state, and a checksum of the
 // leaves.
-#[derive(Drop)]
+#[derive(Clone, Copy)]
 struct Turns {
     ok: bool,
     waiting: usize,

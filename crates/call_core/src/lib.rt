@@ -17,7 +17,7 @@ use unused_fields::has_stray;
 pub mod run;
 
 // The head of an open state that fits; its waiting nodes are in a row.
-#[derive(Drop)]
+#[derive(Clone, Copy)]
 pub struct Head {
     pub structure: u8,
     pub size: u8,

@@ -32,7 +32,7 @@ pub mod short;
 
 // What a call leaves beside the row of the waiting nodes: whether it made its rounds or was refused, the mark, the entries, the
 // root link, what is known ahead, how many nodes wait, the reply, how many leaves were revealed, and the largest count at a round's close.
-#[derive(Drop)]
+#[derive(Clone, Copy)]
 pub struct Ran {
     pub ran: bool,
     pub mark: u8,

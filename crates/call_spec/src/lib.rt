@@ -5,13 +5,13 @@ use operation_spec::Answer;
 use state_spec::State;
 
 // What a call brings: an answer, or the number of a refusal.
-#[derive(Drop)]
+#[derive(Clone, Copy)]
 pub enum Reply {
     Answered(Answer),
     Refused(u8),
 }
 
-#[derive(Drop)]
+#[derive(Clone, Copy)]
 pub struct Called {
     pub state: State,
     pub reply: Reply,

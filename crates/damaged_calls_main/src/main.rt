@@ -46,7 +46,7 @@ fn damage(tree: &mut [u8], bytes: &[u8; DAMAGE_LENGTH]) {
 }
 
 // The state after one more call of the input, the largest peak so far, and whether to read on.
-#[derive(Drop)]
+#[derive(Clone, Copy)]
 struct Read {
     state: State,
     largest: usize,

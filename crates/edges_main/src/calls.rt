@@ -7,7 +7,7 @@ use call_spec::{Called, Reply};
 use state_spec::State;
 
 // What the last call brings, its peak among it, how many wait then, and the checksum of the tree before it.
-#[derive(Drop)]
+#[derive(Clone, Copy)]
 pub struct Shown {
     pub reply: Reply,
     pub leaves: usize,

@@ -9,7 +9,7 @@ use libc::PATH_MAX;
 use libc::types::{stat, timespec};
 
 // The file's device and its number there; its kind and its permissions. The mode 0 says that there is no file: none has it.
-#[derive(Drop)]
+#[derive(Clone, Copy)]
 pub struct Facts {
     pub device: u64,
     pub number: u64,

@@ -18,7 +18,7 @@ use operation_spec::Wanted;
 use slot_spec::Node;
 
 // A child with what is at hand below it, and how many fetched nodes are taken; or the node that is missing.
-#[derive(Drop)]
+#[derive(Clone, Copy)]
 pub struct Child {
     pub wanted: Wanted,
     pub span: Span,
@@ -73,7 +73,7 @@ fn span_if(here: bool, below: Span) -> Span
 }
 
 // Both children.
-#[derive(Drop)]
+#[derive(Clone, Copy)]
 pub struct Children {
     pub wanted: Wanted,
     pub left: Span,
@@ -121,7 +121,7 @@ pub fn above(left: bool, span: Span, held: &[u64; ROW], n: Node) -> Node
 }
 
 // The smaller child, if there is one, and the other.
-#[derive(Drop)]
+#[derive(Clone, Copy)]
 pub struct Lower {
     pub low: Span,
     pub others: Span,

@@ -15,7 +15,7 @@ use operations::start;
 use slot_spec::Link;
 
 // The way to a position, and how many turns it has.
-#[derive(Drop)]
+#[derive(Clone, Copy)]
 pub struct Way {
     pub position: u16,
     pub depth: usize,

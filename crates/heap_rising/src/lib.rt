@@ -17,7 +17,7 @@ use slot_spec::Node;
 
 // One level of the way up: the lower node, which is done with, the upper one with its link to it, and whether the number still
 // rises.
-#[derive(Drop)]
+#[derive(Clone, Copy)]
 pub struct Lifted {
     pub lower: Node,
     pub upper: Node,

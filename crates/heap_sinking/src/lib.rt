@@ -21,7 +21,7 @@ use slot_spec::Node;
 
 // Where the number is after a turn: whether it goes on, at the first node of a span, how many fetched nodes are taken, and
 // how many nodes are done with; or the node that is missing.
-#[derive(Drop)]
+#[derive(Clone, Copy)]
 pub struct Sinking {
     pub wanted: Wanted,
     pub going: bool,

@@ -19,7 +19,7 @@ use slot_fields::no_link;
 use slot_spec::Node;
 
 // So many nodes from a place on, each the parent of the next.
-#[derive(Drop)]
+#[derive(Clone, Copy)]
 pub struct Span {
     pub at: usize,
     pub length: usize,

@@ -13,7 +13,7 @@ use tree_paths::leaves;
 
 // How rounds that want none ended: mark 0, or 8 damage or 9 overflow, how many nodes wait then, how many leaves these rounds
 // revealed, and the largest count at the close of one of them.
-#[derive(Drop)]
+#[derive(Clone, Copy)]
 pub struct Idle {
     pub mark: u8,
     pub waiting: usize,

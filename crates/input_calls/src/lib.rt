@@ -47,7 +47,7 @@ pub fn call_in(state: State, tree: &mut [u8], input: &[u8], trace: &mut [u16]) -
 
 // How the next call of the input came, the state then and, where it came whole, its reply, how many leaves it revealed, which are
 // the first of the trace buffer, and its peak.
-#[derive(Drop)]
+#[derive(Clone, Copy)]
 pub struct Next {
     pub came: Arrived,
     pub state: State,

@@ -14,7 +14,7 @@ pub const NUMBER_LENGTH: usize = 2;
 
 // The head of a byte state, in the order of its bytes: the closed mark, structure and size, the root link's height, how many entries
 // there are and how many nodes wait, the root link's key and tag, and the tag drawn ahead.
-#[derive(Drop)]
+#[derive(Clone, Copy)]
 pub struct StateHead {
     pub mark: u8,
     pub structure: u8,

@@ -49,7 +49,7 @@ fn list_level(made: &mut [u64; ROW], count: usize, aside: Kid, others: Others) -
 
 // A climb: the subtree at hand at its end, how many nodes are done with, and how many fetched nodes are taken; or the node
 // that is missing.
-#[derive(Drop)]
+#[derive(Clone, Copy)]
 pub struct Climbed {
     pub wanted: Wanted,
     pub sub: Sub,

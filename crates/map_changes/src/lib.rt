@@ -15,7 +15,7 @@ use slot_spec::{Link, Node};
 
 // Where the way up starts: the subtree there, the path to it over the first fetched nodes (see path_steps), how many
 // fetched nodes are taken so far, and what the step makes of the entries and answers; or the node that is missing.
-#[derive(Drop)]
+#[derive(Clone, Copy)]
 pub struct Bottom {
     pub wanted: Wanted,
     pub rotating: bool,

@@ -16,7 +16,7 @@ use slot_spec::Link;
 
 // How a walk down ends: the node that it wants next is not fetched yet, or an absent link stands there, or the node with
 // the key was found.
-#[derive(Drop)]
+#[derive(Clone, Copy)]
 pub enum End {
     Missing,
     Gap,
@@ -24,7 +24,7 @@ pub enum End {
 }
 
 // Where it ends: the node that is wanted there, and how many nodes it passed.
-#[derive(Drop)]
+#[derive(Clone, Copy)]
 pub struct Descent {
     pub want: Want,
     pub depth: usize,
@@ -74,7 +74,7 @@ pub fn descend(key: u32, root: Link, held: &[u64; ROW], count: usize) -> Descent
 }
 
 // The node with the next larger key, by its number among the fetched nodes.
-#[derive(Drop)]
+#[derive(Clone, Copy)]
 pub struct Lowest {
     pub wanted: Wanted,
     pub last: usize,

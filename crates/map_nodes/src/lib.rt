@@ -5,14 +5,14 @@ use operation_spec::Bound;
 use slot_spec::{Link, Node};
 
 // A node that may be at hand.
-#[derive(Drop)]
+#[derive(Clone, Copy)]
 pub enum Kid {
     Away,
     Here(Node),
 }
 
 // A subtree as it is at hand: its link alone, or its top node and those of its children that were fetched too.
-#[derive(Drop)]
+#[derive(Clone, Copy)]
 pub enum Sub {
     Stub(Link),
     Top(Node, Kid, Kid),
@@ -20,7 +20,7 @@ pub enum Sub {
 
 // A node that the walk passed: the key that it had when it was passed, the side on which the walk went on, and the
 // nearest keys below and above that it had passed before.
-#[derive(Drop)]
+#[derive(Clone, Copy)]
 pub struct Step {
     pub node: Node,
     pub was: u32,

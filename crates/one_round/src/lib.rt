@@ -23,7 +23,7 @@ use slot_spec::Node;
 
 // How a round that wants none ended: mark 0, or 8 damage or 9 overflow, how many nodes wait then, and how many wait and are held at its
 // close, 0 with damage.
-#[derive(Drop)]
+#[derive(Clone, Copy)]
 pub struct Rounded {
     pub mark: u8,
     pub waiting: usize,
@@ -31,7 +31,7 @@ pub struct Rounded {
 }
 
 // How a round that wants a node ended; and whether the node was taken out, and the node as it was found.
-#[derive(Drop)]
+#[derive(Clone, Copy)]
 pub struct Took {
     pub mark: u8,
     pub waiting: usize,

@@ -4,7 +4,7 @@
 use slot_spec::{Ahead, Link};
 
 // What a ticket asks.
-#[derive(Drop)]
+#[derive(Clone, Copy)]
 pub enum Op {
     Get(u32),
     Put(u32, u64),
@@ -17,7 +17,7 @@ pub enum Op {
     Dequeue,
 }
 
-#[derive(Drop)]
+#[derive(Clone, Copy)]
 pub enum Answer {
     Found(u64),
     Absent,
@@ -34,21 +34,21 @@ pub enum Answer {
 }
 
 // What a step answers: a full store's put, push, add and enqueue have an answer that a call tells as a refusal.
-#[derive(Drop)]
+#[derive(Clone, Copy)]
 pub enum StepAnswer {
     Answered(Answer),
     Full,
 }
 
 // Where a link stands: it is the root link, or that of the node with that key on a side, the left or else the right.
-#[derive(Drop)]
+#[derive(Clone, Copy)]
 pub enum From {
     Root,
     Side(u32, bool),
 }
 
 // The nearest key that a walk passed, below or above.
-#[derive(Drop)]
+#[derive(Clone, Copy)]
 pub enum Bound {
     Open,
     Key(u32),
@@ -56,7 +56,7 @@ pub enum Bound {
 
 // A wanted node: the link that leads to it, where that link stands, and the nearest keys below and above that the walk
 // passed on its way.
-#[derive(Drop)]
+#[derive(Clone, Copy)]
 pub struct Want {
     pub link: Link,
     pub from: From,
@@ -64,14 +64,14 @@ pub struct Want {
     pub high: Bound,
 }
 
-#[derive(Drop)]
+#[derive(Clone, Copy)]
 pub enum Wanted {
     Done,
     Fetch(Want),
 }
 
 // What a new node's tags come from: the first two spare draws, and what a queue's state knows ahead.
-#[derive(Drop)]
+#[derive(Clone, Copy)]
 pub struct Spares {
     pub first: u16,
     pub second: u16,
@@ -79,7 +79,7 @@ pub struct Spares {
 }
 
 // A step: the root link, the entries, the answer, and how many nodes it made, which are in the first places of a lent row.
-#[derive(Drop)]
+#[derive(Clone, Copy)]
 pub struct Outcome {
     pub made: usize,
     pub root: Link,

@@ -24,14 +24,14 @@ use slot_words::load;
 use slots::reading;
 
 // How joining what was read went: ok or damage, and how many slots wait then.
-#[derive(Drop)]
+#[derive(Clone, Copy)]
 pub struct Joined {
     pub ok: bool,
     pub count: usize,
 }
 
 // How joining a path went, and how many of its slots are full.
-#[derive(Drop)]
+#[derive(Clone, Copy)]
 pub struct Gathered {
     pub ok: bool,
     pub count: usize,
@@ -39,7 +39,7 @@ pub struct Gathered {
 }
 
 // What a round wants: nothing, or the node with a key, under the tag of the link that leads to it.
-#[derive(Drop)]
+#[derive(Clone, Copy)]
 pub enum Wish {
     Nothing,
     Node(u32, u16),
@@ -47,7 +47,7 @@ pub enum Wish {
 
 // What looking for it answers: ok or damage, how many slots are joined, of a wanted node its place among them and the node, and
 // how many slots of the path are full.
-#[derive(Drop)]
+#[derive(Clone, Copy)]
 pub struct Looked {
     pub ok: bool,
     pub count: usize,

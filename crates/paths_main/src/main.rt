@@ -10,7 +10,7 @@ use tree_paths::{leaves, passes_bucket, path_bucket};
 
 const LARGEST_SIZE: usize = 15;
 
-#[derive(Drop)]
+#[derive(Clone, Copy)]
 struct Sums {
     numbers: u64,
     tests: u64,

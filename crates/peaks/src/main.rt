@@ -17,7 +17,7 @@ use walk_input::{LARGEST_TREE, tree_lent};
 use walk_spec::Arrived;
 
 // The state after one more call of the input, the largest peak so far, and whether to read on.
-#[derive(Drop)]
+#[derive(Clone, Copy)]
 struct Read {
     state: State,
     largest: usize,

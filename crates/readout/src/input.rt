@@ -11,7 +11,7 @@ use walk_input::HEAD_LENGTH;
 use walk_spec::Arrived;
 
 // What a store is opened with.
-#[derive(Drop)]
+#[derive(Clone, Copy)]
 pub struct Head {
     pub structure: u8,
     pub size: u8,

@@ -10,7 +10,7 @@ use state_spec::State;
 use store_readout::read_out;
 
 // 0 and the length of the file that was written, or the number of a refusal and 0.
-#[derive(Drop)]
+#[derive(Clone, Copy)]
 pub struct Outcome {
     pub number: u8,
     pub length: usize,

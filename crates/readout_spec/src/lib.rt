@@ -26,7 +26,7 @@ pub const INDEX_WIDTH: usize = KEY_WIDTH + OFFSET_WIDTH;
 pub const REPORT_WIDTH: usize = PLACE_WIDTH + REASON_WIDTH;
 
 // What reading out brings: the length of the file that was written, or the number of a refusal.
-#[derive(Drop)]
+#[derive(Clone, Copy)]
 pub enum ReadOut {
     Written(usize),
     Refused(u8),

@@ -23,7 +23,7 @@ use operation_spec::{Want, Wanted};
 use slot_spec::Node;
 
 // The node that is at hand, or else the next of the fetched nodes.
-#[derive(Drop)]
+#[derive(Clone, Copy)]
 pub struct Opened {
     pub node: Kid,
     pub next: usize,
@@ -53,7 +53,7 @@ fn open_kid(kid: Kid, held: &[u64; ROW], count: usize, next: usize) -> Opened
 }
 
 // Nodes at hand that are done with: those of a subtree.
-#[derive(Drop)]
+#[derive(Clone, Copy)]
 pub struct Others {
     pub left: Kid,
     pub right: Kid,
@@ -62,7 +62,7 @@ pub struct Others {
 
 // A level up: the subtree at hand there, with the nodes that are done with, one by itself and those of a subtree; or the
 // node that is missing. The fetched nodes from `next` on are not taken yet.
-#[derive(Drop)]
+#[derive(Clone, Copy)]
 pub struct Raised {
     pub wanted: Wanted,
     pub sub: Sub,

@@ -13,7 +13,7 @@ use map_nodes::{Kid, Sub};
 use slot_spec::Node;
 
 // The two nodes of a rotation.
-#[derive(Drop)]
+#[derive(Clone, Copy)]
 pub struct Rotated {
     pub up: Node,
     pub down: Node,

@@ -28,7 +28,7 @@ pub fn mark_at_close(waiting: usize, held: usize) -> u8
 }
 
 // A round's close: how many nodes wait and are held then, and the mark.
-#[derive(Drop)]
+#[derive(Clone, Copy)]
 pub struct Close {
     pub count: usize,
     pub mark: u8,

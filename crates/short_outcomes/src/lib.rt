@@ -11,7 +11,7 @@ use slot_fields::no_node;
 use slot_spec::{Link, Node};
 
 // Whether the step made a node, that node, the root link, the entries and the answer.
-#[derive(Drop)]
+#[derive(Clone, Copy)]
 pub struct OneMade {
     pub made: bool,
     pub node: Node,

@@ -7,20 +7,20 @@ use slot_spec::{Ahead, Link, Node};
 pub const PLACES: usize = 101;
 
 // A place for a waiting node. An unused one is all zero.
-#[derive(Drop)]
+#[derive(Clone, Copy)]
 pub struct Place {
     pub full: bool,
     pub node: Node,
 }
 
 // Which of its two fields a kind of tickets uses.
-#[derive(Drop)]
+#[derive(Clone, Copy)]
 pub struct Uses {
     pub key: bool,
     pub value: bool,
 }
 
-#[derive(Drop)]
+#[derive(Clone, Copy)]
 pub struct State {
     // 0: open; otherwise the number with which the store was closed.
     pub mark: u8,

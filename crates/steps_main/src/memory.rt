@@ -8,7 +8,7 @@ use short_outcomes::OneMade;
 use slot_fields::no_node;
 use slot_spec::{Link, Node};
 
-#[derive(Drop)]
+#[derive(Clone, Copy)]
 pub struct Memory {
     pub nodes: [Node; 16],
     pub count: usize,

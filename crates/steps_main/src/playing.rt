@@ -19,14 +19,14 @@ use structures::{step, wanted};
 const LIMIT: u16 = 15;
 
 // What a call leaves and answers.
-#[derive(Drop)]
+#[derive(Clone, Copy)]
 pub struct Done {
     pub memory: Memory,
     pub answer: StepAnswer,
 }
 
 // The nodes still in memory, and how many the call holds.
-#[derive(Drop)]
+#[derive(Clone, Copy)]
 struct Gathered {
     memory: Memory,
     count: usize,

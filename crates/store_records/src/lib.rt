@@ -25,7 +25,7 @@ pub const HEAD_LENGTH: usize = NUMBERS_LENGTH + PLACES * SLOT_LENGTH;
 pub const MOST_BYTES: usize = 65536;
 
 // How a record came. One that the input does not hold whole is short; one whose tree or output buffer has too many bytes is long.
-#[derive(Drop)]
+#[derive(Clone, Copy)]
 pub enum Came {
     Whole,
     Short,
@@ -33,7 +33,7 @@ pub enum Came {
 }
 
 // How a record came, and the lengths of its tree and of its output buffer: 0 if it is not whole.
-#[derive(Drop)]
+#[derive(Clone, Copy)]
 pub struct Read {
     pub came: Came,
     pub tree: usize,

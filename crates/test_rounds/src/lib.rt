@@ -20,7 +20,7 @@ use slot_spec::Node;
 use tree_paths::leaves;
 
 // How a round closed: mark 0, or 8 damage or 9 overflow; how many nodes wait then; and the node that was taken out, if one was.
-#[derive(Drop)]
+#[derive(Clone, Copy)]
 pub struct Closed {
     pub mark: u8,
     pub waiting: usize,

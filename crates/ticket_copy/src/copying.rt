@@ -15,21 +15,21 @@ const PIECE: usize = 4096 * TICKET_LENGTH;
 const MOST_TURNS: u64 = u64::MAX / 4096;
 
 // How many bytes came. A read that failed is no end.
-#[derive(Drop)]
+#[derive(Clone, Copy)]
 struct Arrival {
     failed: bool,
     length: usize,
 }
 
 // How a piece was copied: whether it was, how many bytes came, and how many tickets were changed.
-#[derive(Drop)]
+#[derive(Clone, Copy)]
 struct Turn {
     done: bool,
     came: usize,
     changed: u64,
 }
 
-#[derive(Drop)]
+#[derive(Clone, Copy)]
 pub struct Copied {
     pub whole: bool,
     pub changed: u64,

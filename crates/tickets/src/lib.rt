@@ -16,7 +16,7 @@ pub const TICKET_LENGTH: usize = 13;
 const LAST_KEY: u32 = 4294967295;
 
 // What a ticket asks, or that its kind is not one of the structure's.
-#[derive(Drop)]
+#[derive(Clone, Copy)]
 pub enum Asked {
     Call(Op),
     Unknown,

@@ -20,7 +20,7 @@ use walk_lines::line;
 use walk_spec::Arrived;
 
 // What a call of the input leaves: the state, and the length of its line.
-#[derive(Drop)]
+#[derive(Clone, Copy)]
 struct Walked {
     state: State,
     length: usize,
@@ -44,7 +44,7 @@ fn walk_call(state: State, tree: &mut [u8], input: &[u8], out: &mut [u8]) -> Wal
 }
 
 // The state after one more call of the input, and whether to read on.
-#[derive(Drop)]
+#[derive(Clone, Copy)]
 struct Read {
     state: State,
     more: bool,

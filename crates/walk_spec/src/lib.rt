@@ -2,7 +2,7 @@
 #![tactic(auto)]
 
 // How a part of the input came: whole, or the input ended before it or within it.
-#[derive(Drop)]
+#[derive(Clone, Copy)]
 pub enum Arrived {
     Whole,
     End,

@@ -18,7 +18,7 @@ use structures::wanted;
 
 // What the rounds of a call are for: the operation, the store's structure and size, how many fetch rounds there are, the capacity,
 // the entries and the root link, what a new node's tags come from, and the draw of the first put round.
-#[derive(Drop)]
+#[derive(Clone, Copy)]
 pub struct Job {
     pub op: Op,
     pub structure: u8,
@@ -33,7 +33,7 @@ pub struct Job {
 
 // What the fetch rounds came to: how many nodes are held and how many wait, mark 0, or 8 damage or 9 overflow, how many leaves were
 // revealed, and the largest count at the close of a round.
-#[derive(Drop)]
+#[derive(Clone, Copy)]
 pub struct Fetched {
     pub count: usize,
     pub waiting: usize,
@@ -43,7 +43,7 @@ pub struct Fetched {
 }
 
 // What the one fetch round of a stack or a queue came to, and the node that is held under the round's draw, if one is.
-#[derive(Drop)]
+#[derive(Clone, Copy)]
 pub struct FetchedOne {
     pub fetched: Fetched,
     pub node: Node,

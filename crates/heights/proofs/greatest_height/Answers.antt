@@ -7,18 +7,8 @@ use Rattle.balance_spec.specs.Least.{least}
 use Rattle.balance_spec.specs.Shape.{shaped}
 use Rattle.balance_spec.specs.Greatest.{tallest, greatest}
 use Rattle.heights.proofs.Table.{value-at}
-use Rattle.heights.proofs.greatest_height.Statement.{statement}
-use Rattle.heights.proofs.greatest_height.Tie as tie
+use Rattle.heights.proofs.greatest_height.Goals as goal
 
-sub-result : tie.Need-overflow-sub-result
-sub-result c = search rules
-
-array-read-result : tie.Need-array-read-result
-array-read-result c = search rules
-
-returns : tie.Need-returns
+pub returns : goal.returns
 unfolding least shaped tallest greatest
 returns c = value-at greatest 1 8 (c.args.size - 1) c.args.size (omega arith) (omega arith)
-
-pub greatest-height-spec : {M : Type 1} → statement M
-greatest-height-spec = tie.close (tie.spec sub-result array-read-result returns)

@@ -2,17 +2,10 @@
 use mathlib.Core.Path.{refl}
 use Rattle.slot_laws.specs.TreeLaws.{shifted_one, power-range}
 use borrow.Author.Rules.{rules}
-use Rattle.tree_paths.proofs.leaves.Statement.{statement}
-use Rattle.tree_paths.proofs.leaves.Tie as tie
+use Rattle.tree_paths.proofs.leaves.Goals as goal
 
-shl-result : tie.Need-overflow-shl-result
-shl-result c = search rules
-
-returns : tie.Need-returns
+pub returns : goal.returns
 returns c =
     let e = shifted_one c.args.size c.requires in
     let r = power-range c.args.size c.requires in
     rw e ((refl, r))
-
-pub leaves-spec : {M : Type 1} → statement M
-leaves-spec = tie.close (tie.spec shl-result returns)

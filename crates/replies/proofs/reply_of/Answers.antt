@@ -1,0 +1,23 @@
+-- `replies::reply_of` meets its contract.
+use mathlib.Core.Path.{sym, ◌∙◌, ap}
+use Rattle.operation_spec.specs.declared.StepAnswer.{StepAnswer}
+use Rattle.operation_spec.specs.Method.{to_step_answer}
+use Rattle.call_spec.specs.Store.{reply_of}
+use Rattle.replies.specs.AnsweredLaws.{answer-replied}
+use borrow.Author.Rules.{rules}
+use Rattle.replies.proofs.reply_of.Goals as goal
+
+-- LOST enum-known-answer enum-known-answer
+-- enum-known-answer : tie.Need-enum-known-answer
+-- enum-known-answer c = search rules
+--
+-- LOST enum_told enum-told
+-- enum_told : tie.Need-enum-told
+-- enum_told c = search rules
+--
+pub returns-in-Answered : goal.returns-in-Answered
+returns-in-Answered c = sym (ap (λ (a : StepAnswer). reply_of (to_step_answer a)) c.answer-1.given.1 ∙ answer-replied _)
+
+pub returns-in-Full : goal.returns-in-Full
+unfolding reply_of
+returns-in-Full c = sym (ap (λ (a : StepAnswer). reply_of (to_step_answer a)) c.type_inv.XX_enum_told.1)

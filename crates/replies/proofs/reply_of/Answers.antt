@@ -7,17 +7,9 @@ use Rattle.replies.specs.AnsweredLaws.{answer-replied}
 use borrow.Author.Rules.{rules}
 use Rattle.replies.proofs.reply_of.Goals as goal
 
--- LOST enum-known-answer enum-known-answer
--- enum-known-answer : tie.Need-enum-known-answer
--- enum-known-answer c = search rules
---
--- LOST enum_told enum-told
--- enum_told : tie.Need-enum-told
--- enum_told c = search rules
---
 pub returns-in-Answered : goal.returns-in-Answered
-returns-in-Answered c = sym (ap (λ (a : StepAnswer). reply_of (to_step_answer a)) c.answer-1.given.1 ∙ answer-replied _)
+returns-in-Answered c = sym (ap (λ (a : StepAnswer). reply_of (to_step_answer a)) c.in-Answered.is ∙ answer-replied _)
 
 pub returns-in-Full : goal.returns-in-Full
 unfolding reply_of
-returns-in-Full c = sym (ap (λ (a : StepAnswer). reply_of (to_step_answer a)) c.type_inv.XX_enum_told.1)
+returns-in-Full c = sym (ap (λ (a : StepAnswer). reply_of (to_step_answer a)) c.in-Full.is)

@@ -5,9 +5,5 @@ use native.Mathlib.Omega.{arith}
 use borrow.Author.Rules.{rules}
 use Rattle.slot_words.proofs.put_word.Goals as goal
 
--- LOST same_length same-length
--- same_length : tie.Need-same-length
--- same_length c = simp length-set
---
 pub returns : goal.returns
 returns c = word-stored c.args.s.now c.args.at c.args.v

@@ -3,14 +3,10 @@ use Rattle.slot_laws.specs.WordLaws.{slot-stored}
 use borrow.Author.Rules.{rules}
 use Rattle.slot_words.proofs.store.Goals as goal
 
--- LOST same_length same-length
--- same_length : tie.Need-same-length
--- same_length c = search rules
---
 pub returns : goal.returns
 returns c =
     let a = c.args in
-    slot-stored a.s.now a.at a.x c.put_word.new.0 c.put_word-2.new.0 c.put_word-3.new.0 c.put_word-4.new.0
+    slot-stored a.s.now a.at a.x c.put_word.new.s c.put_word-2.new.s c.put_word-3.new.s c.put_word-4.new.s
     c.put_word.ensures
     c.put_word-2.ensures
     c.put_word-3.ensures

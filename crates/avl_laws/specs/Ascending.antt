@@ -80,9 +80,9 @@ module _ {T : Type 0} where
   pub ascending-search : {low high : Option ℕ} (t : Tree (Entry T)) → Ascending low high (pairs t) → Search low high t
   unfolding Search pairs
   ascending-search leaf h = tt
-  ascending-search (node l e r) h =
+  ascending-search {low = low} {high = high} (node l e r) h =
       let s = ascending-split (pairs l) h in
-      (s.above, s.below, ascending-search l s.before, ascending-search r s.after)
+      (s.above, s.below, ascending-search {low = low} {high = some e.key} l s.before, ascending-search {low = some e.key} {high = high} r s.after)
 
 -- ---- the plain machine at the place of a key
 

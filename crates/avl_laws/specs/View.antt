@@ -150,7 +150,7 @@ module _ {T : Type 0} where
     unfolding fetched tags
     fetched-tags (away t) = refl
     fetched-tags (have l e r) =
-        rw map-append (ap₂ (λ xs ys. e.tag ∷ (xs ++ ys)) (fetched-tags l) (fetched-tags r))
+        rw (map-append (λ (n : Node T). n.tag)) (ap₂ (λ xs ys. e.tag ∷ (xs ++ ys)) (fetched-tags l) (fetched-tags r))
 
     -- ---- joined views
 

@@ -52,12 +52,12 @@ module _ {T : Type 0} (nil : T) where
   node-keys : (i : ℕ) (t : Tree (Cell T)) → keys (heap_nodes nil i t) ≡ heap_positions i (bare t)
   unfolding heap_nodes heap_positions bare
   node-keys i leaf = refl
-  node-keys i (node l c r) = rw (map-append, node-keys (child_position true i) l, node-keys (child_position false i) r)
+  node-keys i (node l c r) = rw (map-append (λ (n : Node T). n.key), node-keys (child_position true i) l, node-keys (child_position false i) r)
 
   node-numbers : (i : ℕ) (t : Tree (Cell T)) → map (λ (n : Node T). n.value) (heap_nodes nil i t) ≡ heap_numbers (bare t)
   unfolding heap_nodes heap_numbers bare
   node-numbers i leaf = refl
-  node-numbers i (node l c r) = rw (map-append, node-numbers (child_position true i) l, node-numbers (child_position false i) r)
+  node-numbers i (node l c r) = rw (map-append (λ (n : Node T). n.value), node-numbers (child_position true i) l, node-numbers (child_position false i) r)
 
   module _ {limit : ℕ} {vs : List ℕ} {m : Memory T} (h : HoldsHeap nil limit vs m) where
     pub heap-keys : Perm (keys m.nodes) (countdown m.entries)

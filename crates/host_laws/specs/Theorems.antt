@@ -74,8 +74,8 @@ module _ (state tree ticket tape trace result : List ℕ) (state-bytes : Bytes s
 
   -- The existing call refused with such a number.
   quiet-refusal : (n : ℕ) → 1 ≤ n → (r : Reply) → e.reply ≡ r → reply_number r ≡ n → changes_no_byte n ≡ true → e ≡ refusing n (state_in state) tree (numbers_of trace)
-  quiet-refusal n Some-number (Answered a) er is quiet = let z : ⊥ = omega (arith, is, answered-number a, Some-number) in absurd z
-  quiet-refusal n Some-number (Refused m) er is quiet = go (changes_nothing n) refl (eqb n 18) refl quiet
+  quiet-refusal n some_number (Answered a) er is quiet = let z : ⊥ = omega (arith, is, answered-number a, some_number) in absurd z
+  quiet-refusal n some_number (Refused m) er is quiet = go (changes_nothing n) refl (eqb n 18) refl quiet
     where
       number : e.reply ≡ Refused n
       number = er ∙ ap Refused is
@@ -100,7 +100,7 @@ module _ (state tree ticket tape trace result : List ℕ) (state-bytes : Bytes s
   -- A refusal with one of these numbers leaves every lent byte as it came, whatever was lent.
   pub refused-unchanged : (n : ℕ) → 1 ≤ n → left.number ≡ n → changes_no_byte n ≡ true → left ≡ host_leaving n state tree trace result
   unfolding host_called
-  refused-unchanged n Some-number is quiet = go good refl (eqb (head_in state).mark 0) (fit_bytes state) refl is
+  refused-unchanged n some_number is quiet = go good refl (eqb (head_in state).mark 0) (fit_bytes state) refl is
     where
       go : (a : Bool) → good ≡ a → (b c : Bool) → fit_bytes state ≡ c
           → (pick (not a) (host_leaving 18 state tree trace result) (pick (not b) (host_leaving 1 state tree trace result) (pick (not c) (host_leaving 2 state tree trace result) (host_ended_as result e)))).number ≡ n
@@ -109,7 +109,7 @@ module _ (state tree ticket tape trace result : List ℕ) (state-bytes : Bytes s
       go false ea b c ec h = ap (λ (m : ℕ). host_leaving m state tree trace result) h
       go true ea false c ec h = ap (λ (m : ℕ). host_leaving m state tree trace result) h
       go true ea true false ec h = ap (λ (m : ℕ). host_leaving m state tree trace result) h
-      go true ea true true ec h = refusal-ends n ea ec (quiet-refusal n Some-number e.reply refl h quiet)
+      go true ea true true ec h = refusal-ends n ea ec (quiet-refusal n some_number e.reply refl h quiet)
 
 -- ---- openings
 -- What an opening leaves reads back as written, whatever its structure, size and tree: also a state with mark 11, 12 or 3.

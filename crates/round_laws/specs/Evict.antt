@@ -2,7 +2,7 @@
 -- and what still waits are, in another order, what waited; no written slot is bad.
 use Rattle.std.specs.Prelude.{◌≡◌, length, get_or}
 use Rattle.std.proofs.Math.Path.{refl, ap}
-use Rattle.std.proofs.Common.{◌∙◌, subst}
+use Rattle.std.proofs.Common.{sym, ◌∙◌, subst}
 use mathlib.Core.List.Memᴰ
 use mathlib.Core.List.{List, [], ◌∷◌, ◌++◌, append_assoc, map, Memᴰ}
 use Prim.Native.Nat.{ℕ, zero, suc, ◌≤◌, ◌<◌}
@@ -15,11 +15,11 @@ use Rattle.slot_spec.specs.LittleEndian.{Bytes}
 use Rattle.slot_spec.specs.Tree.{slot_length, bucket_length}
 use Rattle.slot_spec.specs.Slot.{bucket_bytes}
 use Rattle.round_spec.specs.Format.{Format, Read, full, empty}
-use Rattle.round_spec.specs.Round.{slot_at, with_bucket, read_bucket, read_buckets, choose, evict}
+use Rattle.round_spec.specs.Round.{slot_at, with_bucket, read_bucket, read_buckets, Written, choose, evict}
 use Rattle.round_spec.specs.Whole.{good_ones, IsTree, InTree}
 use Rattle.round_laws.specs.Lawful.{Lawful}
 use Rattle.round_laws.specs.Places.{zero_slot, with-bucket-is-tree, slot-at-same, slot-at-other, filled-length, filled-slot, filled-bytes}
-use Rattle.round_laws.specs.Readings.{NotBad, good-append, readings-step, bucket-same}
+use Rattle.round_laws.specs.Readings.{NotBad, good-append, bucket-same}
 use Rattle.round_laws.specs.Lists.{Passing, choose-perm, choose-few, choose-passes}
 
 module _ {E : Type 0} (F : Format E) where
@@ -160,14 +160,13 @@ module _ {E : Type 0} (F : Format E) {Proper : ℕ → E → Type 0} (lawful : L
       let r = evict F k bs c.left after in
       let more = evict-perm bs c.left after (λ a m. in_tree a (Memᴰ.tail m)) d.1 (after-is-tree b ws tree here is) (left-proper b ws p) in
       let first : good_ones (read_bucket F k r.tree b) ≡ c.ins = ap good_ones (evict-first b bs ws tree in_tree d is p) ∙ four-good c.ins (choose-few F k b 4 ws) in
-      rw (
-        evict-step F k b bs ws tree,
-        readings-step F k r.tree b bs,
+      subst (λ (w : Written E). Perm ws (good_ones (read_buckets F k w.tree (b ∷ bs)) ++ w.waiting)) (sym (evict-step F k b bs ws tree))
+      (rw (
         good-append (read_bucket F k r.tree b) (read_buckets F k r.tree bs),
         first,
         append_assoc c.ins (good_ones (read_buckets F k r.tree bs)) r.waiting,
       )
-      (trans (choose-perm F k b 4 ws) (perm-append-left c.ins more))
+      (trans (choose-perm F k b 4 ws) (perm-append-left c.ins more)))
 
   pub evict-none-bad : (bs : List ℕ) (ws : List E) (tree : List ℕ) → All (InTree k) bs → Distinct bs → IsTree k tree → All (Proper k) ws
       → All NotBad (read_buckets F k (evict F k bs ws tree).tree bs)
@@ -179,8 +178,8 @@ module _ {E : Type 0} (F : Format E) {Proper : ℕ → E → Type 0} (lawful : L
       let after = after_bucket F k b ws tree in
       let r = evict F k bs c.left after in
       let more = evict-none-bad bs c.left after (λ a m. in_tree a (Memᴰ.tail m)) d.1 (after-is-tree b ws tree here is) (left-proper b ws p) in
-      rw (evict-step F k b bs ws tree, readings-step F k r.tree b bs, evict-first b bs ws tree in_tree d is p)
-      (all_append {P = NotBad} (four_read c.ins) (four-not-bad c.ins) more)
+      subst (λ (w : Written E). All NotBad (read_buckets F k w.tree (b ∷ bs))) (sym (evict-step F k b bs ws tree))
+      (rw (evict-first b bs ws tree in_tree d is p) (all_append {P = NotBad} (four_read c.ins) (four-not-bad c.ins) more))
 
   -- What waits still is proper.
   pub evict-proper : (bs : List ℕ) (ws : List E) (tree : List ℕ) → All (Proper k) ws → All (Proper k) (evict F k bs ws tree).waiting

@@ -44,8 +44,8 @@ module _ {E : Type 0} where
   good-swap (full e) (full d) rs = swap e d (good_ones rs)
   good-swap (full e) empty rs = perm-refl (e ∷ good_ones rs)
   good-swap (full e) bad rs = perm-refl (e ∷ good_ones rs)
-  good-swap empty s rs = good-cons s rs rs (perm-refl (good_ones rs))
-  good-swap bad s rs = good-cons s rs rs (perm-refl (good_ones rs))
+  good-swap empty s rs = good-cons s rs (empty ∷ rs) (perm-refl (good_ones rs))
+  good-swap bad s rs = good-cons s rs (bad ∷ rs) (perm-refl (good_ones rs))
 
   pub good-perm : {rs ss : List (Read E)} → Perm rs ss → Perm (good_ones rs) (good_ones ss)
   good-perm nil = perm-refl (good_ones [])
@@ -157,9 +157,12 @@ module _ {E : Type 0} (F : Format E) (k : ℕ) (tree : List ℕ) where
 
   pub reading-there : (bs : List ℕ) (b : ℕ) (r : Read E) → Memᴰ b bs → Memᴰ r (read_bucket F k tree b) → Memᴰ r (read_buckets F k tree bs)
   unfolding read_buckets
-  reading-there bs b r (Memᴰ.head {x = c} {xs = cs} e) m =
-      Memᴰ.append_left (read_buckets F k tree cs) (subst (λ (x : ℕ). Memᴰ r (read_bucket F k tree x)) e m)
-  reading-there bs b r (Memᴰ.tail {x = c} {xs = cs} n) m = Memᴰ.append_right (read_bucket F k tree c) (reading-there cs b r n m)
+  reading-there [] b r n m = absurd (Memᴰ.not-nil n)
+  reading-there (c ∷ cs) b r n m =
+      ⊎_elim {A = b ≡ c} {B = Memᴰ b cs}
+      (λ e. Memᴰ.append_left (read_buckets F k tree cs) (subst (λ (x : ℕ). Memᴰ r (read_bucket F k tree x)) e m))
+      (λ t. Memᴰ.append_right (read_bucket F k tree c) (reading-there cs b r t m))
+      (Memᴰ.cases_cons n)
 
 -- Buckets with the same slots in two trees have the same readings.
 module _ {E : Type 0} (F : Format E) (k : ℕ) (tree other : List ℕ) where

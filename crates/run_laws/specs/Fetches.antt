@@ -232,6 +232,6 @@ module _ {T : Type 0} where
             let less : n ≤ rounds = omega arith in
             subst (Ended Post (suc rounds) i held ns) (sym (fetches-found rounds i w k ns m.taken))
             (ended-more rounds i w.link.tag m.node m.rest m.same_tag
-            (safe-fetches untagged unordered rounds (suc i) (k (retag (draw i) m.node)) less
+            (safe-fetches untagged unordered {n = n} rounds (suc i) (k (retag (draw i) m.node)) less
             (distinct-perm (perm-map (λ (x : Node T). x.key) m.rest) d).1
             (next (retag (draw i) m.node) (untagged w m.node (draw i) ∙ m.passed)) (m.next (draw i))))

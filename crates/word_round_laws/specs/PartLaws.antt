@@ -29,7 +29,7 @@ module _ {E : Type 0} where
 
   pub part-part : {xs ys zs : List E} → Part xs ys → Part ys zs → Part xs zs
   part-part p done = p
-  part-part (keep x p) (keep y q) = keep x (part-part p q)
+  part-part (keep {xs = xs} x p) (keep {xs = xs'} {ys = ys} _ q) = keep x (part-part {xs = xs} p q)
   part-part (skip x p) (keep y q) = skip y (part-part p q)
   part-part p (skip z q) = skip z (part-part p q)
 

@@ -1,6 +1,4 @@
 pub mod Fetch
 pub mod Call
 pub mod Peak
-pub mod Examples
-pub mod PeakExamples
 pub mod Simulates

@@ -1,3 +1,1 @@
-pub mod Meanings
 pub mod Store
-pub mod Examples

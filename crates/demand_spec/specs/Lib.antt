@@ -1,3 +1,2 @@
 pub mod History
 pub mod Demands
-pub mod Examples

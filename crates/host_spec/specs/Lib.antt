@@ -1,4 +1,3 @@
 pub mod Lengths
 pub mod Result
 pub mod Host
-pub mod Examples

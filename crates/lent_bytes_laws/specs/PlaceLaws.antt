@@ -16,7 +16,7 @@ use Rattle.slot_laws.specs.LittleEndianLaws.{bytes_take, bytes_drop, bytes-appen
 use Rattle.slot_laws.specs.LayoutLaws.{length-pack, pack-bytes}
 use Rattle.slot_laws.specs.SlotLaws.{fields-encoded, node-fields, all-zero-append, all-zero-replicate}
 use Rattle.slot_laws.specs.ReadLaws.{read-full, read-flagless, all-zero-read, node-encoding, well-formed-tag}
-use Rattle.slot_laws.specs.PathNumberLaws.{root-passes}
+use Rattle.slot_laws.proofs.PathNumberLaws.{root-passes}
 use Rattle.state_spec.specs.declared.Place.{Place}
 use Rattle.state_spec.specs.Fit.{zero_place, all_of, place_good, no_place, places_from}
 use Rattle.lent_bytes_spec.specs.StateBytes.{holds_node, place_in, places_in, place_bytes, places_bytes, slot_sound, slots_sound}

@@ -13,5 +13,3 @@ pub mod Call
 pub mod HeapShape
 pub mod QueueShape
 pub mod Origin
-pub mod Examples
-pub mod ChangeExamples

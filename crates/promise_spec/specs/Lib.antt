@@ -1,10 +1,7 @@
 pub mod AsBefore
 pub mod FullPut
-pub mod FullPutExamples
 pub mod Peaks
 pub mod UnusedFields
-pub mod UnusedFieldExamples
 pub mod ReadsOut
 pub mod HostHistory
 pub mod HostDemands
-pub mod HostExamples

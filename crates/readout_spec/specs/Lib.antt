@@ -4,4 +4,3 @@ pub mod File
 pub mod ReadOut
 pub mod ReadBack
 pub mod Complete
-pub mod Examples

@@ -3,11 +3,9 @@ pub mod LittleEndianLaws
 pub mod LayoutLaws
 pub mod TreeLaws
 pub mod PathNumbers
-pub mod PathNumberLaws
 pub mod RowLaws
 pub mod SlotLaws
 pub mod ReadLaws
 pub mod BucketLaws
 pub mod WordLaws
 pub mod ByteRow
-pub mod Examples

@@ -3,4 +3,3 @@ pub mod Fit
 pub mod Opening
 pub mod Ticket
 pub mod Fetching
-pub mod Examples

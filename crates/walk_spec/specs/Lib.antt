@@ -2,4 +2,3 @@ pub mod Input
 pub mod Lines
 pub mod PeakLines
 pub mod Walk
-pub mod Examples

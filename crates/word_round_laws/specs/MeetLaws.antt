@@ -14,7 +14,7 @@ use borrow.Author.Tests.{ltb-true, ltb-false, le-leb, lt-leb, leb-true, leb-fals
 use Rattle.list_spec.specs.Choice.{pick}
 use Rattle.slot_spec.specs.Tree.{passes, leaf_bucket, path_bucket, path}
 use Rattle.slot_laws.specs.TreeLaws.{halvings-at, halvings-length}
-use Rattle.slot_laws.specs.PathNumberLaws.{shift-reaches, passes-at-level}
+use Rattle.slot_laws.proofs.PathNumberLaws.{shift-reaches, passes-at-level}
 use Rattle.round_spec.specs.Format.{Format}
 use Rattle.word_round_laws.specs.PathLaws.{path-at-level}
 use Rattle.word_round_laws.specs.Fill.{meeting, crowded, room_from, home}

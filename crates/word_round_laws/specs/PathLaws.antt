@@ -4,7 +4,7 @@ use Rattle.std.proofs.Common.{sym, ◌∙◌, ap, le_trans, le-div_iff_mul-le, d
 use Rattle.slot_spec.specs.Tree.{leaf_bucket, path_bucket, path, bucket_start, bucket_length, tree_length}
 use Rattle.slot_laws.specs.TreeLaws.{halved-le, halvings-length, halvings-at}
 use Rattle.slot_laws.specs.PathNumbers.{AtLevel}
-use Rattle.slot_laws.specs.PathNumberLaws.{shift-reaches}
+use Rattle.slot_laws.proofs.PathNumberLaws.{shift-reaches}
 
 -- What is left of a path from a level on.
 pub path-level : (k t i : ℕ) → i ≤ k → drop i (path k t) ≡ path_bucket k t i ∷ drop (i + 1) (path k t)

@@ -3,7 +3,7 @@ use mathlib.Core.Path.{◌≡◌, sym, ◌∙◌, ap}
 use Rattle.operation_spec.specs.declared.Answer.{Answer}
 use Rattle.call_spec.specs.declared.Reply.{Reply}
 use Rattle.call_spec.specs.declared.Reply.TheVariants.{Answered}
-use Rattle.call_spec.specs.Meanings.{answered-number}
+use Rattle.call_spec.proofs.Meanings.{answered-number}
 use Rattle.host_spec.specs.Result.{reply_number}
 use borrow.Author.Rules.{rules}
 use Rattle.host_results.proofs.number_of.Statement.{statement}

@@ -9,4 +9,4 @@ use Rattle.slot_fields.proofs.node_of.Goals as goal
 pub returns : goal.returns
 unfolding fields_of_words node_of
 returns c = let x = c.args.x in
-    sym (ap node_of (fields-in-words x (slot-ranges x (search rules)-known8)))
+    sym (ap node_of (fields-in-words x (slot-ranges x (search rules))))

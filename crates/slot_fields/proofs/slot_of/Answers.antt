@@ -10,4 +10,4 @@ pub returns : goal.returns
 unfolding slot_of
 returns c =
     let n = c.args.n in
-    (slot-encoded n (node-ranges n (search rules)-known8), refl)
+    (slot-encoded n (node-ranges n (search rules)), refl)

@@ -4,7 +4,7 @@ use Prim.Native.Nat.{◌-◌}
 use lib.Count.{leading_top}
 use lib.Dec.{eqb}
 use Rattle.slot_laws.specs.PathNumbers.{depth_of}
-use Rattle.slot_laws.specs.PathNumberLaws.{shift-reaches, passes_none, passes-beyond, passes-by-shift}
+use Rattle.slot_laws.proofs.PathNumberLaws.{shift-reaches, passes_none, passes-beyond, passes-by-shift}
 use borrow.Author.Rules.{rules}
 use native.Mathlib.Omega.{arith}
 use Rattle.tree_paths.proofs.passes_bucket.Goals as goal

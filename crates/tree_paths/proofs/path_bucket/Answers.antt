@@ -1,7 +1,7 @@
 -- `tree_paths::path_bucket` meets its contract: the shift reaches the bucket that so many halvings reach.
 use mathlib.Core.Path.{◌∙◌, ap}
 use Prim.Native.Nat.{ℕ, ◌/◌, ◌^◌}
-use Rattle.slot_laws.specs.PathNumberLaws.{shift-reaches}
+use Rattle.slot_laws.proofs.PathNumberLaws.{shift-reaches}
 use borrow.Author.Rules.{rules}
 use Rattle.tree_paths.proofs.path_bucket.Goals as goal
 

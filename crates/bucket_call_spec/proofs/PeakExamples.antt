@@ -17,7 +17,7 @@ use Rattle.leaf_spec.specs.Leaf.{read_leaf}
 use Rattle.bucket_call_spec.specs.Fetch.{moved_link, moved_node, closing, count_at_close, at_close, idle_round, took_round, want_round, fetch_round, fetch_rounds}
 use Rattle.bucket_call_spec.specs.Call.{Store, draw_of, put_rounds, after_puts, after_fetches, bucket_call}
 use Rattle.bucket_call_spec.specs.Peak.{then_rounds, rounds_from, counts_of, puts_after, call_rounds, call_peak}
-use Rattle.bucket_call_spec.specs.Examples.{empty, left_by, first}
+use Rattle.bucket_call_spec.proofs.Examples.{empty, left_by, first}
 
 -- The numbers at the closes of a push or a pop on a stack of size 2.
 abbrev push_counts : List ℕ → Store → List ℕ

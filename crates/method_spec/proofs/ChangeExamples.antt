@@ -6,7 +6,7 @@ use Rattle.method_spec.specs.Plain.{Pair}
 use Rattle.method_spec.specs.Call.{Ran}
 use Rattle.method_spec.specs.Changes.{key_asked, value_asked, taken_out, brought_in, tracked_in}
 use Rattle.method_spec.specs.Origin.{drawn, no_draw, leaf_of}
-use Rattle.method_spec.specs.Examples.{after}
+use Rattle.method_spec.proofs.Examples.{after}
 
 abbrev pair : (key value : ℕ) → Pair
 pair k v = record { key = k; value = v }

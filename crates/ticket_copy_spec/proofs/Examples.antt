@@ -2,7 +2,7 @@
 use Rattle.std.specs.Prelude.{ℕ, ◌≡◌, refl, true, false, List, [], ◌∷◌, ◌++◌, map}
 use Rattle.slot_spec.specs.LittleEndian.{value}
 use Rattle.state_spec.specs.Ticket.{fields_used}
-use Rattle.state_spec.specs.Examples.{full, keyed, valued, bare, every_kind}
+use Rattle.state_spec.proofs.Examples.{full, keyed, valued, bare, every_kind}
 use Rattle.ticket_copy_spec.specs.Copy.{ticket_copy, differ, changed, copied, changed_among, file_copy, changed_in}
 
 -- Every kind with both fields, and its copy: get, put, remove; push, pop; add, take; in, out. Each but the put is changed.

@@ -1,0 +1,2 @@
+pub mod Examples
+pub mod PeakExamples

@@ -1,0 +1,3 @@
+pub mod FullPutExamples
+pub mod UnusedFieldExamples
+pub mod HostExamples

@@ -1,0 +1,2 @@
+pub mod PathNumberLaws
+pub mod Examples

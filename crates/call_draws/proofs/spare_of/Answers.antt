@@ -10,27 +10,26 @@ use Rattle.call_draws.proofs.spare_of.Goals as goal
 pub returns-in-1 : goal.returns-in-1
 returns-in-1 c =
     let a = c.args in
-    let e : a.structure ≡ 1 = c.in-1.keys1 in
+    let e : a.structure ≡ 1 = c.in-1.is in
     let m : structure_of a.structure ≡ map = rw e in
     (rw (m, spare-map), omega arith)
 
 pub returns-in-2 : goal.returns-in-2
 returns-in-2 c =
     let a = c.args in
-    let e : a.structure ≡ 2 = c.in-1.keys2 in
+    let e : a.structure ≡ 2 = c.in-2.is in
     let m : structure_of a.structure ≡ stack = rw e in
     (rw (m, spare-stack), omega arith)
 
 pub returns-in-3 : goal.returns-in-3
 returns-in-3 c =
     let a = c.args in
-    let e : a.structure ≡ 3 = c.in-1.keys3 in
+    let e : a.structure ≡ 3 = c.in-3.is in
     let m : structure_of a.structure ≡ heap = rw e in
     (rw (m, spare-heap), omega arith)
 
 pub returns-in_default : goal.returns-in_default
 returns-in_default c =
     let a = c.args in
-    let r = c.in-1.rest in
-    let m : structure_of a.structure ≡ queue = rw (ne_eqb a.structure 1 r.0.0.1, ne_eqb a.structure 2 r.0.1, ne_eqb a.structure 3 r.1) in
+    let m : structure_of a.structure ≡ queue = rw (ne_eqb a.structure 1 (λ e. omega arith), ne_eqb a.structure 2 (λ e. omega arith), ne_eqb a.structure 3 (λ e. omega arith)) in
     (rw (m, spare-queue), omega arith)

@@ -11,7 +11,6 @@ ghost use Rattle.std.specs.Prelude.{◌≤◌, length};
 ghost use Rattle.named_files.specs.Names.{longest_name};
 
 use input::{read_calls, read_head};
-use libc::STDOUT_FILENO;
 use messages::{say_no_file, say_usage};
 use named_files::LONGEST_NAME;
 use opening::open;
@@ -19,6 +18,9 @@ use readout_outcomes::read_into;
 use readout_spec::{COUNT_WIDTH, INDEX_WIDTH, MOST_ITEMS, VALUE_WIDTH};
 use state_spec::State;
 use walk_input::{LARGEST_TREE, tree_lent};
+
+// The descriptor of the standard output.
+const STDOUT_FILENO: i32 = 1;
 
 // The longest file. Each slot and each waiting place that holds a node gives an entry, of 16 bytes, or a line of the report, of
 // 5: no file is longer than that of the most nodes, all good and with other keys.

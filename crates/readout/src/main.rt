@@ -87,10 +87,7 @@ fn main(rt: HostRuntime) {
     match rt.arg(1, &mut space) {
         Err(FillError::NotPresent) => run(&rt, b""),
         Err(FillError::TooLong) => {
-            say_failed(
-                b"readout: the name",
-                &Error::from_raw_os_error(TOO_LONG),
-            );
+            say_failed(b"readout: the name", &Error::from_raw_os_error(TOO_LONG));
         }
         Ok(length) => {
             if length == 0 {

@@ -66,7 +66,14 @@ fn write_copy(out: &mut impl Write, piece: &[u8], copy: &mut [u8], new: &[u8]) -
 }
 
 // Copies one piece, by way of two rooms: what came stands in the first, its copy in the second.
-fn copy_some(file: &mut impl Read, out: &mut impl Write, piece: &mut [u8], copy: &mut [u8], old: &[u8], new: &[u8]) -> Turn
+fn copy_some(
+    file: &mut impl Read,
+    out: &mut impl Write,
+    piece: &mut [u8],
+    copy: &mut [u8],
+    old: &[u8],
+    new: &[u8],
+) -> Turn
     requires { (length piece.old ≡ longest_piece) × (length copy.old ≡ longest_piece) × (length old.now ≤ longest_name) × (length new.now ≤ longest_name) }
     ensures { Copies result.came result.changed piece.new copy.new }
 {

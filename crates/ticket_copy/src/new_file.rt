@@ -41,13 +41,7 @@ fn copy_by(
 }
 
 // Copies the file that is open, of which that is known.
-pub fn copy(
-    rt: &(impl Files + Print),
-    file: &mut impl Read,
-    facts: Facts,
-    old: &[u8],
-    new: &[u8],
-)
+pub fn copy(rt: &(impl Files + Print), file: &mut impl Read, facts: Facts, old: &[u8], new: &[u8])
     requires { (length old.now ≤ longest_name) × (length new.now ≤ longest_name) }
 {
     let mut space = [0u8; LONGEST_TEMP];

@@ -9,12 +9,18 @@ ghost use Rattle.state_spec.specs.Fit.{largest_size};
 use call_draws::{MOST_DRAWS, MOST_LEAVES, draws_of, rounds_of};
 use call_spec::{Called, Reply};
 use checksums::join;
-use libc::{STDERR_FILENO, STDIN_FILENO, STDOUT_FILENO};
 use opening::open;
 use operation_spec::Answer;
 use state_spec::State;
 use tickets::TICKET_LENGTH;
 use walk_input::{HEAD_LENGTH, LARGEST_TREE, read_tape, tree_lent};
+
+// The descriptors of the standard input, output and error.
+const STDIN_FILENO: i32 = 0;
+
+const STDOUT_FILENO: i32 = 1;
+
+const STDERR_FILENO: i32 = 2;
 
 // The input is read in blocks.
 const BLOCK: usize = 65536;
@@ -116,9 +122,7 @@ fn refill(block: &mut [u8], held: usize) -> usize
     requires { held ≤ length block.old }
     ensures { (held ≤ result) × (result ≤ length block.new) }
 {
-    let rest: &mut [u8] = &mut block[held..];
-    let got = libc::read(STDIN_FILENO, rest);
-    held + io::count(got, rest)
+    held + io::read_full(STDIN_FILENO, &mut block[held..])
 }
 
 // The bytes of a block from `from` up to `to` move to its start; how many they are.

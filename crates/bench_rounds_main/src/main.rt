@@ -4,18 +4,22 @@
 #![tactic(auto)]
 
 ghost use Rattle.std.specs.Prelude.{◌≡◌, false, ◌≤◌, ◌<◌, length};
+ghost use Rattle.io.specs.Counts.{IsPrefixLen};
 ghost use Rattle.word_round_laws.specs.SlotRow.{places, row_length, path_slots};
 ghost use Rattle.test_rounds.specs.Single.{Resting, Rests};
 ghost use Rattle.bench_rounds_main.specs.Run.{size, nodes, Ran};
 
 use checksums::{join, xorshift};
-use libc::STDOUT_FILENO;
 use path_reader::Wish;
 use path_slots::PATH_SLOTS;
 use slot_fields::no_link;
 use slot_row::{ROW_LENGTH, get};
 use slot_spec::Node;
+use std::env::Env;
 use test_rounds::{Closed, round, take_round, wait};
+
+// The descriptor of the standard output.
+const STDOUT_FILENO: i32 = 1;
 
 const SIZE: usize = 8;
 
@@ -204,10 +208,20 @@ fn line(label: &[u8], n: u64) {
     io::write_all(STDOUT_FILENO, b"\n");
 }
 
+// Puts an argument at the start of a buffer; how long it is, or 0 where it is missing or longer than the buffer.
+fn argument(rt: &impl Env, i: usize, out: &mut [u8]) -> usize
+    ensures { IsPrefixLen result out.new }
+{
+    match rt.arg(i, out) {
+        Ok(length) => length,
+        Err(_) => 0,
+    }
+}
+
 // The number that the first argument's digits are.
-fn rounds_asked() -> u64 {
+fn rounds_asked(rt: &impl Env) -> u64 {
     let mut text = [0u8; 16];
-    let n = os::arg(1, &mut text);
+    let n = argument(rt, 1, &mut text);
     let mut rounds = 0;
     let mut i = 0;
     while i < n {
@@ -222,8 +236,8 @@ fn rounds_asked() -> u64 {
     rounds
 }
 
-fn main() {
-    let rounds = rounds_asked();
+fn main(rt: HostRuntime) {
+    let rounds = rounds_asked(&rt);
     let mut w = [0u8; ROW_LENGTH];
     let mut tree = [0u8; TREE_LENGTH];
     let mut tags = [0u8; NODES];

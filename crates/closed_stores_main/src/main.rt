@@ -6,10 +6,14 @@
 ghost use Rattle.std.specs.Prelude.{◌≡◌, ◌≤◌, length};
 ghost use Rattle.store_records.specs.Records.{most_bytes};
 
-use libc::{STDERR_FILENO, STDOUT_FILENO};
 use readout_outcomes::{Outcome, read_into};
 use state_spec::State;
 use store_records::{Came, HEAD_LENGTH, MOST_BYTES, read_record, state_of};
+
+// The descriptors of the standard output and error.
+const STDOUT_FILENO: i32 = 1;
+
+const STDERR_FILENO: i32 = 2;
 
 // What an output buffer holds at first.
 const FILLED: u8 = 165;

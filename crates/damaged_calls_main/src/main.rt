@@ -10,7 +10,6 @@ ghost use Rattle.walk_spec.specs.Input.{record_length};
 use call_draws::MOST_LEAVES;
 use input_calls::{call_in, read_record};
 use input_opening::{open_input, print_short};
-use libc::{STDIN_FILENO, STDOUT_FILENO};
 use peak_lines::peak_line;
 use round_close::greater;
 use state_spec::State;
@@ -18,6 +17,11 @@ use text_writer::LONGEST_LINE;
 use walk_input::{LARGEST_TREE, LONGEST_RECORD, tree_lent};
 use walk_lines::line;
 use walk_spec::Arrived;
+
+// The descriptors of the standard input and output.
+const STDIN_FILENO: i32 = 0;
+
+const STDOUT_FILENO: i32 = 1;
 
 // The bytes of a place and an amount.
 const DAMAGE_LENGTH: usize = 5;

@@ -8,8 +8,10 @@ use super::rows::{byte, number};
 use super::trees::{checksum, filled, put_slot};
 use call_draws::MOST_LEAVES;
 use call_spec::Reply;
-use libc::STDOUT_FILENO;
 use opening::open;
+
+// The descriptor of the standard output.
+const STDOUT_FILENO: i32 = 1;
 
 // What X says is printed: the number of a refusal, and whether all that was lent is as it was and the peak is 0 (0); of an opening (1);
 // how many nodes wait (2); the line that the walk program would print (3), and then whether the tree is unchanged (4).

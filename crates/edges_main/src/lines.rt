@@ -3,9 +3,11 @@ ghost use Rattle.std.specs.Prelude.{◌≤◌, length};
 ghost use Rattle.walk_spec.specs.Lines.{most_leaves};
 
 use call_spec::Reply;
-use libc::STDOUT_FILENO;
 use text_writer::LONGEST_LINE;
 use walk_lines::line;
+
+// The descriptor of the standard output.
+const STDOUT_FILENO: i32 = 1;
 
 pub fn number(n: u16, ending: &[u8]) {
     io::print_decimal(STDOUT_FILENO, n as u64);

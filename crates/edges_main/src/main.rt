@@ -10,8 +10,10 @@ mod states;
 mod trees;
 
 use cases::case;
-use libc::STDIN_FILENO;
 use rows::{end_of, row_of};
+
+// The descriptor of the standard input.
+const STDIN_FILENO: i32 = 0;
 
 // A line with a label is a case. One without gives numbers that the lines after it leave out.
 fn line(usual: [usize; 128], text: &[u8]) -> [usize; 128] {

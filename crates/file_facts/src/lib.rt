@@ -2,11 +2,12 @@
 #![tactic(auto)]
 
 ghost use Rattle.std.specs.Prelude.{◌≡◌, ◌<◌, length};
-ghost use Rattle.libc.specs.Io.{Ended};
 ghost use Rattle.file_facts.specs.Modes.{there, regular, same_file, permission_bits};
 
-use libc::PATH_MAX;
-use libc::types::{stat, timespec};
+use std::fs::Metadata;
+use std::os::unix::fs::MetadataExt;
+use std::rt::Files;
+use std::{fs, str};
 
 // The file's device and its number there; its kind and its permissions. The mode 0 says that there is no file: none has it.
 #[derive(Clone, Copy)]
@@ -16,62 +17,32 @@ pub struct Facts {
     pub mode: u32,
 }
 
-// The name as C takes it, with a 0 after it.
-fn path_of(name: &[u8]) -> [u8; PATH_MAX]
-    requires { length name.now < 4096 }
-    ensures { Ended result }
-{
-    let mut path = [0u8; PATH_MAX];
-    let mut i = 0;
-    while i < name.len() {
-        path[i] = name[i];
-        i += 1;
-    }
-    path
-}
-
-fn blank() -> stat {
-    let never = timespec {
-        tv_sec: 0,
-        tv_nsec: 0,
-    };
-    stat {
-        st_dev: 0,
-        st_ino: 0,
-        st_nlink: 0,
-        st_mode: 0,
-        st_uid: 0,
-        st_gid: 0,
-        __pad: 0,
-        st_rdev: 0,
-        st_size: 0,
-        st_blksize: 0,
-        st_blocks: 0,
-        st_atim: never,
-        st_mtim: never,
-        st_ctim: never,
-        __unused: [0i64; 3],
-    }
-}
-
-// What C's stat leaves of `unknown`: where there is no such file, all.
-fn filled(path: &[u8; PATH_MAX], unknown: stat) -> stat
-    requires { Ended path.now }
-{
-    let mut found = unknown;
-    libc::stat(path, &mut found);
-    found
-}
-
-pub fn facts_of(name: &[u8]) -> Facts
-    requires { length name.now < 4096 }
-{
-    let path = path_of(name);
-    let found = filled(&path, blank());
+fn blank() -> Facts {
     Facts {
-        device: found.st_dev,
-        number: found.st_ino,
-        mode: found.st_mode,
+        device: 0,
+        number: 0,
+        mode: 0,
+    }
+}
+
+fn filled(found: Metadata) -> Facts {
+    Facts {
+        device: found.dev(),
+        number: found.ino(),
+        mode: found.mode(),
+    }
+}
+
+// A name that is no text leads to no file that the library can reach.
+pub fn facts_of(files: &impl Files, name: &[u8]) -> Facts
+    requires { length name.now < 4096 }
+{
+    let Ok(path) = str::from_utf8(name) else {
+        return blank();
+    };
+    match fs::metadata(files, path) {
+        Ok(found) => filled(found),
+        Err(_) => blank(),
     }
 }
 

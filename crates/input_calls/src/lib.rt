@@ -11,11 +11,13 @@ ghost use Rattle.call_spec.specs.Store.{call_ended_as};
 
 use call_draws::{MOST_DRAWS, draws_of, rounds_of};
 use call_spec::{Called, Reply};
-use libc::STDIN_FILENO;
 use state_spec::State;
 use tickets::TICKET_LENGTH;
 use walk_input::{LONGEST_RECORD, arrived, read_tape, record_length};
 use walk_spec::Arrived;
+
+// The descriptor of the standard input.
+const STDIN_FILENO: i32 = 0;
 
 // Reads the bytes of a call, in pieces of any length, to the start of `input`; how they came.
 pub fn read_record(structure: u8, size: u8, input: &mut [u8]) -> Arrived

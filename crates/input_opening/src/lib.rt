@@ -7,12 +7,16 @@ ghost use Rattle.state_spec.specs.Fit.{largest_size};
 ghost use Rattle.walk_spec.specs.Input.{largest_tree};
 
 use call_spec::Reply;
-use libc::{STDIN_FILENO, STDOUT_FILENO};
 use opening::open;
 use state_spec::State;
 use text_writer::LONGEST_LINE;
 use walk_input::{HEAD_LENGTH, tree_lent};
 use walk_lines::{line, short_line};
+
+// The descriptors of the standard input and output.
+const STDIN_FILENO: i32 = 0;
+
+const STDOUT_FILENO: i32 = 1;
 
 // The last line where the input ends within its head or within a call.
 pub fn print_short() {

@@ -5,8 +5,10 @@
 ghost use Rattle.std.specs.Prelude.{◌^◌, ◌<◌, ◌≤◌};
 
 use checksums::join;
-use libc::STDOUT_FILENO;
 use tree_paths::{leaves, passes_bucket, path_bucket};
+
+// The descriptor of the standard output.
+const STDOUT_FILENO: i32 = 1;
 
 const LARGEST_SIZE: usize = 15;
 

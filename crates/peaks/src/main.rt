@@ -8,13 +8,15 @@ ghost use Rattle.state_spec.specs.Fit.{largest_size};
 use call_draws::MOST_LEAVES;
 use input_calls::next_call;
 use input_opening::{open_input, print_short};
-use libc::STDOUT_FILENO;
 use peak_lines::peak_line;
 use round_close::greater;
 use state_spec::State;
 use text_writer::LONGEST_LINE;
 use walk_input::{LARGEST_TREE, tree_lent};
 use walk_spec::Arrived;
+
+// The descriptor of the standard output.
+const STDOUT_FILENO: i32 = 1;
 
 // The state after one more call of the input, the largest peak so far, and whether to read on.
 #[derive(Clone, Copy)]

@@ -5,10 +5,12 @@ ghost use Rattle.state_spec.specs.Fit.{largest_size};
 use super::messages::say_short;
 use call_draws::MOST_LEAVES;
 use input_calls::next_call;
-use libc::STDIN_FILENO;
 use state_spec::State;
 use walk_input::HEAD_LENGTH;
 use walk_spec::Arrived;
+
+// The descriptor of the standard input.
+const STDIN_FILENO: i32 = 0;
 
 // What a store is opened with.
 #[derive(Clone, Copy)]

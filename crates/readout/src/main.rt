@@ -11,32 +11,37 @@ ghost use Rattle.std.specs.Prelude.{◌≤◌, length};
 ghost use Rattle.named_files.specs.Names.{longest_name};
 
 use input::{read_calls, read_head};
-use libc::STDOUT_FILENO;
 use messages::{say_no_file, say_usage};
-use named_files::LONGEST_NAME;
+use named_files::{LONGEST_NAME, say_failed};
 use opening::open;
 use readout_outcomes::read_into;
 use readout_spec::{COUNT_WIDTH, INDEX_WIDTH, MOST_ITEMS, VALUE_WIDTH};
 use state_spec::State;
+use std::env::{Env, FillError};
+use std::io::{Error, Print};
+use std::rt::Files;
 use walk_input::{LARGEST_TREE, tree_lent};
 
 // The longest file. Each slot and each waiting place that holds a node gives an entry, of 16 bytes, or a line of the report, of
 // 5: no file is longer than that of the most nodes, all good and with other keys.
 const LARGEST_FILE: usize = COUNT_WIDTH + (INDEX_WIDTH + VALUE_WIDTH) * MOST_ITEMS;
 
+// The system's number for an argument that is too long.
+const TOO_LONG: i32 = 36;
+
 // The file goes to the name's new file, or with no name to the standard output.
-fn put(file: &[u8], name: &[u8])
+fn put(rt: &(impl Files + Print), file: &[u8], name: &[u8])
     requires { length name.now ≤ longest_name }
 {
     if name.len() != 0 {
-        return new_file::put(file, name);
+        return new_file::put(rt, file, name);
     }
-    if !io::write_all(STDOUT_FILENO, file) {
-        os::fail(b"readout: the standard output");
+    if let Err(error) = rt.write_all(file) {
+        say_failed(b"readout: the standard output", &error);
     }
 }
 
-fn read_out_to(state: State, tree: &[u8], name: &[u8])
+fn read_out_to(rt: &(impl Files + Print), state: State, tree: &[u8], name: &[u8])
     requires { length name.now ≤ longest_name }
 {
     let mut out = [0u8; LARGEST_FILE];
@@ -45,11 +50,11 @@ fn read_out_to(state: State, tree: &[u8], name: &[u8])
         return say_no_file(outcome.number);
     }
     let length = outcome.length;
-    put(&out[..length], name);
+    put(rt, &out[..length], name);
 }
 
 // Opens a store, makes the calls and reads the store out as it is then.
-fn run(name: &[u8])
+fn run(rt: &(impl Files + Print), name: &[u8])
     requires { length name.now ≤ longest_name }
 {
     let head = read_head();
@@ -58,27 +63,37 @@ fn run(name: &[u8])
     let tree: &mut [u8] = &mut space[..length];
     let opened = open(head.structure, head.size, tree);
     if opened.mark != 0 {
-        return read_out_to(opened, tree, name);
+        return read_out_to(rt, opened, tree, name);
     }
     let state = read_calls(opened, tree);
-    read_out_to(state, tree, name);
+    read_out_to(rt, state, tree, name);
 }
 
-fn main() {
+// Whether there is an argument of this number, of any length.
+fn has_argument(rt: &impl Env, i: usize) -> bool {
+    let mut none = [0u8; 1];
+    match rt.arg(i, &mut none) {
+        Ok(_) => true,
+        Err(FillError::TooLong) => true,
+        Err(FillError::NotPresent) => false,
+    }
+}
+
+fn main(rt: HostRuntime) {
     let mut space = [0u8; LONGEST_NAME];
-    let words = os::arg_count();
-    if words < 2 {
-        return run(b"");
-    }
-    if 2 < words {
+    if has_argument(&rt, 2) {
         return say_usage();
     }
-    let length = os::arg(1, &mut space);
-    if os::errno() != 0 {
-        return os::fail(b"readout: the name");
+    match rt.arg(1, &mut space) {
+        Err(FillError::NotPresent) => run(&rt, b""),
+        Err(FillError::TooLong) => {
+            say_failed(b"readout: the name", &Error::from_raw_os_error(TOO_LONG));
+        }
+        Ok(length) => {
+            if length == 0 {
+                return say_usage();
+            }
+            run(&rt, &space[..length]);
+        }
     }
-    if length == 0 {
-        return say_usage();
-    }
-    run(&space[..length]);
 }

@@ -1,5 +1,7 @@
 // The lines on the standard error.
-use libc::STDERR_FILENO;
+
+// The descriptor of the standard error.
+const STDERR_FILENO: i32 = 2;
 
 fn say(line: &[u8]) {
     io::write_all(STDERR_FILENO, line);

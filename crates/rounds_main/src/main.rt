@@ -11,13 +11,15 @@ ghost use Rattle.word_round_laws.specs.SlotRow.{places, row_length, path_slots};
 ghost use Rattle.test_rounds.specs.Single.{Resting, Rests};
 
 use bucket_writer::read_slot;
-use libc::STDOUT_FILENO;
 use path_reader::Wish;
 use path_slots::PATH_SLOTS;
 use slot_fields::{no_link, node_of};
 use slot_row::{ROW_LENGTH, get};
 use slot_spec::{Node, Reading, SLOT_LENGTH};
 use test_rounds::{Closed, round, take_round, wait};
+
+// The descriptor of the standard output.
+const STDOUT_FILENO: i32 = 1;
 
 const SIZE: usize = 2;
 

@@ -1,9 +1,11 @@
 // Writes a node to a slot of a small tree, prints the slot's bytes, and reads the node back.
 #![tactic(auto)]
 
-use libc::STDOUT_FILENO;
 use slot_fields::no_link;
 use slot_spec::{Node, Reading};
+
+// The descriptor of the standard output.
+const STDOUT_FILENO: i32 = 1;
 
 fn line(label: &[u8], n: u64) {
     io::write_all(STDOUT_FILENO, label);

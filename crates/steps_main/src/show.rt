@@ -2,9 +2,11 @@
 ghost use Rattle.std.specs.Prelude.{◌≤◌};
 
 use super::memory::{Memory, next_from};
-use libc::STDOUT_FILENO;
 use operation_spec::{Answer, StepAnswer};
 use slot_spec::{Link, Node};
+
+// The descriptor of the standard output.
+const STDOUT_FILENO: i32 = 1;
 
 fn text(words: &[u8]) {
     io::write_all(STDOUT_FILENO, words);

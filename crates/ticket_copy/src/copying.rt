@@ -1,11 +1,12 @@
 // The bytes, piece by piece. A piece is so many whole tickets; the last one may be shorter.
 ghost use Rattle.std.specs.Prelude.{◌≡◌, ◌≤◌, length};
 ghost use Rattle.ticket_copy_spec.specs.Copy.{file_copy, changed_in};
-ghost use Rattle.io.specs.Counts.{IsPrefixLen};
+ghost use Rattle.std.specs.Io.{ReadsAtMost};
 ghost use Rattle.named_files.specs.Names.{longest_name};
 ghost use Rattle.ticket_copy.specs.Pieces.{longest_piece, Copies};
 
 use named_files::{fail, write};
+use std::io::{Error, Read, Write};
 use ticket_pieces::copy_piece;
 use tickets::TICKET_LENGTH;
 
@@ -13,13 +14,6 @@ const PIECE: usize = 4096 * TICKET_LENGTH;
 
 // More turns than a run makes, and so few that no count of tickets passes 64 bits.
 const MOST_TURNS: u64 = u64::MAX / 4096;
-
-// How many bytes came. A read that failed is no end.
-#[derive(Clone, Copy)]
-struct Arrival {
-    failed: bool,
-    length: usize,
-}
 
 // How a piece was copied: whether it was, how many bytes came, and how many tickets were changed.
 #[derive(Clone, Copy)]
@@ -35,32 +29,19 @@ pub struct Copied {
     pub changed: u64,
 }
 
-// Reads until the piece is full, the file ends or a read fails.
-fn read_piece(fd: i32, piece: &mut [u8]) -> Arrival
-    ensures { IsPrefixLen result.length piece.new }
+// Reads until the piece is full, the file ends or a read fails. How many bytes came: a read that failed is no end.
+fn read_piece(file: &mut impl Read, piece: &mut [u8]) -> Result<usize, Error>
+    ensures { ReadsAtMost result piece.new }
 {
     let mut length = 0;
     while length < piece.len() {
-        let got = libc::read(fd, &mut piece[length..]);
-        if got < 0 {
-            return Arrival {
-                failed: true,
-                length: 0,
-            };
-        }
-        let more = io::count(got, &piece[length..]);
+        let more = file.read(&mut piece[length..])?;
         if more == 0 {
-            return Arrival {
-                failed: false,
-                length,
-            };
+            return Ok(length);
         }
         length += more;
     }
-    Arrival {
-        failed: false,
-        length,
-    }
+    Ok(length)
 }
 
 // Room for a piece. The `ensures` gives its length, which lending a part of it needs.
@@ -71,7 +52,7 @@ fn room() -> [u8; PIECE]
 }
 
 // Copies a piece that came, by way of a room of its length, and writes the copy.
-fn write_copy(out: i32, piece: &[u8], copy: &mut [u8], new: &[u8]) -> Turn
+fn write_copy(out: &mut impl Write, piece: &[u8], copy: &mut [u8], new: &[u8]) -> Turn
     requires { (length copy.old ≡ length piece.now) × (length piece.now ≤ longest_piece) × (length new.now ≤ longest_name) }
     ensures { (copy.new ≡ file_copy piece.now) × (result.changed ≡ changed_in piece.now) × (result.came ≡ length piece.now) }
 {
@@ -85,26 +66,33 @@ fn write_copy(out: i32, piece: &[u8], copy: &mut [u8], new: &[u8]) -> Turn
 }
 
 // Copies one piece, by way of two rooms: what came stands in the first, its copy in the second.
-fn copy_some(fd: i32, out: i32, piece: &mut [u8], copy: &mut [u8], old: &[u8], new: &[u8]) -> Turn
+fn copy_some(
+    file: &mut impl Read,
+    out: &mut impl Write,
+    piece: &mut [u8],
+    copy: &mut [u8],
+    old: &[u8],
+    new: &[u8],
+) -> Turn
     requires { (length piece.old ≡ longest_piece) × (length copy.old ≡ longest_piece) × (length old.now ≤ longest_name) × (length new.now ≤ longest_name) }
     ensures { Copies result.came result.changed piece.new copy.new }
 {
-    let arrived = read_piece(fd, piece);
-    if arrived.failed {
-        fail(b"ticket_copy: ", b"cannot read ", old);
-        return Turn {
-            done: false,
-            came: 0,
-            changed: 0,
-        };
+    match read_piece(file, piece) {
+        Ok(length) => write_copy(out, &piece[..length], &mut copy[..length], new),
+        Err(error) => {
+            fail(b"ticket_copy: ", b"cannot read ", old, &error);
+            Turn {
+                done: false,
+                came: 0,
+                changed: 0,
+            }
+        }
     }
-    let length = arrived.length;
-    write_copy(out, &piece[..length], &mut copy[..length], new)
 }
 
 // Copies the file. A piece that is not full is the last. A proved loop has to end, and nothing says that a file does: the loop counts
 // its turns down from a number that no run uses up.
-pub fn copy_all(fd: i32, out: i32, old: &[u8], new: &[u8]) -> Copied
+pub fn copy_all(file: &mut impl Read, out: &mut impl Write, old: &[u8], new: &[u8]) -> Copied
     requires { (length old.now ≤ longest_name) × (length new.now ≤ longest_name) }
 {
     let mut piece = room();
@@ -112,7 +100,7 @@ pub fn copy_all(fd: i32, out: i32, old: &[u8], new: &[u8]) -> Copied
     let mut changed: u64 = 0;
     let mut turns = MOST_TURNS;
     while turns > 0 {
-        let turn = copy_some(fd, out, &mut piece, &mut copy, old, new);
+        let turn = copy_some(file, out, &mut piece, &mut copy, old, new);
         if !turn.done {
             return Copied {
                 whole: false,

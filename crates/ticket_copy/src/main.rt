@@ -8,44 +8,87 @@ mod copying;
 mod messages;
 mod new_file;
 
-ghost use Rattle.std.specs.Prelude.{◌≤◌, length};
+ghost use Rattle.std.specs.Prelude.{◌≤◌, length, IfSome};
+ghost use Rattle.io.specs.Counts.{IsPrefixLen};
 ghost use Rattle.named_files.specs.Names.{longest_name};
 
 use checks::may_replace;
 use file_facts::facts_of;
 use messages::{say_empty, say_usage};
-use named_files::{LONGEST_NAME, fail};
+use named_files::{LONGEST_NAME, fail, path_of, say_failed};
+use std::env::{Env, FillError};
+use std::fs;
+use std::io::{Error, Print};
+use std::rt::Files;
 
-fn run(old: &[u8], new: &[u8])
-    requires { (length old.now ≤ longest_name) × (length new.now ≤ longest_name) }
-{
-    let fd = os::open_read(old);
-    if fd < 0 {
-        return fail(b"ticket_copy: ", b"cannot open ", old);
-    }
-    let facts = facts_of(old);
-    if may_replace(facts, old, new) {
-        new_file::copy(fd, facts, old, new);
-    }
-    libc::close(fd);
+// The system's numbers for an argument that is not there, and for one that is too long.
+const MISSING: i32 = 22;
+
+const TOO_LONG: i32 = 36;
+
+fn open_read<F: Files>(files: &F, name: &[u8]) -> Result<F::File, Error> {
+    fs::open(files, path_of(name)?)
 }
 
-fn main() {
+fn run(rt: &(impl Files + Print), old: &[u8], new: &[u8])
+    requires { (length old.now ≤ longest_name) × (length new.now ≤ longest_name) }
+{
+    match open_read(rt, old) {
+        Ok(mut file) => {
+            let facts = facts_of(rt, old);
+            if may_replace(rt, facts, old, new) {
+                new_file::copy(rt, &mut file, facts, old, new);
+            }
+        }
+        Err(error) => fail(b"ticket_copy: ", b"cannot open ", old, &error),
+    }
+}
+
+// Whether there is an argument of this number, of any length.
+fn has_argument(rt: &impl Env, i: usize) -> bool {
+    let mut none = [0u8; 1];
+    match rt.arg(i, &mut none) {
+        Ok(_) => true,
+        Err(FillError::TooLong) => true,
+        Err(FillError::NotPresent) => false,
+    }
+}
+
+// Why an argument did not come.
+fn reason(error: FillError) -> Error {
+    match error {
+        FillError::NotPresent => Error::from_raw_os_error(MISSING),
+        FillError::TooLong => Error::from_raw_os_error(TOO_LONG),
+    }
+}
+
+// Puts an argument at the start of a buffer. How long it is; where it does not come, that is said.
+fn name_in(rt: &impl Env, i: usize, out: &mut [u8], what: &[u8]) -> Option<usize>
+    ensures { IfSome result (λ n. IsPrefixLen n out.new) }
+{
+    match rt.arg(i, out) {
+        Ok(length) => Some(length),
+        Err(error) => {
+            say_failed(what, &reason(error));
+            None
+        }
+    }
+}
+
+fn main(rt: HostRuntime) {
     let mut old_space = [0u8; LONGEST_NAME];
     let mut new_space = [0u8; LONGEST_NAME];
-    if os::arg_count() != 3 {
+    if !has_argument(&rt, 2) || has_argument(&rt, 3) {
         return say_usage();
     }
-    let old_length = os::arg(1, &mut old_space);
-    if os::errno() != 0 {
-        return os::fail(b"ticket_copy: the first name");
-    }
-    let new_length = os::arg(2, &mut new_space);
-    if os::errno() != 0 {
-        return os::fail(b"ticket_copy: the second name");
-    }
+    let Some(old_length) = name_in(&rt, 1, &mut old_space, b"ticket_copy: the first name") else {
+        return;
+    };
+    let Some(new_length) = name_in(&rt, 2, &mut new_space, b"ticket_copy: the second name") else {
+        return;
+    };
     if old_length == 0 || new_length == 0 {
         return say_empty();
     }
-    run(&old_space[..old_length], &new_space[..new_length]);
+    run(&rt, &old_space[..old_length], &new_space[..new_length]);
 }

@@ -1,5 +1,9 @@
 // The lines on the standard error, and the number on the standard output.
-use libc::{STDERR_FILENO, STDOUT_FILENO};
+use named_files::say_failed;
+use std::io::Print;
+
+// The descriptor of the standard error.
+const STDERR_FILENO: i32 = 2;
 
 fn say(text: &[u8]) {
     io::write_all(STDERR_FILENO, text);
@@ -27,8 +31,8 @@ pub fn say_not_regular(new: &[u8]) {
     say(b" is not a regular file\n");
 }
 
-pub fn print(count: u64) {
-    if !(io::print_decimal(STDOUT_FILENO, count) && io::write_all(STDOUT_FILENO, b"\n")) {
-        os::fail(b"ticket_copy: the standard output");
+pub fn print(rt: &impl Print, count: u64) {
+    if let Err(error) = rt.println(count) {
+        say_failed(b"ticket_copy: the standard output", &error);
     }
 }

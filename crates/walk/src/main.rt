@@ -12,12 +12,14 @@ ghost use Rattle.walk_spec.specs.Walk.{call_in, Printed};
 use call_draws::MOST_LEAVES;
 use input_calls::{call_in, read_record};
 use input_opening::{open_input, print_short};
-use libc::STDOUT_FILENO;
 use state_spec::State;
 use text_writer::LONGEST_LINE;
 use walk_input::{LARGEST_TREE, LONGEST_RECORD, tree_lent};
 use walk_lines::line;
 use walk_spec::Arrived;
+
+// The descriptor of the standard output.
+const STDOUT_FILENO: i32 = 1;
 
 // What a call of the input leaves: the state, and the length of its line.
 #[derive(Clone, Copy)]

@@ -6,7 +6,6 @@ use Rattle.std.specs.Prelude.{◌≡◌, refl, Bool, true, false, eqb, ltb, get_
 use Rattle.std.proofs.Math.Path.{sym, ap}
 use mathlib.Core.List.{List, [], ◌∷◌, ◌++◌}
 use Rattle.list_spec.specs.Choice.{pick}
-use Rattle.method_spec.specs.Node.{Node}
 use Rattle.method_spec.specs.Prog.{Want}
 use Rattle.method_spec.specs.Map.{Step, step_at, below, swapped}
 use Rattle.slot_spec.specs.declared.Node as node

@@ -1,7 +1,6 @@
 -- The walk down, by the numbers of the fetched nodes.
 use Rattle.std.specs.Prelude.{ℕ, zero, suc, ◌≤◌, ◌<◌, ◌≡◌, Bool, true, List, [], ◌∷◌, ltb, drop}
 use Rattle.list_spec.specs.Choice.{pick}
-use Rattle.method_spec.specs.Node.{Link}
 use Rattle.method_spec.specs.Prog.{Want, Prog, want}
 use Rattle.method_spec.specs.Map.{Step, Spot, gap, hit, Lowest, step_at, below, walk, lowest}
 use Rattle.slot_spec.specs.declared.Link as link

@@ -4,7 +4,7 @@ use Rattle.std.proofs.Common.{arith, add-one, ◌∙◌, subst, eq-eqb, ne_eqb}
 use Rattle.std.specs.Prelude.{◌≡◌, Bool, List, [], ◌∷◌, ltb, length, drop}
 use Rattle.std.proofs.Math.Path.{refl, sym, ap}
 use Rattle.method_spec.specs.Node.{Node}
-use Rattle.method_spec.specs.Prog.{Want, want}
+use Rattle.method_spec.specs.Prog.{Want}
 use Rattle.method_spec.specs.Map.{Step, gap, hit, step_at, below, walk}
 use Rattle.operation_spec.specs.declared.Want as want
 use Rattle.operation_spec.specs.Method.{to_want}

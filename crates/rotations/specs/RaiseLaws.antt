@@ -3,7 +3,7 @@ use Rattle.std.specs.Prelude.{ℕ, suc, ◌+◌, ◌≤◌, ◌<◌, ◌≡◌, 
 use Rattle.std.proofs.Common.{arith, add-one, sym, ◌∙◌, subst, append-nil}
 use Rattle.std.proofs.Math.Option.{Option, none, some}
 use Rattle.method_spec.specs.Node.{Node, child}
-use Rattle.method_spec.specs.Prog.{Want, Prog, done, want}
+use Rattle.method_spec.specs.Prog.{Want, Prog, done}
 use Rattle.method_spec.specs.Map.{Step, Sub, Built, listed, kid, top_of, beside, below, step_at, tall, leans_out, fetched_top, single, double, turn, with_subtree, rest, near_on, others_of, seat, raise}
 use Rattle.slot_spec.specs.declared.Node as node
 use Rattle.map_nodes.specs.declared.Sub as sub

@@ -1,0 +1,38 @@
+-- `store_survey::clear_marks` meets its contract. The invariant: the marks of the first i items are cleared, those of the others are to be.
+use mathlib.Core.Path.{◌≡◌, refl, sym, ◌∙◌}
+use mathlib.Core.Logic.{⊎_elim}
+use Prim.Native.Nat.{◌-◌, ◌≤◌}
+use lib.ListN.{length, drop, length-set}
+use Rattle.survey_laws.specs.Items.{cleared}
+use Rattle.survey_laws.specs.ItemLaws.{clear_next, clear-past, clear-end}
+use borrow.Author.Rules.{rules}
+use native.Mathlib.Omega.{arith}
+use Rattle.store_survey.proofs.clear_marks.Goals as goal
+use Rattle.store_survey.proofs.clear_marks.Goals.{then-item-marks, else-item-marks}
+
+-- LOST cast-item overflow-cast-item
+-- cast-item : tie.Need-overflow-cast-item invariant-loop decreases-loop
+-- cast-item c = omega (arith, c.shared-slice-known.given c.before.before.loop.i)
+--
+pub loop-i-preserved : goal.loop-i-preserved
+loop-i-preserved c =
+    let a = c.args in
+    let l = c.loop-i in
+    let t = c.loop-i-test.true in
+    elim c.if-item-marks.branch [
+      | then-item-marks w ↦ (
+        omega arith,
+        rw (w.marks-is, length-set) l.invariant.1,
+        rw w.marks-is (sym (clear_next a.taken.now l.marks l.i t) ∙ l.invariant.2),
+      )
+      | else-item-marks w ↦ (
+        omega arith,
+        rw w.marks-is l.invariant.1,
+        rw w.marks-is (sym (clear-past a.taken.now l.marks l.i t w.if-item-marks.false) ∙ l.invariant.2),
+      )
+    ]
+
+pub returns : goal.returns
+returns c =
+    let l = c.loop-i in
+    sym (clear-end c.args.taken.now l.marks l.i c.loop-i-test.false) ∙ l.invariant.2

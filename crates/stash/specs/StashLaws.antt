@@ -1,12 +1,10 @@
 -- One more node at a time: loaded, joined.
-use Rattle.std.specs.Prelude.{◌≡◌, refl, List, [], ◌∷◌, ◌++◌, map, ℕ, zero, suc, ◌+◌, ◌*◌, ◌<◌, true, length, take, drop, get_or, set}
+use Rattle.std.specs.Prelude.{◌≡◌, refl, List, [], ◌∷◌, ◌++◌, map, ℕ, zero, suc, ◌+◌, ◌<◌, true, length, take, drop, get_or, set}
 use Rattle.std.proofs.Common.{sym, ◌∙◌, ap, add-one, arith, take-suc, take-suc-set, drop-set-lt}
 use Rattle.std.proofs.lemmas.List.{map-append}
 use Rattle.list_laws.specs.PermLaws.{perm-sym}
 use Rattle.list_spec.specs.Distinct.{All}
 use Rattle.list_laws.specs.DistinctLaws.{all_nil, all_cons, all_append, all-perm}
-use Rattle.slot_spec.specs.Tree.{slot_length}
-use Rattle.slot_spec.specs.Row.{zero_slot}
 use Rattle.slot_spec.specs.declared.Slot.{Slot}
 use Rattle.slot_spec.specs.declared.Node as node
 use Rattle.method_spec.specs.Node.{Node}

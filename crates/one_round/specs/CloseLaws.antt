@@ -32,7 +32,7 @@ use Rattle.path_reader.specs.declared.Wish.{Wish}
 use Rattle.round_close.specs.declared.Close.{Close}
 use Rattle.stash_laws.specs.Waiting.{words_for, InWidths, waiting_in}
 use Rattle.stash_laws.specs.WaitingLaws.{write-words, waiting-are, holds-them}
-use Rattle.bucket_call_spec.specs.Fetch.{Held, Going, total, on, shut, at_close, written, too_many}
+use Rattle.bucket_call_spec.specs.Fetch.{Held, Going, on, shut, at_close, written, too_many}
 use Rattle.bucket_call_spec.specs.Peak.{peak_at}
 use Rattle.peak_laws.specs.PeakLaws.{peak-close}
 use Rattle.one_round.specs.OneRound.{going, ended_with, RoundReady, Rests}

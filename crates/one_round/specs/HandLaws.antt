@@ -1,6 +1,6 @@
 -- The read half over the words is the read half over the waiting nodes: damage in the one is damage in the other, else the words in hand
 -- are those of the nodes in hand, which are within their widths.
-use Rattle.std.specs.Prelude.{◌≡◌, refl, true, false, List, ◌++◌, map, ℕ, ◌+◌, ◌^◌, ◌<◌, take, get_or}
+use Rattle.std.specs.Prelude.{◌≡◌, refl, true, false, List, ◌++◌, map, ℕ, ◌^◌, ◌<◌, take, get_or}
 use Rattle.std.proofs.Common.{sym, ◌∙◌, ap, subst, arith, get_or-take}
 use mathlib.Core.List.Memᴰ
 use Rattle.std.proofs.Math.Option

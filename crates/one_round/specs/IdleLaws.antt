@@ -9,7 +9,7 @@ use Rattle.method_spec.specs.Outcome.{Outcome}
 use Rattle.round_spec.specs.Round.{Hand, read_half}
 use Rattle.round_laws.specs.ReadHalf.{read-grants}
 use Rattle.leaf_spec.specs.Leaf.{leaf_format}
-use Rattle.word_round_laws.specs.SlotRow.{places, row_length}
+use Rattle.word_round_laws.specs.SlotRow.{places}
 use Rattle.path_reader.specs.Look.{LookedFor}
 use Rattle.eviction.specs.Settle.{Settled}
 use Rattle.word_round_laws.specs.KeepLaws.{taken_keys}

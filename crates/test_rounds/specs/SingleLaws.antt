@@ -11,8 +11,6 @@ use Rattle.round_spec.specs.Round.{Hand, Written, keys_of, none_twice, insert, w
 use Rattle.round_spec.specs.Nodes.{words_format}
 use Rattle.word_round_laws.specs.SlotRow.{row_length, slots_in, Blank, Leaves}
 use Rattle.word_round_laws.specs.SlotRowLaws.{zeros-blank, blank-more}
-use Rattle.slot_spec.specs.LittleEndian.{value}
-use Rattle.slot_laws.specs.ByteRow.{slot_in, slots_from}
 use Rattle.slot_spec.specs.Row.{zero_slot}
 use Rattle.list_spec.specs.Ascending.{ascending}
 use Rattle.word_round_laws.specs.StashLaws.{Above, Ascending, ascending-holds, ascending-test, insert-ascending}

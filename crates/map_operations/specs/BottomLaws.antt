@@ -5,7 +5,7 @@ use Rattle.std.proofs.Math.Path.{refl, sym}
 use Rattle.std.proofs.Math.Option.{none}
 use borrow.Author.Tests.{eq-eqb, ne_eqb, lt-ltb, le-ltb}
 use Rattle.method_spec.specs.Node.{Link, Node, absent, with_value}
-use Rattle.method_spec.specs.Prog.{Want, Prog, done, want, bind, start}
+use Rattle.method_spec.specs.Prog.{Want, Prog, done, bind, start}
 use Rattle.method_spec.specs.Answer as method
 use Rattle.method_spec.specs.Outcome.{Outcome}
 use Rattle.method_spec.specs.Map.{Step, Sub, stub, top, Built, Spot, gap, hit, Lowest, step_at, below, walk, climb, unwound, finish, get_step, get_prog, put_step, put_prog, swapped, take_out, remove_step, remove_prog}

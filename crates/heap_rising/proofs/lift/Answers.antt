@@ -1,0 +1,24 @@
+use mathlib.Core.Path.{refl, ◌∙◌, ap}
+use Rattle.method_spec.specs.Node.{with_child}
+use Rattle.leaf_spec.specs.Convert.{to_node}
+use Rattle.heap_rising.specs.RisingLaws.{lift-on, lift-rests, lift-settled}
+use native.Mathlib.Omega.{arith}
+use Rattle.heap_rising.proofs.lift.Goals as goal
+
+pub returns-then-n-p : goal.returns-then-n-p
+returns-then-n-p c =
+    let a = c.args in
+    lift-on (to_node a.n) (to_node a.p) a.left (c.with_child-upper.ensures ∙ ap (with_child a.left (to_node a.p)) c.link_one.ensures)
+    c.if-rising.true (omega (arith, c.if-n-p.true)) c.with_value.ensures c.with_value-then-n-p.ensures
+
+pub returns-then-rising : goal.returns-then-rising
+returns-then-rising c =
+    let a = c.args in
+    lift-rests (to_node a.n) (to_node a.p) a.left (c.with_child-upper.ensures ∙ ap (with_child a.left (to_node a.p)) c.link_one.ensures)
+    c.if-rising.true (omega (arith, c.if-n-p.false)) refl
+
+pub returns : goal.returns
+returns c =
+    let a = c.args in
+    lift-settled (to_node a.n) (to_node a.p) a.left (c.with_child-upper.ensures ∙ ap (with_child a.left (to_node a.p)) c.link_one.ensures)
+    c.if-rising.false refl

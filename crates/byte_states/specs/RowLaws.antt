@@ -1,6 +1,6 @@
 -- The slots of a fit state are a row of waiting slots; and such a row as the bytes of places.
 use Rattle.std.specs.Prelude.{◌≡◌, refl, true, List, [], ◌∷◌, ◌++◌, map, ℕ, zero, suc, ◌+◌, ◌-◌, ◌*◌, ◌≤◌, length, take, drop, replicate}
-use Rattle.std.proofs.Common.{sym, ◌∙◌, ap, ap₂, append_assoc, suc-add, arith, length-drop, take_at, drop_at, drop-drop, length-take-le}
+use Rattle.std.proofs.Common.{sym, ◌∙◌, ap, ap₂, arith, length-drop, take_at, drop_at, length-take-le}
 use Rattle.std.proofs.Math.Bool.{and-eq-true_iff}
 use mathlib.Core.List.Memᴰ
 use Rattle.list_spec.specs.Distinct.{All}

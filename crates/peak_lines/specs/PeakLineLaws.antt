@@ -1,5 +1,5 @@
 -- The line of a peak is put part by part, and there is room for each.
-use Rattle.std.specs.Prelude.{◌≡◌, List, [], ◌∷◌, ℕ, ◌+◌, ◌^◌, ◌≤◌, ◌<◌, length}
+use Rattle.std.specs.Prelude.{List, [], ◌∷◌, ℕ, ◌+◌, ◌^◌, ◌≤◌, ◌<◌, length}
 use Rattle.std.proofs.Common.{arith, length-append}
 use Rattle.round_spec.specs.Round.{stash_limit}
 use Rattle.walk_spec.specs.Lines.{ascii, newline, numbers, Put}

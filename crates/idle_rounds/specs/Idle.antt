@@ -1,5 +1,5 @@
 -- Rounds that want none, one after the other: the fetch rounds that are left once the walk is done, and the put rounds.
-use Rattle.std.specs.Prelude.{◌≡◌, List, ◌++◌, map, ℕ, ◌+◌, ◌-◌, ◌≤◌, length}
+use Rattle.std.specs.Prelude.{◌≡◌, List, ◌++◌, map, ℕ, ◌+◌, ◌≤◌, length}
 use Rattle.std.proofs.lemmas.List.Edits.{sets}
 use Rattle.list_spec.specs.Distinct.{All}
 use Rattle.method_spec.specs.Prog.{done}

@@ -1,5 +1,5 @@
 -- The put rounds of a call.
-use Rattle.std.specs.Prelude.{◌≡◌, false, List, [], ◌++◌, ℕ, ◌+◌, ◌≤◌, length}
+use Rattle.std.specs.Prelude.{◌≡◌, false, List, [], ◌++◌, ℕ, ◌≤◌}
 use Rattle.std.proofs.lemmas.List.Edits.{sets}
 use Rattle.list_spec.specs.Distinct.{All}
 use Rattle.method_spec.specs.Prog.{done}
@@ -9,7 +9,6 @@ use Rattle.method_spec.specs.Call.{draws_from}
 use Rattle.round_spec.specs.Round.{none_twice}
 use Rattle.round_spec.specs.Whole.{IsTree}
 use Rattle.list_spec.specs.Ascending.{ascending}
-use Rattle.word_round_laws.specs.SlotRow.{row_length}
 use Rattle.bucket_call_spec.specs.Call.{put_rounds}
 use Rattle.bucket_call_spec.specs.Peak.{rounds_from, peak_of}
 use Rattle.leaf_spec.specs.Leaf.{ProperLeaf}

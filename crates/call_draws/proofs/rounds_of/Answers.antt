@@ -3,7 +3,6 @@ use mathlib.Core.Path.{◌≡◌}
 use Prim.Native.Nat.{◌*◌}
 use native.Mathlib.Omega.{arith}
 use borrow.Author.Tests.{eq-eqb, ne_eqb}
-use borrow.Author.Rules.{rules}
 use Rattle.state_laws.specs.FetchingLaws.{rounds-most, rounds-map, rounds-stack, rounds-heap, rounds-queue}
 use Rattle.state_spec.specs.Fetching.{rounds_of}
 use Rattle.state_spec.specs.Ticket.{structure_of}

@@ -7,7 +7,6 @@ use native.Mathlib.Nat.{one-mul}
 use native.Mathlib.Omega.{arith}
 use lib.ListN.{get_or}
 use lib.Pow.{shl_exact}
-use borrow.Author.Rules.{rules}
 use Rattle.balance_spec.specs.Least.{least}
 use Rattle.balance_laws.specs.LeastLaws.{least-mono}
 use Rattle.balance_laws.specs.ShapeLaws.{shaped-few, shaped-enough}

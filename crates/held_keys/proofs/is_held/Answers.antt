@@ -1,12 +1,10 @@
 -- `held_keys::is_held` meets its contract. The invariant: none of the first i is the key.
-use mathlib.Core.Path.{◌≡◌, refl, sym, ◌∙◌}
+use mathlib.Core.Path.{◌≡◌, sym, ◌∙◌}
 use mathlib.Core.List.{List}
-use Prim.Native.Nat.{ℕ, ◌-◌, ◌≤◌, ◌<◌}
-use lib.ListN.{length, take, drop, length-take}
+use Prim.Native.Nat.{ℕ, ◌≤◌, ◌<◌}
+use lib.ListN.{length, take, length-take}
 use lib.Seq.{get_or-take}
-use Rattle.slot_spec.specs.Tree.{among}
 use Rattle.word_round_laws.specs.JoinLaws.{among-here, among_later, among-end}
-use borrow.Author.Rules.{rules}
 use native.Mathlib.Omega.{arith}
 use Rattle.held_keys.proofs.is_held.Goals as goal
 

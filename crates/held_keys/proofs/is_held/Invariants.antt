@@ -1,12 +1,8 @@
 -- `held_keys::is_held` meets its contract. The invariant: none of the first i is the key.
-use mathlib.Core.Path.{◌≡◌, refl, sym, ◌∙◌}
-use Prim.Native.Nat.{◌-◌, ◌≤◌, ◌<◌}
-use lib.ListN.{length, take, drop, length-take}
-use lib.Seq.{get_or-take}
+use mathlib.Core.Path.{◌≡◌}
+use Prim.Native.Nat.{◌-◌, ◌≤◌}
+use lib.ListN.{take, drop}
 use Rattle.slot_spec.specs.Tree.{among}
-use Rattle.word_round_laws.specs.JoinLaws.{among-here, among_later, among-end}
-use borrow.Author.Rules.{rules}
-use native.Mathlib.Omega.{arith}
 use Rattle.held_keys.proofs.is_held.Given as goal
 
 abbrev pub invariant-loop-i : goal.invariant-loop-i

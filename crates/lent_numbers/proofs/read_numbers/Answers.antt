@@ -1,11 +1,7 @@
 -- `lent_numbers::read_numbers` meets its contract. The invariant: the first i numbers are read.
-use mathlib.Core.Path.{◌≡◌, refl, sym, ◌∙◌, ap}
-use Prim.Native.Nat.{ℕ, ◌+◌, ◌-◌, ◌*◌, ◌≤◌}
+use mathlib.Core.Path.{refl}
 use native.Mathlib.Omega.{arith}
-use borrow.Author.Rules.{rules}
-use lib.ListN.{length, take, length-set}
-use lib.Seq.{take_all}
-use Rattle.lent_bytes_spec.specs.Numbers.{numbers_in}
+use lib.ListN.{length-set}
 use Rattle.lent_bytes_laws.specs.NumbersLaws.{numbers-none, numbers-next}
 use Rattle.lent_numbers.proofs.read_numbers.Goals as goal
 

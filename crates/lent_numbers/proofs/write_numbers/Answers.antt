@@ -1,11 +1,7 @@
 -- `lent_numbers::write_numbers` meets its contract. The invariant: the first i numbers are written.
-use mathlib.Core.Path.{◌≡◌, refl, ◌∙◌, ap}
-use Prim.Native.Nat.{◌-◌, ◌*◌, ◌≤◌}
+use mathlib.Core.Path.{refl}
 use native.Mathlib.Omega.{arith}
-use borrow.Author.Rules.{rules}
-use lib.ListN.{length, take, length-set}
-use lib.Seq.{take_all, sets, lt-length-set}
-use Rattle.lent_bytes_spec.specs.Numbers.{numbers_bytes}
+use lib.ListN.{length-set}
 use Rattle.lent_bytes_laws.specs.NumbersLaws.{numbers-put-none, numbers-put}
 use Rattle.lent_numbers.proofs.write_numbers.Goals as goal
 

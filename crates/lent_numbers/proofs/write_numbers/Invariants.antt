@@ -1,12 +1,9 @@
 -- `lent_numbers::write_numbers` meets its contract. The invariant: the first i numbers are written.
-use mathlib.Core.Path.{◌≡◌, refl, ◌∙◌, ap}
+use mathlib.Core.Path.{◌≡◌}
 use Prim.Native.Nat.{◌-◌, ◌*◌, ◌≤◌}
-use native.Mathlib.Omega.{arith}
-use borrow.Author.Rules.{rules}
-use lib.ListN.{length, take, length-set}
-use lib.Seq.{take_all, sets, lt-length-set}
+use lib.ListN.{length, take}
+use lib.Seq.{sets}
 use Rattle.lent_bytes_spec.specs.Numbers.{numbers_bytes}
-use Rattle.lent_bytes_laws.specs.NumbersLaws.{numbers-put-none, numbers-put}
 use Rattle.lent_numbers.proofs.write_numbers.Given as goal
 
 abbrev pub invariant-loop-i : goal.invariant-loop-i

@@ -2,9 +2,6 @@ use mathlib.Core.Path.{sym}
 use Rattle.leaf_spec.specs.Convert.{to_node}
 use Rattle.run_laws.specs.BalanceLaws.{balance-two, balance-one, balance-zero, balance-minus-one, balance-minus-two}
 use native.Mathlib.Omega.{arith}
-use borrow.Author.Rules.{rules}
-use Rattle.map_balance.proofs.balance.Reads as reads
-use Rattle.map_balance.proofs.balance.Lts as lts
 use Rattle.map_balance.proofs.balance.Goals as goal
 
 pub returns-then-left-right-gt1 : goal.returns-then-left-right-gt1

@@ -1,9 +1,5 @@
 use Rattle.leaf_spec.specs.Convert.{to_node}
 use Rattle.map_balance.specs.BalanceLaws.{tall-test}
-use borrow.Author.Rules.{rules}
-use Rattle.map_balance.proofs.is_tall.Reads as reads
-use Rattle.map_balance.proofs.is_tall.Lts as lts
-use Rattle.map_balance.proofs.lean.Reads as lean-reads
 use Rattle.map_balance.proofs.is_tall.Goals as goal
 
 pub returns : goal.returns

@@ -1,9 +1,5 @@
 -- `readout_core::good_order` meets its contract.
-use mathlib.Core.Path.{sym}
-use lib.Seq.{length-take-le}
-use Rattle.survey_laws.specs.PartLaws.{order-room, order-bound, order-count, order-put}
-use borrow.Author.Rules.{rules}
-use native.Mathlib.Omega.{arith}
+use Rattle.survey_laws.specs.PartLaws.{order-bound, order-count, order-put}
 use Rattle.readout_core.proofs.good_order.Goals as goal
 
 pub returns : goal.returns

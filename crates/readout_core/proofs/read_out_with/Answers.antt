@@ -1,12 +1,11 @@
 -- `readout_core::read_out_with` meets its contract.
-use mathlib.Core.Path.{sym, ◌∙◌, ap}
+use mathlib.Core.Path.{◌∙◌, ap}
 use mathlib.Core.List.{List}
 use Prim.Native.Nat.{ℕ, ◌≤◌}
 use lib.ListN.{length}
 use Rattle.survey_laws.specs.Items.{slots_in, taken_items, fitting}
-use Rattle.survey_laws.specs.PartLaws.{put-taken, put_count}
+use Rattle.survey_laws.specs.PartLaws.{put-taken}
 use Rattle.survey_laws.specs.WriteLaws.{slots-file}
-use borrow.Author.Rules.{rules}
 use native.Mathlib.Omega.{arith}
 use Rattle.readout_core.proofs.read_out_with.Goals as goal
 

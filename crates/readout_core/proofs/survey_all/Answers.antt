@@ -1,10 +1,5 @@
 -- `readout_core::survey_all` meets its contract: the tree's part of keys and marks, then the waiting ones'.
-use mathlib.Core.Path.{sym, ◌∙◌}
-use lib.Seq.{length-take-le}
-use Rattle.survey_laws.specs.Items.{slots_in}
 use Rattle.survey_laws.specs.PartLaws.{keys_filled, marks-filled}
-use borrow.Author.Rules.{rules}
-use native.Mathlib.Omega.{arith}
 use Rattle.readout_core.proofs.survey_all.Goals as goal
 
 pub returns : goal.returns

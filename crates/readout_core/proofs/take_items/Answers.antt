@@ -1,5 +1,5 @@
 -- `readout_core::take_items` meets its contract.
-use mathlib.Core.Path.{sym, ◌∙◌, ap}
+use mathlib.Core.Path.{◌∙◌, ap}
 use mathlib.Core.List.{List}
 use Prim.Native.Nat.{ℕ, ◌≤◌}
 use lib.ListN.{length, replicate}
@@ -7,7 +7,6 @@ use lib.Seq.{sets}
 use Rattle.readout_spec.specs.Seen.{most_items}
 use Rattle.survey_laws.specs.Items.{good_order, first_sorted, cleared}
 use Rattle.survey_laws.specs.PartLaws.{put-taken, put_count}
-use borrow.Author.Rules.{rules}
 use native.Mathlib.Omega.{arith}
 use Rattle.readout_core.proofs.take_items.Goals as goal
 

@@ -1,11 +1,9 @@
 -- `readout_core::take_sorted` meets its contract.
-use mathlib.Core.Path.{sym, ◌∙◌, ap}
+use mathlib.Core.Path.{◌∙◌, ap}
 use mathlib.Core.List.{List}
 use Prim.Native.Nat.{ℕ}
-use lib.Seq.{length-take-le}
 use Rattle.survey_laws.specs.Items.{cleared}
-use Rattle.survey_laws.specs.PartLaws.{first-bound, first_count, first-put, first-room, first_taken}
-use borrow.Author.Rules.{rules}
+use Rattle.survey_laws.specs.PartLaws.{first-bound, first_count, first-put, first_taken}
 use Rattle.readout_core.proofs.take_sorted.Goals as goal
 
 pub returns : goal.returns

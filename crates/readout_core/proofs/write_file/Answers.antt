@@ -1,11 +1,6 @@
 -- `readout_core::write_file` meets its contract: the parts one after the other.
-use mathlib.Core.Path.{sym}
-use lib.Seq.{length-take-le}
-use Rattle.readout_spec.specs.File.{count_width}
 use Rattle.survey_laws.specs.Items.{items_file}
 use Rattle.survey_laws.specs.WriteLaws.{too_short, long-enough, items-length, file-written}
-use borrow.Author.Rules.{rules}
-use native.Mathlib.Omega.{arith}
 use Rattle.readout_core.proofs.write_file.Goals as goal
 
 pub returns-then-out-end : goal.returns-then-out-end

@@ -4,7 +4,6 @@ use Rattle.operation_spec.specs.declared.StepAnswer.{StepAnswer}
 use Rattle.operation_spec.specs.Method.{to_step_answer}
 use Rattle.call_spec.specs.Store.{reply_of}
 use Rattle.replies.specs.AnsweredLaws.{answer-replied}
-use borrow.Author.Rules.{rules}
 use Rattle.replies.proofs.reply_of.Goals as goal
 
 pub returns-in-Answered : goal.returns-in-Answered

@@ -1,7 +1,6 @@
 -- `slot_words::load` meets its contract: four words are the slot's 32 bytes.
 use Rattle.slot_laws.specs.LittleEndianLaws.{bytes-from}
 use Rattle.slot_laws.specs.WordLaws.{slot_read}
-use borrow.Author.Rules.{rules}
 use Rattle.slot_words.proofs.load.Goals as goal
 
 pub returns : goal.returns

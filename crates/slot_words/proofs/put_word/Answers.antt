@@ -1,8 +1,5 @@
 -- `slot_words::put_word` meets its contract: eight stores are one run of stores.
-use lib.ListN.{length-set}
 use Rattle.slot_laws.specs.WordLaws.{word-stored}
-use native.Mathlib.Omega.{arith}
-use borrow.Author.Rules.{rules}
 use Rattle.slot_words.proofs.put_word.Goals as goal
 
 pub returns : goal.returns

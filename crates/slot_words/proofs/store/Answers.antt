@@ -1,6 +1,5 @@
 -- `slot_words::store` meets its contract: four runs of stores are one.
 use Rattle.slot_laws.specs.WordLaws.{slot-stored}
-use borrow.Author.Rules.{rules}
 use Rattle.slot_words.proofs.store.Goals as goal
 
 pub returns : goal.returns

@@ -1,6 +1,5 @@
 -- `slot_words::word` meets its contract: the flat sum is the number that the eight bytes say.
 use Rattle.slot_laws.specs.WordLaws.{word_read}
-use borrow.Author.Rules.{rules}
 use Rattle.slot_words.proofs.word.Goals as goal
 
 pub returns : goal.returns

@@ -1,6 +1,5 @@
 -- `slots::reading` meets its contract: each return is one case of a slot's reading.
 use mathlib.Core.Path.{sym, ◌∙◌}
-use borrow.Author.Tests.{not-true, not-false}
 use Rattle.slot_laws.specs.SlotLaws.{slot-length}
 use Rattle.slot_laws.specs.ReadLaws.{well-formed-tag, all-zero-read, read-wrong-flag, read-wrong-zero1, read-wrong-zero2, read-ill-formed, read-off-path, read-good}
 use Rattle.slot_laws.specs.Ranges.{slot-ranges}

@@ -1,9 +1,7 @@
 -- `slots::well_formed` meets its contract, test by test.
-use borrow.Author.Tests.{not-true, not-false}
 use mathlib.Core.Path.{sym, ◌∙◌}
 use Rattle.slot_laws.specs.ReadLaws.{own-tag-too-large, left-link-bad, left-link-good}
 use native.Mathlib.Omega.{arith}
-use borrow.Author.Rules.{rules}
 use Rattle.slots.proofs.well_formed.Goals as goal
 
 pub returns-then-n-leaves : goal.returns-then-n-leaves

@@ -1,11 +1,7 @@
 -- `store_survey::clear_marks` meets its contract. The invariant: the marks of the first i items are cleared, those of the others are to be.
-use mathlib.Core.Path.{◌≡◌, refl, sym, ◌∙◌}
-use mathlib.Core.Logic.{⊎_elim}
-use Prim.Native.Nat.{◌-◌, ◌≤◌}
-use lib.ListN.{length, drop, length-set}
-use Rattle.survey_laws.specs.Items.{cleared}
+use mathlib.Core.Path.{sym, ◌∙◌}
+use lib.ListN.{length-set}
 use Rattle.survey_laws.specs.ItemLaws.{clear_next, clear-past, clear-end}
-use borrow.Author.Rules.{rules}
 use native.Mathlib.Omega.{arith}
 use Rattle.store_survey.proofs.clear_marks.Goals as goal
 use Rattle.store_survey.proofs.clear_marks.Goals.{then-item-marks, else-item-marks}

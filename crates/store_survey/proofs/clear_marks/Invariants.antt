@@ -1,12 +1,8 @@
 -- `store_survey::clear_marks` meets its contract. The invariant: the marks of the first i items are cleared, those of the others are to be.
-use mathlib.Core.Path.{◌≡◌, refl, sym, ◌∙◌}
-use mathlib.Core.Logic.{⊎_elim}
+use mathlib.Core.Path.{◌≡◌}
 use Prim.Native.Nat.{◌-◌, ◌≤◌}
-use lib.ListN.{length, drop, length-set}
+use lib.ListN.{length, drop}
 use Rattle.survey_laws.specs.Items.{cleared}
-use Rattle.survey_laws.specs.ItemLaws.{clear_next, clear-past, clear-end}
-use borrow.Author.Rules.{rules}
-use native.Mathlib.Omega.{arith}
 use Rattle.store_survey.proofs.clear_marks.Given as goal
 
 abbrev pub invariant-loop-i : goal.invariant-loop-i

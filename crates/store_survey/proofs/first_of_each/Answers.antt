@@ -1,12 +1,9 @@
 -- `store_survey::first_of_each` meets its contract. The invariant: of the first i items the first of each key are put, those of the others are to be.
-use mathlib.Core.Path.{◌≡◌, refl, sym, ◌∙◌, ap}
-use mathlib.Core.Logic.{⊎_elim}
-use Prim.Native.Nat.{◌+◌, ◌-◌, ◌≤◌}
+use mathlib.Core.Path.{sym, ◌∙◌, ap}
+use Prim.Native.Nat.{◌+◌}
 use lib.ListN.{length, get_or, drop, length-set}
-use lib.Seq.{sets}
 use Rattle.survey_laws.specs.Items.{key_in, heads_after}
 use Rattle.survey_laws.specs.ItemLaws.{sets-next, heads-none, heads-start, other_key, same_key, heads-end}
-use borrow.Author.Rules.{rules}
 use native.Mathlib.Omega.{arith}
 use Rattle.store_survey.proofs.first_of_each.Goals as goal
 use Rattle.store_survey.proofs.first_of_each.Goals.{then-key-last, else-key-last}

@@ -1,13 +1,9 @@
 -- `store_survey::first_of_each` meets its contract. The invariant: of the first i items the first of each key are put, those of the others are to be.
-use mathlib.Core.Path.{◌≡◌, refl, sym, ◌∙◌, ap}
-use mathlib.Core.Logic.{⊎_elim}
+use mathlib.Core.Path.{◌≡◌}
 use Prim.Native.Nat.{◌+◌, ◌-◌, ◌≤◌}
-use lib.ListN.{length, get_or, drop, length-set}
+use lib.ListN.{length, drop}
 use lib.Seq.{sets}
 use Rattle.survey_laws.specs.Items.{key_in, heads_after}
-use Rattle.survey_laws.specs.ItemLaws.{sets-next, heads-none, heads-start, other_key, same_key, heads-end}
-use borrow.Author.Rules.{rules}
-use native.Mathlib.Omega.{arith}
 use Rattle.store_survey.proofs.first_of_each.Given as goal
 
 abbrev pub invariant-loop-i : goal.invariant-loop-i

@@ -1,12 +1,9 @@
 -- `store_survey::good_items` meets its contract. The invariant: the good ones of the first i items are put, those of the others are to be.
-use mathlib.Core.Path.{◌≡◌, refl, sym, ◌∙◌, ap}
-use mathlib.Core.Logic.{⊎_elim}
-use Prim.Native.Nat.{◌+◌, ◌-◌, ◌≤◌}
+use mathlib.Core.Path.{sym, ◌∙◌, ap}
+use Prim.Native.Nat.{◌+◌}
 use lib.ListN.{length, drop, length-set}
-use lib.Seq.{sets}
 use Rattle.survey_laws.specs.Items.{good_from}
-use Rattle.survey_laws.specs.ItemLaws.{sets-next, good_start, good-here, none_here, good-end}
-use borrow.Author.Rules.{rules}
+use Rattle.survey_laws.specs.ItemLaws.{sets-next, good-here, none_here, good-end}
 use native.Mathlib.Omega.{arith}
 use Rattle.store_survey.proofs.good_items.Goals as goal
 use Rattle.store_survey.proofs.good_items.Goals.{then-marks-i-eq-GOOD, else-marks-i-eq-GOOD}

@@ -1,13 +1,9 @@
 -- `store_survey::good_items` meets its contract. The invariant: the good ones of the first i items are put, those of the others are to be.
-use mathlib.Core.Path.{◌≡◌, refl, sym, ◌∙◌, ap}
-use mathlib.Core.Logic.{⊎_elim}
+use mathlib.Core.Path.{◌≡◌}
 use Prim.Native.Nat.{◌+◌, ◌-◌, ◌≤◌}
-use lib.ListN.{length, drop, length-set}
+use lib.ListN.{length, drop}
 use lib.Seq.{sets}
 use Rattle.survey_laws.specs.Items.{good_from}
-use Rattle.survey_laws.specs.ItemLaws.{sets-next, good_start, good-here, none_here, good-end}
-use borrow.Author.Rules.{rules}
-use native.Mathlib.Omega.{arith}
 use Rattle.store_survey.proofs.good_items.Given as goal
 
 abbrev pub invariant-loop-i : goal.invariant-loop-i

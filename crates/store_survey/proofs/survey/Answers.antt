@@ -1,12 +1,11 @@
 -- `store_survey::survey` meets its contract. The invariant: the first i keys and marks are noted, the others are to be.
-use mathlib.Core.Path.{◌≡◌, refl, ◌∙◌, ap, ap₂}
-use mathlib.Core.List.{List, ◌++◌}
-use Prim.Native.Nat.{ℕ, ◌+◌, ◌-◌, ◌≤◌}
-use lib.ListN.{length, take, length-set}
+use mathlib.Core.Path.{◌≡◌, ◌∙◌, ap, ap₂}
+use mathlib.Core.List.{List}
+use Prim.Native.Nat.{ℕ}
+use lib.ListN.{length, length-set}
 use Rattle.slot_spec.specs.Slot.{fields_in, read_slot}
-use Rattle.survey_laws.specs.Items.{mark_of, marks_from, mark_at, key_at, keys_from}
-use Rattle.survey_laws.specs.ItemLaws.{row-start, row_next, row-whole}
-use borrow.Author.Rules.{rules}
+use Rattle.survey_laws.specs.Items.{mark_of, mark_at, key_at}
+use Rattle.survey_laws.specs.ItemLaws.{row_next, row-whole}
 use native.Mathlib.Omega.{arith}
 use Rattle.store_survey.proofs.survey.Goals as goal
 

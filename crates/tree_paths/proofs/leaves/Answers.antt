@@ -1,7 +1,6 @@
 -- `tree_paths::leaves` meets its contract: a shift of 1 by at most 17 does not wrap.
 use mathlib.Core.Path.{refl}
 use Rattle.slot_laws.specs.TreeLaws.{shifted_one, power-range}
-use borrow.Author.Rules.{rules}
 use Rattle.tree_paths.proofs.leaves.Goals as goal
 
 pub returns : goal.returns

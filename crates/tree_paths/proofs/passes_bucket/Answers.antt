@@ -1,11 +1,9 @@
 -- `tree_paths::passes_bucket` meets its contract: the bucket is 0, beyond the leaves, or as far from the root as one of the path.
 use mathlib.Core.Path.{sym, ◌∙◌, ap}
 use Prim.Native.Nat.{◌-◌}
-use lib.Count.{leading_top}
 use lib.Dec.{eqb}
 use Rattle.slot_laws.specs.PathNumbers.{depth_of}
 use Rattle.slot_laws.proofs.PathNumberLaws.{shift-reaches, passes_none, passes-beyond, passes-by-shift}
-use borrow.Author.Rules.{rules}
 use native.Mathlib.Omega.{arith}
 use Rattle.tree_paths.proofs.passes_bucket.Goals as goal
 

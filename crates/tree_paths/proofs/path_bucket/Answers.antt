@@ -2,7 +2,6 @@
 use mathlib.Core.Path.{◌∙◌, ap}
 use Prim.Native.Nat.{ℕ, ◌/◌, ◌^◌}
 use Rattle.slot_laws.proofs.PathNumberLaws.{shift-reaches}
-use borrow.Author.Rules.{rules}
 use Rattle.tree_paths.proofs.path_bucket.Goals as goal
 
 pub returns : goal.returns

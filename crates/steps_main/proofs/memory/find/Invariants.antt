@@ -1,0 +1,11 @@
+-- `steps_main::memory::find` meets its contract.
+use Prim.Native.Nat.{◌≤◌, ◌-◌}
+use Rattle.steps_main.proofs.memory.find.Given as goal
+
+abbrev pub invariant-loop-i : goal.invariant-loop-i
+invariant-loop-i l =
+    l.i ≤ l.memory.count
+
+abbrev pub decreases-loop-i : goal.decreases-loop-i
+decreases-loop-i l =
+    l.memory.count - l.i

@@ -33,7 +33,7 @@ use Rattle.stash_laws.specs.WaitingLaws.{waiting-length}
 use Rattle.one_round.specs.OneRound.{going}
 use Rattle.want_rounds.specs.declared.Job.{Job}
 use Rattle.want_rounds.specs.declared.Fetched.{Fetched}
-use Rattle.idle_rounds.specs.IdleLaws.{draw-leaf, goes_on, stops-here}
+use Rattle.idle_rounds.specs.IdleLaws.{draw-leaf, goes_on_lem, stops-here}
 use Rattle.want_rounds.specs.Wanting.{nodes_held, structure_in, program_of, store_at, fetched, Begins, LongEnough, FetchedAs, Fetches}
 use Rattle.want_rounds.specs.WantingLaws.{at_most, root-low, same-program, same_ahead}
 use Rattle.fetch_rounds.specs.FetchLaws.{Done, is-done, drop-on}
@@ -178,7 +178,7 @@ module _ {j : Job} {n : ℕ} {row tree tape trace : List ℕ} (ok : Runs j n row
 
       fetched-all : fetched_by k F op draw store ≡ on mid (done O)
       fetched-all =
-          all-fetched ∙ came.outcome ∙ goes_on f.mark mid (after (program_of j) ns) went
+          all-fetched ∙ came.outcome ∙ goes_on_lem f.mark mid (after (program_of j) ns) went
           ∙ ap (on mid) (over.is ∙ ap done made)
 
       pub run-finishes : Finishes j f (nodes_held hs) row' tree'

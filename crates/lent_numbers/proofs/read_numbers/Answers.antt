@@ -18,8 +18,3 @@ loop-i-preserved c =
       simp length-set l.invariant.2,
       numbers-next a.bytes.now l.numbers l.i l.at l.invariant.3 t l.invariant.1 (omega arith),
     )
-
--- LOST same_length same-length
--- same_length : tie.Need-same-length invariant-loop decreases-loop
--- same_length c = c.before.loop.invariant.2
---

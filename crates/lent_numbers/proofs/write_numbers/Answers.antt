@@ -18,8 +18,3 @@ loop-i-preserved c =
       simp length-set l.invariant.2,
       numbers-put a.bytes.now l.bytes a.numbers.now l.i l.at l.invariant.3 t l.invariant.1 (λ j. (c.type_inv.numbers j).fits),
     )
-
--- LOST same_length same-length
--- same_length : tie.Need-same-length invariant-loop decreases-loop
--- same_length c = search rules
---

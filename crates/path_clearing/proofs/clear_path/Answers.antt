@@ -9,14 +9,6 @@ use Rattle.path_clearing.specs.ClearLaws.{emptied-turn, emptied-end, path-cleare
 use native.Mathlib.Omega.{arith}
 use Rattle.path_clearing.proofs.clear_path.Goals as goal
 
--- LOST cast-clear-slot overflow-cast-clear-slot
--- cast-clear-slot : tie.Need-overflow-cast-clear-slot invariant-loop decreases-loop
--- cast-clear-slot c =
---     let a = c.args in
---     let g = c.requires.3 in
---     let w = start_small a.size a.leaf a.tree.now c.requires.1 c.requires.2 a.from.now a.full c.loop.i (omega (arith, c.requires.0)) g.starts (omega arith) (omega (arith, g.sized, g.fewer, c.requires.0)) in
---     omega arith
---
 pub clear_slot-requires : goal.clear_slot-requires
 clear_slot-requires c =
     let a = c.args in

@@ -20,19 +20,6 @@ loop-i-init c =
     let a = c.args in
     (omega arith, joined-none a.size (take a.holds a.held.now) a.n a.s.now c.requires.0.waiting-sized c.requires.0.blank)
 
--- LOST cast-at overflow-cast-at
--- cast-at : tie.Need-overflow-cast-at invariant-loop decreases-loop
--- cast-at c =
---     let starts : List ℕ =
---         (c.gather-path.last.1.1.1.0) in
---     let few : c.gather-path.result ≤ length starts =
---         (let g = c.gather-path in omega (arith, g.ensures.sized, g.ensures.fewer, c.requires.0.size)) in
---     let small : get_or starts c.loop.i 0 < 2 ^ 24 =
---         (let a = c.args in
---             let g = c.gather-path in
---             start_small a.size a.leaf a.tree.now c.requires.0.is_leaf c.requires.0.tree-sized starts g.result c.loop.i (omega (arith, c.requires.0.size)) g.ensures.starts c.loop-test.true few) in
---     let w = small in omega arith
---
 pub load-x-requires : goal.load-x-requires
 load-x-requires c =
     let starts : List ℕ =

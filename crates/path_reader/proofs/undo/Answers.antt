@@ -8,17 +8,6 @@ use Rattle.path_reader.specs.UndoneLaws.{last-full, count_fits, last-inside, und
 use native.Mathlib.Omega.{arith}
 use Rattle.path_reader.proofs.undo.Goals as goal
 
--- LOST cast-load overflow-cast-load
--- cast-load : tie.Need-overflow-cast-load invariant-loop decreases-loop
--- cast-load c =
---     let more : 0 < c.loop.i =
---         (omega (arith, c.loop-test.true)) in
---     let last : FullAt c.args.tree.now (get_or c.args.from.now (c.loop.i - 1) 0) =
---         (let a = c.args in
---             let l = c.loop in
---             last-full a.tree.now a.from.now a.joined a.m a.s.now l.s l.count l.i c.requires l.invariant more) in
---     let w = last in omega arith
---
 pub load-x-requires : goal.load-x-requires
 load-x-requires c =
     let more : 0 < c.loop-i.i =

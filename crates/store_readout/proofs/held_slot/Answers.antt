@@ -1,7 +1,6 @@
 -- `store_readout::held_slot` meets its contract. Owning a node tells that its numbers are within their widths.
 use Rattle.slot_laws.specs.Ranges.{NodeRanges, node-ranges}
 use borrow.Author.Rules.{rules}
-use native.Mathlib.Omega.{arith}
 use Rattle.store_readout.proofs.held_slot.Goals as goal
 
 pub returns : goal.returns

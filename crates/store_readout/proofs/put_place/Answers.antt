@@ -7,7 +7,6 @@ use Rattle.slot_spec.specs.Slot.{slot_bytes}
 use Rattle.slot_spec.specs.declared.Slot.{Slot}
 use Rattle.slot_laws.specs.SlotLaws.{slot-length}
 use Rattle.survey_laws.specs.PartLaws.{put-exact}
-use borrow.Author.Rules.{rules}
 use Rattle.store_readout.proofs.put_place.Goals as goal
 
 abbrev zero_slot : Slot

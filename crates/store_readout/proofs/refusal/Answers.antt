@@ -1,12 +1,8 @@
 -- `store_readout::refusal` meets its contract: one test for each number.
-use mathlib.Core.Path.{◌≡◌, sym, ◌∙◌}
-use mathlib.Core.Bool.{true}
-use borrow.Author.Tests.{eq-eqb, ne_eqb, not-true, not-false}
+use mathlib.Core.Path.{sym, ◌∙◌}
+use borrow.Author.Tests.{eq-eqb, ne_eqb}
 use Rattle.slot_spec.specs.Tree.{tree_length}
-use Rattle.store_readout.specs.Refusal.{known_numbers, refusal_of}
-use Rattle.store_readout.specs.RefusalLaws.{known-size}
-use native.Mathlib.Omega.{arith}
-use borrow.Author.Rules.{rules}
+use Rattle.store_readout.specs.Refusal.{refusal_of}
 use Rattle.store_readout.proofs.refusal.Goals as goal
 
 pub returns-then-not-closed_mark : goal.returns-then-not-closed_mark

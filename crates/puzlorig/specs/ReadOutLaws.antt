@@ -1,5 +1,5 @@
 -- A read-out over bytes: refused by its length or its head, or read from the slots where they lie.
-use Rattle.std.specs.Prelude.{◌≡◌, true, List, ℕ, ◌+◌, ◌-◌, ◌*◌, ◌≤◌, length, take, drop}
+use Rattle.std.specs.Prelude.{◌≡◌, true, List, ℕ, ◌+◌, ◌*◌, ◌≤◌, length, take, drop}
 use Rattle.std.proofs.Math.Path.{refl, ap}
 use Rattle.std.proofs.Common.{sym, ◌∙◌, arith, length-take, length-drop, eq-eqb, ne_eqb}
 use Rattle.slot_spec.specs.Tree.{slot_length, tree_length}

@@ -6,10 +6,6 @@ use native.Mathlib.Omega.{arith}
 use Rattle.store_survey.proofs.clear_marks.Goals as goal
 use Rattle.store_survey.proofs.clear_marks.Goals.{then-item-marks, else-item-marks}
 
--- LOST cast-item overflow-cast-item
--- cast-item : tie.Need-overflow-cast-item invariant-loop decreases-loop
--- cast-item c = omega (arith, c.shared-slice-known.given c.before.before.loop.i)
---
 pub loop-i-preserved : goal.loop-i-preserved
 loop-i-preserved c =
     let a = c.args in

@@ -26,8 +26,7 @@ fn lengths_good(state: usize, tape: usize, trace: usize, res: usize) -> bool
 }
 
 // 18, then the state's head and slots, then the call itself, in the slots where they stand; see `host_called` for every case.
-#[unsafe(no_mangle)]
-pub extern "C" fn puzlorig_call(
+pub fn puzlorig_call(
     state: &mut [u8],
     tree: &mut [u8],
     ticket: &[u8],

@@ -35,29 +35,25 @@ fn known_store(structure: u64, size: u64) -> bool
     is_known(size, LARGEST_SIZE)
 }
 
-#[unsafe(no_mangle)]
-pub extern "C" fn puzlorig_state_length() -> u64
+pub fn puzlorig_state_length() -> u64
     ensures { result ≡ state_length }
 {
     STATE_LENGTH as u64
 }
 
-#[unsafe(no_mangle)]
-pub extern "C" fn puzlorig_ticket_length() -> u64
+pub fn puzlorig_ticket_length() -> u64
     ensures { result ≡ ticket_length }
 {
     TICKET_LENGTH as u64
 }
 
-#[unsafe(no_mangle)]
-pub extern "C" fn puzlorig_result_length() -> u64
+pub fn puzlorig_result_length() -> u64
     ensures { result ≡ result_length }
 {
     RESULT_LENGTH as u64
 }
 
-#[unsafe(no_mangle)]
-pub extern "C" fn puzlorig_tree_length(size: u64) -> u64
+pub fn puzlorig_tree_length(size: u64) -> u64
     ensures { result ≡ tree_lent size }
 {
     if !is_known(size, LARGEST_SIZE) {
@@ -66,8 +62,7 @@ pub extern "C" fn puzlorig_tree_length(size: u64) -> u64
     tree_length(size as usize) as u64
 }
 
-#[unsafe(no_mangle)]
-pub extern "C" fn puzlorig_tape_length(structure: u64, size: u64) -> u64
+pub fn puzlorig_tape_length(structure: u64, size: u64) -> u64
     ensures { result ≡ tape_lent structure size }
 {
     if !known_store(structure, size) {
@@ -76,8 +71,7 @@ pub extern "C" fn puzlorig_tape_length(structure: u64, size: u64) -> u64
     (NUMBER_LENGTH * draws_of(structure as u8, size as u8)) as u64
 }
 
-#[unsafe(no_mangle)]
-pub extern "C" fn puzlorig_trace_length(structure: u64, size: u64) -> u64
+pub fn puzlorig_trace_length(structure: u64, size: u64) -> u64
     ensures { result ≡ trace_lent structure size }
 {
     if !known_store(structure, size) {
@@ -87,8 +81,7 @@ pub extern "C" fn puzlorig_trace_length(structure: u64, size: u64) -> u64
 }
 
 // Each slot and each waiting place can bring an entry.
-#[unsafe(no_mangle)]
-pub extern "C" fn puzlorig_read_out_length(size: u64) -> u64
+pub fn puzlorig_read_out_length(size: u64) -> u64
     ensures { result ≡ file_lent size }
 {
     if !is_known(size, LARGEST_SIZE) {

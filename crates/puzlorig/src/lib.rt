@@ -1,4 +1,4 @@
-// The entries for C hosts: include/puzlorig.h says what each takes, returns and leaves.
+// The entries for C hosts, which puzlorig_c exports: include/puzlorig.h says what each takes, returns and leaves.
 #![tactic(auto)]
 
 pub mod calls;

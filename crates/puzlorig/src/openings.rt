@@ -60,8 +60,7 @@ fn write_empty(state: &mut [u8], mark: u8, structure: u8, size: u8)
 }
 
 // 18, then as `opened` has it; see `host_opened`.
-#[unsafe(no_mangle)]
-pub extern "C" fn puzlorig_open(structure: u64, size: u64, state: &mut [u8], tree: &mut [u8]) -> u32
+pub fn puzlorig_open(structure: u64, size: u64, state: &mut [u8], tree: &mut [u8]) -> u32
     ensures { host_opening result state.new tree.new ≡ host_opened structure size state.old tree.old }
 {
     if state.len() != STATE_LENGTH {

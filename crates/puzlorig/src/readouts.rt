@@ -10,13 +10,7 @@ use slot_spec::SLOT_LENGTH;
 use store_readout::refusal;
 
 // 18, then as `read_out` has it; see `host_read_out`. The waiting nodes are read where they lie.
-#[unsafe(no_mangle)]
-pub extern "C" fn puzlorig_read_out(
-    state: &[u8],
-    tree: &[u8],
-    out: &mut [u8],
-    file: &mut u64,
-) -> u32
+pub fn puzlorig_read_out(state: &[u8], tree: &[u8], out: &mut [u8], file: &mut u64) -> u32
     ensures { host_reading result file.new out.new ≡ host_read_out state.now tree.now out.old }
 {
     *file = 0;

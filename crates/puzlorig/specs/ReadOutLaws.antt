@@ -5,7 +5,7 @@ use Rattle.std.proofs.Common.{sym, ◌∙◌, arith, length-take, length-drop, e
 use Rattle.slot_spec.specs.Tree.{slot_length, tree_length}
 use Rattle.state_spec.specs.declared.State.{State}
 use Rattle.state_spec.specs.Fit.{largest_size, places}
-use Rattle.readout_spec.specs.declared.ReadOut.{ReadOut}
+use Rattle.readout_spec.specs.ReadOut.{ReadOut}
 use Rattle.readout_spec.specs.Seen.{most_items}
 use Rattle.readout_spec.specs.ReadOut.{ReadOutLeft, read_out_leaving, read_out, file_of, read_out_number, length_of}
 use Rattle.survey_laws.specs.Items.{slots_in, slots_file, fitting}

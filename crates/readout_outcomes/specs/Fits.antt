@@ -3,8 +3,8 @@ use Rattle.std.specs.Prelude.{◌≡◌, refl, Bool, true, false, not, List, ℕ
 use Rattle.std.proofs.Common.{sym, ◌∙◌, ap, arith, length-append}
 use Rattle.slot_spec.specs.Tree.{tree_length}
 use Rattle.state_spec.specs.declared.State.{State}
-use Rattle.readout_spec.specs.declared.ReadOut.{ReadOut}
-use Rattle.readout_spec.specs.declared.ReadOut.TheVariants.{Written, Refused}
+use Rattle.readout_spec.specs.ReadOut.{ReadOut}
+use Rattle.readout_spec.specs.ReadOut.ReadOut.{Written, Refused}
 use Rattle.readout_spec.specs.ReadOut.{ReadOutLeft, read_out, file_of, closed_mark, known, read_out_leaving, read_out_refusing, writing, read_out_number, length_of}
 use Rattle.list_spec.specs.Choice.{pick}
 

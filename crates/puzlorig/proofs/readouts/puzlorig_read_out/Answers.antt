@@ -5,7 +5,7 @@ use Prim.Native.Nat.{ℕ, ◌+◌, ◌-◌, ◌*◌, ◌≤◌}
 use lib.ListN.{length, take, drop}
 use Rattle.slot_spec.specs.Tree.{slot_length}
 use Rattle.state_spec.specs.Fit.{places}
-use Rattle.readout_spec.specs.declared.ReadOut.{ReadOut}
+use Rattle.readout_spec.specs.ReadOut.{ReadOut}
 use Rattle.readout_spec.specs.ReadOut.{read_out_number, length_of}
 use Rattle.survey_laws.specs.Items.{slots_file, fitting}
 use Rattle.store_readout.specs.Refusal.{refusal_of}

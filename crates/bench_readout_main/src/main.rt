@@ -8,10 +8,16 @@ ghost use Rattle.std.specs.Prelude.{◌*◌, ◌≤◌, length};
 ghost use Rattle.io.specs.Counts.{IsPrefixLen};
 ghost use Rattle.store_records.specs.Records.{most_bytes};
 
-use libc::{STDERR_FILENO, STDIN_FILENO, STDOUT_FILENO};
 use readout_outcomes::read_into;
 use state_spec::State;
 use store_records::{HEAD_LENGTH, MOST_BYTES, NoRecord, read_record, state_of};
+
+// The descriptors of the standard input, output and error.
+const STDIN_FILENO: i32 = 0;
+
+const STDOUT_FILENO: i32 = 1;
+
+const STDERR_FILENO: i32 = 2;
 
 // Reads the store out so many times. The length of the last file.
 fn repeat(state: State, tree: &[u8], out: &mut [u8], times: u64) -> usize

@@ -6,11 +6,15 @@
 ghost use Rattle.std.specs.Prelude.{◌≤◌};
 ghost use Rattle.store_records.specs.Records.{most_bytes};
 
-use libc::{STDERR_FILENO, STDOUT_FILENO};
 use readout_outcomes::read_into;
 use readout_spec::NoFile;
 use state_spec::State;
 use store_records::{HEAD_LENGTH, MOST_BYTES, NoRecord, read_record, state_of};
+
+// The descriptors of the standard output and error.
+const STDOUT_FILENO: i32 = 1;
+
+const STDERR_FILENO: i32 = 2;
 
 // What an output buffer holds at first.
 const FILLED: u8 = 165;

@@ -5,12 +5,14 @@ ghost use Rattle.std.specs.Prelude.{◌≤◌, IfOk};
 ghost use Rattle.io.specs.Counts.{IsPrefixLen};
 ghost use Rattle.store_records.specs.Records.{most_bytes};
 
-use libc::STDIN_FILENO;
 use slot_fields::node_of;
 use slot_spec::{Ahead, Link, SLOT_LENGTH, Slot};
 use slot_words::load;
 use state_spec::{PLACES, Place, State};
 use std::array;
+
+// The descriptor of the standard input.
+const STDIN_FILENO: i32 = 0;
 
 // The numbers of a record, and then its waiting places.
 const NUMBERS_LENGTH: usize = 30;

@@ -18,7 +18,7 @@ pub fn puzlorig_read_out(state: &[u8], tree: &[u8], out: &mut [u8], file: &mut u
     }
     let h = read_head(state);
     if let Err(cause) = check(h.mark, h.structure, h.size, h.waiting, tree.len()) {
-        return cause as u32;
+        return u32::from(cause.number());
     }
     let end = HEAD_LENGTH + SLOT_LENGTH * usize::from(h.waiting);
     match read_out_slots(usize::from(h.size), tree, &state[HEAD_LENGTH..end], out) {
@@ -26,6 +26,6 @@ pub fn puzlorig_read_out(state: &[u8], tree: &[u8], out: &mut [u8], file: &mut u
             *file = length as u64;
             0
         }
-        Err(cause) => cause as u32,
+        Err(cause) => u32::from(cause.number()),
     }
 }

@@ -13,7 +13,7 @@ use walk_spec::Arrived;
 const STDIN_FILENO: i32 = 0;
 
 // What a store is opened with.
-#[derive(Clone, Copy)]
+#[derive(Clone, Copy, PartialEq, Eq, Default)]
 pub struct Head {
     pub structure: u8,
     pub size: u8,
@@ -22,13 +22,9 @@ pub struct Head {
 // Reads the input's first bytes. An input without them has size 0, which every opening refuses.
 pub fn read_head() -> Head {
     let mut head = [0u8; HEAD_LENGTH];
-    let got = io::read_full(STDIN_FILENO, &mut head);
-    if got < HEAD_LENGTH {
+    if io::read_full(STDIN_FILENO, &mut head) < HEAD_LENGTH {
         say_short();
-        return Head {
-            structure: 0,
-            size: 0,
-        };
+        return Head::default();
     }
     Head {
         structure: head[0],
@@ -49,21 +45,18 @@ fn goes_on(came: Arrived, mark: u8) -> bool {
 }
 
 // The state after the calls of the input, or after the one that closed the store. A proved loop has to end, and nothing says
-// that an input does: the loop counts its turns down from a number that no run uses up.
+// that an input does: no run uses up so many turns.
 pub fn read_calls(opened: State, tree: &mut [u8]) -> State
     requires { (1 ≤ opened.size) × (opened.size ≤ largest_size) }
 {
     let mut state = opened;
-    let mut turns = u64::MAX;
-    while turns > 0 {
+    for _ in 0..u64::MAX {
         let mut trace = [0u16; MOST_LEAVES];
         let next = next_call(state, tree, &mut trace);
-        let came = next.came;
         state = next.state;
-        if !goes_on(came, state.mark) {
-            return state;
+        if !goes_on(next.came, state.mark) {
+            break;
         }
-        turns -= 1;
     }
     state
 }

@@ -5,7 +5,8 @@
 
 mod reasons;
 
-ghost use Rattle.std.specs.Prelude.{◌≤◌, length};
+ghost use Rattle.std.specs.Prelude.{◌≡◌, ◌≤◌, length};
+ghost use Rattle.std.specs.Result.{result_ok};
 ghost use Rattle.io.specs.Counts.{IsPrefixLen};
 ghost use Rattle.named_files.specs.Names.{longest_name, longest_program, longest_addition};
 
@@ -69,6 +70,7 @@ impl Named<'_> {
     // What was done, if it was; what failed is said.
     pub fn said<T>(self, done: Result<T, Error>, what: &[u8]) -> Result<T, Said>
         requires { length what.now ≤ longest_addition }
+        ensures { result_ok result ≡ result_ok done }
     {
         match done {
             Ok(value) => Ok(value),

@@ -19,9 +19,13 @@ pub fn say_short() {
 // Why there is no file, with the refusal's number.
 pub fn say_no_file(cause: NoFile) {
     match cause {
-        NoFile::Unfit => say(b"readout: no file, 2: structure or size unknown, or over 101 nodes wait\n"),
+        NoFile::Unfit => say(
+            b"readout: no file, 2: structure or size unknown, or over 101 nodes wait\n",
+        ),
         NoFile::TreeLength => say(b"readout: no file, 3: the tree has another length\n"),
-        NoFile::NotClosed => say(b"readout: no file, 14: the store was not closed by 8 (damage) or 9 (overflow)\n"),
+        NoFile::NotClosed => say(
+            b"readout: no file, 14: the store was not closed by 8 (damage) or 9 (overflow)\n",
+        ),
         NoFile::ShortBuffer => say(b"readout: no file, 15: the output buffer is too short\n"),
     }
 }

@@ -21,7 +21,13 @@ fn survey_all(size: usize, tree: &[u8], waiting: &[u8], keys: &mut [u64], marks:
 {
     let slots = tree.len() / SLOT_LENGTH;
     survey(size, true, tree, &mut keys[..slots], &mut marks[..slots]);
-    survey(size, false, waiting, &mut keys[slots..], &mut marks[slots..]);
+    survey(
+        size,
+        false,
+        waiting,
+        &mut keys[slots..],
+        &mut marks[slots..],
+    );
 }
 
 // The good items, the waiting ones first, are put at the start of `order`; how many they are.
@@ -80,7 +86,12 @@ fn write_file(
 }
 
 // Reads out a tree of that size and the slots of the waiting nodes.
-pub fn read_out_slots(size: usize, tree: &[u8], waiting: &[u8], out: &mut [u8]) -> Result<usize, NoFile>
+pub fn read_out_slots(
+    size: usize,
+    tree: &[u8],
+    waiting: &[u8],
+    out: &mut [u8],
+) -> Result<usize, NoFile>
     requires { (size ≤ 16) × (length tree.now ≡ slot_length * slots_in tree.now) × (length waiting.now ≡ slot_length * slots_in waiting.now) × (slots_in tree.now + slots_in waiting.now ≤ most_items) }
     ensures { read_out_leaving (to_read_out result) out.new ≡ fitting (slots_file size tree.now waiting.now) out.old }
 {

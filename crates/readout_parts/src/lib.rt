@@ -67,7 +67,12 @@ pub fn put_index(part: &mut [u8], keys: &[u64], taken: &[u16])
         let at = INDEX_WIDTH * i;
         let offset = start + VALUE_WIDTH * i;
         let key = key_at(keys, *item);
-        put_pair(&mut part[at..at + INDEX_WIDTH], KEY_WIDTH, key, offset as u64);
+        put_pair(
+            &mut part[at..at + INDEX_WIDTH],
+            KEY_WIDTH,
+            key,
+            offset as u64,
+        );
     }
 }
 
@@ -99,7 +104,12 @@ pub fn put_report(part: &mut [u8], marks: &[u8])
     for (i, mark) in marks.iter().enumerate() {
         if *mark != 0 {
             let line = &mut part[at..at + REPORT_WIDTH];
-            put_pair(line, PLACE_WIDTH, (SLOT_LENGTH * i) as u64, u64::from(*mark));
+            put_pair(
+                line,
+                PLACE_WIDTH,
+                (SLOT_LENGTH * i) as u64,
+                u64::from(*mark),
+            );
             at += REPORT_WIDTH;
         }
     }

@@ -58,7 +58,11 @@ fn put_place(part: &mut [u8], p: Place)
     requires { length part.old ≡ slot_length }
     ensures { Ranged p.node × (part.new ≡ place_bytes p) }
 {
-    let slot = if p.full { slot_of(p.node) } else { Slot::default() };
+    let slot = if p.full {
+        slot_of(p.node)
+    } else {
+        Slot::default()
+    };
     store(part, 0, slot);
 }
 
@@ -67,12 +71,23 @@ fn put_place(part: &mut [u8], p: Place)
 pub fn read_out(state: State, tree: &[u8], out: &mut [u8]) -> Result<usize, NoFile>
     ensures { read_out_leaving (to_read_out result) out.new ≡ read_out state tree.now out.old }
 {
-    check(state.mark, state.structure, state.size, state.count, tree.len())?;
+    check(
+        state.mark,
+        state.structure,
+        state.size,
+        state.count,
+        tree.len(),
+    )?;
     let n = usize::from(state.count);
     let mut waiting = [0u8; WAITING_LENGTH];
     for i in 0..n {
         let at = SLOT_LENGTH * i;
         put_place(&mut waiting[at..at + SLOT_LENGTH], state.places[i]);
     }
-    read_out_slots(usize::from(state.size), tree, &waiting[..SLOT_LENGTH * n], out)
+    read_out_slots(
+        usize::from(state.size),
+        tree,
+        &waiting[..SLOT_LENGTH * n],
+        out,
+    )
 }

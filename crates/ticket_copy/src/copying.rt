@@ -65,7 +65,12 @@ fn copy_some(
 
 // Copies the file. How many tickets were changed. A piece that is not full is the last. A proved loop has to end, and nothing says
 // that a file does: no run makes so many turns.
-pub fn copy_all(file: &mut impl Read, out: &mut impl Write, old: Named, new: Named) -> Result<u64, Said> {
+pub fn copy_all(
+    file: &mut impl Read,
+    out: &mut impl Write,
+    old: Named,
+    new: Named,
+) -> Result<u64, Said> {
     let mut piece = [0u8; PIECE];
     let mut copy = [0u8; PIECE];
     let mut changed: u64 = 0;

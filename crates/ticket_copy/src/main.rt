@@ -85,5 +85,9 @@ fn main(rt: HostRuntime) {
     if old_length == 0 || new_length == 0 {
         return say_empty();
     }
-    run(&rt, named(&old_space[..old_length]), named(&new_space[..new_length]));
+    run(
+        &rt,
+        named(&old_space[..old_length]),
+        named(&new_space[..new_length]),
+    );
 }

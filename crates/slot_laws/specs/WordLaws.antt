@@ -42,18 +42,19 @@ bytes-le n =
     let d7 : n / 72057594037927936 ≡ n / 256 / 256 / 256 / 256 / 256 / 256 / 256 = omega arith in
     rw (d2, d3, d4, d5, d6, d7)
 
--- The word at a byte, and one that is copied there.
+-- The word at a byte.
 pub word_read : (s : List ℕ) (at k : ℕ) → at + 8 ≤ length s → k ≡ 8 → from_le_bytes w64 (take k (drop at s)) ≡ value (take 8 (drop at s))
 word_read s at k h e = rw e (value-le (take 8 (drop at s)) (simp (length-take, length-drop) (omega arith)))
 
+-- Numbers that are copied into the place from there on, and a word.
+pub copied-sets : (s : List ℕ) (at k : ℕ) (vs : List ℕ) → at + k ≤ length s → k ≡ length vs → take at s ++ (vs ++ drop k (drop at s)) ≡ sets s at vs
+copied-sets s at k vs h e =
+    rw drop-drop
+    (sym (sets-eq vs s at (omega (arith, e)) ∙ append_assoc (take at s) vs (drop (at + length vs) s) ∙ ap (λ (n : ℕ). take at s ++ (vs ++ drop (at + n) s)) (sym e)))
+
 pub word-put : (s : List ℕ) (at k v : ℕ) → at + 8 ≤ length s → k ≡ 8
     → take at s ++ (to_le_bytes w64 v ++ drop k (drop at s)) ≡ sets s at (bytes 8 v)
-word-put s at k v h e =
-    let l : length (bytes 8 v) ≡ 8 = length-bytes 8 v in
-    sym (sets-eq (bytes 8 v) s at (omega (arith, l))
-    ∙ append_assoc (take at s) (bytes 8 v) (drop (at + length (bytes 8 v)) s)
-    ∙ ap (λ (xs : List ℕ). take at s ++ (xs ++ drop (at + length (bytes 8 v)) s)) (sym (bytes-le v))
-    ∙ rw (l, e, drop-drop))
+word-put s at k v h e = copied-sets s at k (to_le_bytes w64 v) (omega arith) e ∙ ap (sets s at) (bytes-le v)
 
 pub sets-append : (s : List ℕ) (at : ℕ) (xs ys : List ℕ) → sets s at (xs ++ ys) ≡ sets (sets s at xs) (at + length xs) ys
 sets-append s at [] ys = rw add-zero

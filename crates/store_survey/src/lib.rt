@@ -14,7 +14,7 @@ use slot_spec::{Reading, SLOT_LENGTH};
 use slot_words::load;
 use slots::reading;
 
-// The reason for which an item is reported if it is not taken: 1 bad, 2 good and so repeated, 0 none.
+// The reason for which an item is reported if it is not taken: 1 bad, 2 good and so repeated, 0 none. It is the byte that the report gets.
 pub const BAD: u8 = 1;
 
 pub const GOOD: u8 = 2;
@@ -55,7 +55,8 @@ pub fn survey(size: usize, in_tree: bool, slots: &[u8], keys: &mut [u64], marks:
     }
 }
 
-// The good items, numbered from `first` on, are put at the start of `order`; how many they are.
+// The good items, numbered from `first` on, are put at the start of `order`; how many they are. Not the part that they fill: no clause on
+// what a result borrows from can say that the rest of the row stays.
 pub fn good_items(marks: &[u8], first: usize, order: &mut [u16]) -> usize
     requires { (length marks.now ≤ length order.old) × (first + length marks.now ≤ most_items) }
     ensures { (result ≤ length marks.now) × (result ≡ length (good_from first marks.now)) × (order.new ≡ sets order.old 0 (good_from first marks.now)) }

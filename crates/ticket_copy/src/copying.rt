@@ -21,7 +21,8 @@ struct Turn {
     changed: u64,
 }
 
-// Reads until the piece is full, the file ends or a read fails. How many bytes came: a read that failed is no end.
+// Reads until the piece is full, the file ends or a read fails, as each read brings any number of bytes. How many came: a read that failed is
+// no end.
 fn read_piece(file: &mut impl Read, piece: &mut [u8]) -> Result<usize, Error>
     ensures { ReadsAtMost result piece.new }
 {

@@ -14,7 +14,7 @@ use lent_numbers::read_numbers;
 use slot_spec::BUCKET_LENGTH;
 use tickets::TICKET_LENGTH;
 use tree_paths::tree_length;
-use walk_spec::Arrived;
+use walk_spec::Stop;
 
 // The structure byte and the size byte.
 pub const HEAD_LENGTH: usize = 2;
@@ -26,16 +26,16 @@ pub const LONGEST_RECORD: usize = TICKET_LENGTH + 2 * MOST_DRAWS;
 pub const LARGEST_TREE: usize = BUCKET_LENGTH * ((1 << (LARGEST_SIZE as usize + 1)) - 1);
 
 // How a part of the input came of which so many bytes were wanted.
-pub fn arrived(got: usize, wanted: usize) -> Arrived
+pub fn arrived(got: usize, wanted: usize) -> Result<(), Stop>
     ensures { result ≡ arrived_of got wanted }
 {
-    if got < wanted {
-        if got == 0 {
-            return Arrived::End;
-        }
-        return Arrived::Short;
+    if wanted <= got {
+        Ok(())
+    } else if got == 0 {
+        Err(Stop::End)
+    } else {
+        Err(Stop::Short)
     }
-    Arrived::Whole
 }
 
 // The length of the tree that an opening is lent.
@@ -43,9 +43,10 @@ pub fn tree_lent(size: u8) -> usize
     ensures { (result ≡ tree_lent size) × (result ≤ largest_tree) }
 {
     if in_range(size, LARGEST_SIZE) {
-        return tree_length(size as usize);
+        tree_length(usize::from(size))
+    } else {
+        0
     }
-    0
 }
 
 // The bytes of one call.

@@ -13,20 +13,15 @@ use call_draws::{MOST_DRAWS, draws_of, rounds_of};
 use call_spec::Called;
 use state_spec::State;
 use tickets::TICKET_LENGTH;
-use walk_input::{LONGEST_RECORD, arrived, read_tape, record_length};
+use walk_input::{LONGEST_RECORD, read_part, read_tape, record_length};
 use walk_spec::Stop;
 
-// The descriptor of the standard input.
-const STDIN_FILENO: i32 = 0;
-
-// Reads the bytes of a call, in pieces of any length, to the start of `input`; how they came.
+// Reads the bytes of a call to the start of `input`; how they came.
 pub fn read_record(structure: u8, size: u8, input: &mut [u8]) -> Result<(), Stop>
     requires { ((1 ≤ size) × (size ≤ largest_size)) × (longest_record ≤ length input.old) }
     ensures { record_length structure size ≤ length input.new }
 {
-    let wanted = record_length(structure, size);
-    let got = io::read_full(STDIN_FILENO, &mut input[..wanted]);
-    arrived(got, wanted)
+    read_part(&mut input[..record_length(structure, size)])
 }
 
 // Makes the call that stands first in `input`, on a store of a size that stores have, with the first 2F numbers of a fresh trace buffer.

@@ -16,6 +16,9 @@ use tickets::TICKET_LENGTH;
 use tree_paths::tree_length;
 use walk_spec::Stop;
 
+// The descriptor of the standard input.
+const STDIN_FILENO: i32 = 0;
+
 // The structure byte and the size byte.
 pub const HEAD_LENGTH: usize = 2;
 
@@ -36,6 +39,12 @@ pub fn arrived(got: usize, wanted: usize) -> Result<(), Stop>
     } else {
         Err(Stop::Short)
     }
+}
+
+// Reads a part of the input, in pieces of any length; how it came.
+pub fn read_part(part: &mut [u8]) -> Result<(), Stop> {
+    let got = io::read_full(STDIN_FILENO, part);
+    arrived(got, part.len())
 }
 
 // The length of the tree that an opening is lent.

@@ -60,7 +60,10 @@ fn join_reply(sum: u64, reply: Reply) -> u64 {
 
 // The first n numbers of a trace buffer, one after the other.
 fn join_leaves(sum: u64, trace: &[u16], n: usize) -> u64 {
-    trace.iter().take(n).fold(sum, |joined, leaf| join(joined, u64::from(*leaf)))
+    trace
+        .iter()
+        .take(n)
+        .fold(sum, |joined, leaf| join(joined, u64::from(*leaf)))
 }
 
 // Makes the calls that stand whole at a block's start, one after the other. What a call leaves holds the state for the next one, so

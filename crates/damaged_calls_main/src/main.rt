@@ -29,7 +29,12 @@ fn damage(tree: &mut [u8], bytes: [u8; DAMAGE_LENGTH]) {
 
 // Makes the call that stands in `input` and prints its lines. The store that it leaves and the largest peak so far, if more is to
 // be read.
-fn damaged_call(store: Store, before: usize, tree: &mut [u8], input: &[u8]) -> Option<(Store, usize)>
+fn damaged_call(
+    store: Store,
+    before: usize,
+    tree: &mut [u8],
+    input: &[u8],
+) -> Option<(Store, usize)>
     requires { record_length store.state.structure store.state.size ≤ length input.now }
 {
     let mut trace = [0u16; MOST_LEAVES];
@@ -62,7 +67,10 @@ fn read_call(store: Store, before: usize, tree: &mut [u8]) -> Option<(Store, usi
 
 // The calls up to the input's end. A proved loop has to end, and nothing says that an input does: no run uses up the turns.
 fn read_calls(opened: Store, tree: &mut [u8]) {
-    let _ = (0..u64::MAX).try_fold((opened, 0), |(store, largest), _| read_call(store, largest, tree));
+    let _ = (0..u64::MAX).try_fold(
+        (opened, 0),
+        |(store, largest), _| read_call(store, largest, tree),
+    );
 }
 
 fn main() {

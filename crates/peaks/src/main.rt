@@ -30,7 +30,10 @@ fn read_call(store: Store, before: usize, tree: &mut [u8]) -> Option<(Store, usi
 
 // The calls up to the input's end. A proved loop has to end, and nothing says that an input does: no run uses up the turns.
 fn read_calls(opened: Store, tree: &mut [u8]) {
-    let _ = (0..u64::MAX).try_fold((opened, 0), |(store, largest), _| read_call(store, largest, tree));
+    let _ = (0..u64::MAX).try_fold(
+        (opened, 0),
+        |(store, largest), _| read_call(store, largest, tree),
+    );
 }
 
 fn main() {

@@ -2,13 +2,14 @@
 use Rattle.std.specs.Prelude.{◌≡◌, refl, List, [], ◌∷◌, ◌++◌, ℕ, zero, suc, ◌+◌, ◌-◌, ◌*◌, ◌/◌, ◌%◌, ◌≤◌, ◌<◌, length, get_or, take, drop, set}
 use Rattle.std.proofs.Common.{sym, ◌∙◌, ap, ap₂, append_assoc, append-nil, suc-add, add-one, arith, length-append, length-drop, length-take, take-append-drop, take-suc, drop-cons, drop-drop, take-suc-set, take_at, drop_at, length-take-le}
 use mathlib.Core.List.Memᴰ
+use Rattle.std.specs.Int.{w16, to_le_bytes}
 use Rattle.std.proofs.lemmas.List.Edits.{sets, sets-eq}
 use Rattle.std.proofs.Math.Seq.{length-sets}
 use Rattle.list_spec.specs.Distinct.{All}
 use Rattle.list_laws.specs.DistinctLaws.{all_nil, all_cons}
 use Rattle.slot_spec.specs.LittleEndian.{value, bytes, Bytes}
 use Rattle.slot_laws.specs.LittleEndianLaws.{length-bytes, bytes-value, value_read, value-below, bytes_take, bytes_drop}
-use Rattle.slot_laws.specs.WordLaws.{sets-append}
+use Rattle.slot_laws.specs.WordLaws.{sets-append, copied-sets}
 use Rattle.lent_bytes_spec.specs.Numbers.{number_length, numbers_in, numbers_of, numbers_bytes}
 
 -- ---- reading, one number after another
@@ -113,6 +114,25 @@ numbers-put before bs numbers i at done more here low =
     let next : numbers_bytes (take (i + 1) numbers) ≡ numbers_bytes (take i numbers) ++ bytes 2 n =
     rw (add-one i, take-suc numbers i 0 more, numbers-bytes-append (take i numbers) (n ∷ []), one_number n) in
     number_put bs at n (low i)
+    ∙ ap (λ (x : List ℕ). sets x at (bytes 2 n)) done
+    ∙ sym (ap (sets before 0) next ∙ sets-append before 0 (numbers_bytes (take i numbers)) (bytes 2 n)
+    ∙ ap (λ (m : ℕ). sets (sets before 0 (numbers_bytes (take i numbers))) m (bytes 2 n)) end)
+
+-- The same where std copies a number's two bytes.
+pub number-copied : (bs : List ℕ) (at k n : ℕ) → at + 2 ≤ length bs → k ≡ 2 → take at bs ++ (to_le_bytes w16 n ++ drop k (drop at bs)) ≡ sets bs at (bytes 2 n)
+unfolding bytes
+number-copied bs at k n room e = copied-sets bs at k (to_le_bytes w16 n) (omega arith) e
+
+pub numbers-copied : (before bs numbers : List ℕ) (i at k : ℕ) → bs ≡ sets before 0 (numbers_bytes (take i numbers)) → i < length numbers → at ≡ 2 * i
+    → at + 2 ≤ length bs → k ≡ 2
+    → take at bs ++ (to_le_bytes w16 (get_or numbers i 0) ++ drop k (drop at bs)) ≡ sets before 0 (numbers_bytes (take (i + 1) numbers))
+numbers-copied before bs numbers i at k done more here room e =
+    let n = get_or numbers i 0 in
+    let l : length (numbers_bytes (take i numbers)) ≡ at = numbers-bytes-length (take i numbers) ∙ omega (arith, length-take-le i numbers (omega (arith, more)), here) in
+    let end : 0 + length (numbers_bytes (take i numbers)) ≡ at = omega (arith, l) in
+    let next : numbers_bytes (take (i + 1) numbers) ≡ numbers_bytes (take i numbers) ++ bytes 2 n =
+    rw (add-one i, take-suc numbers i 0 more, numbers-bytes-append (take i numbers) (n ∷ []), one_number n) in
+    number-copied bs at k n room e
     ∙ ap (λ (x : List ℕ). sets x at (bytes 2 n)) done
     ∙ sym (ap (sets before 0) next ∙ sets-append before 0 (numbers_bytes (take i numbers)) (bytes 2 n)
     ∙ ap (λ (m : ℕ). sets (sets before 0 (numbers_bytes (take i numbers))) m (bytes 2 n)) end)

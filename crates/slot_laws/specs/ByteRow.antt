@@ -1,5 +1,5 @@
 -- A row of slots in bytes, slot_length to a slot: the slots that it holds, one read, one written, and that no other bytes hold them.
-use Rattle.std.specs.Prelude.{◌≡◌, refl, ℕ, zero, suc, ◌+◌, ◌*◌, ◌^◌, ◌≤◌, ◌<◌, List, [], ◌∷◌, ◌++◌, length, take, drop, get_or, set, replicate}
+use Rattle.std.specs.Prelude.{◌≡◌, refl, ℕ, zero, suc, ◌+◌, ◌*◌, ◌≤◌, ◌<◌, List, [], ◌∷◌, ◌++◌, length, take, drop, get_or, set, replicate}
 use Rattle.std.proofs.Common.{sym, ◌∙◌, ap, ap₂, add_assoc, suc-add, arith, append_assoc, length-drop, take-append-drop, take_all, take_at, take-add, drop_at, drop-drop, length-take-le}
 use Rattle.std.proofs.lemmas.List.{replicate-append-replicate}
 use Rattle.std.proofs.lemmas.List.Edits.{sets, sets-eq}
@@ -59,7 +59,7 @@ bytes-of-slot bs b sized =
 
 -- ---- a place of the row
 -- Stores behind the first m elements leave these.
-sets_behind : {A : Type 0} (m i : ℕ) (l vs : List A) → m ≤ length l → m + i + length vs ≤ length l → sets l (m + i) vs ≡ take m l ++ sets (drop m l) i vs
+pub sets_behind : {A : Type 0} (m i : ℕ) (l vs : List A) → m ≤ length l → m + i + length vs ≤ length l → sets l (m + i) vs ≡ take m l ++ sets (drop m l) i vs
 sets_behind {A} m i l vs h long =
     let n = length-drop m l in
     let rest : drop (m + i + length vs) l ≡ drop (i + length vs) (drop m l) = ap (λ (j : ℕ). drop j l) (add_assoc m i (length vs)) ∙ sym (drop-drop (i + length vs) m l) in

@@ -1,7 +1,8 @@
--- Eight bytes of a list as one number, and their stores: what straight-line code over words reads and leaves.
+-- Eight bytes of a list as one number, and their stores: what code over words reads and leaves.
 use Rattle.std.specs.Prelude.{◌≡◌, ℕ, suc, ◌+◌, ◌*◌, ◌/◌, ◌%◌, ◌≤◌, ◌<◌, List, [], ◌∷◌, ◌++◌, length, get_or, take, drop, set}
-use Rattle.std.proofs.Common.{sym, ◌∙◌, ap, add_assoc, add-zero, add-suc, suc-add, arith, length-take, length-drop, drop-cons, take-add, drop-drop}
-use Rattle.std.proofs.lemmas.List.Edits.{sets}
+use Rattle.std.proofs.Common.{sym, ◌∙◌, ap, add_assoc, add-zero, add-suc, suc-add, arith, length-take, length-drop, drop-cons, take-add, drop-drop, append_assoc, take_all}
+use Rattle.std.specs.Int.{w64, from_le_bytes, to_le_bytes}
+use Rattle.std.proofs.lemmas.List.Edits.{sets, sets-eq}
 use Rattle.slot_spec.specs.LittleEndian.{value, bytes, Bytes}
 use Rattle.slot_laws.specs.LittleEndianLaws.{length-bytes, bytes-value, bytes_take, bytes_drop}
 use Rattle.slot_spec.specs.Slot.{slot_bytes}
@@ -46,6 +47,35 @@ word-stored s at v =
     let d6 : v / 281474976710656 ≡ v / 256 / 256 / 256 / 256 / 256 / 256 = omega arith in
     let d7 : v / 72057594037927936 ≡ v / 256 / 256 / 256 / 256 / 256 / 256 / 256 = omega arith in
     rw (e1, e2, e3, e4, e5, e6, e7, d2, d3, d4, d5, d6, d7)
+
+-- Eight bytes, and the eight bytes of a number, in std's words.
+pub value-le : (bs : List ℕ) → length bs ≡ 8 → from_le_bytes w64 bs ≡ value bs
+value-le bs e = word_read bs 0 (omega arith) ∙ ap value (take_all 8 bs (omega arith))
+
+pub bytes-le : (n : ℕ) → to_le_bytes w64 n ≡ bytes 8 n
+unfolding bytes
+bytes-le n =
+    let d2 : n / 65536 ≡ n / 256 / 256 = omega arith in
+    let d3 : n / 16777216 ≡ n / 256 / 256 / 256 = omega arith in
+    let d4 : n / 4294967296 ≡ n / 256 / 256 / 256 / 256 = omega arith in
+    let d5 : n / 1099511627776 ≡ n / 256 / 256 / 256 / 256 / 256 = omega arith in
+    let d6 : n / 281474976710656 ≡ n / 256 / 256 / 256 / 256 / 256 / 256 = omega arith in
+    let d7 : n / 72057594037927936 ≡ n / 256 / 256 / 256 / 256 / 256 / 256 / 256 = omega arith in
+    rw (d2, d3, d4, d5, d6, d7)
+
+-- The word at a byte.
+pub word-le : (s : List ℕ) (at k : ℕ) → at + 8 ≤ length s → k ≡ 8 → from_le_bytes w64 (take k (drop at s)) ≡ value (take 8 (drop at s))
+word-le s at k h e = rw e (value-le (take 8 (drop at s)) (simp (length-take, length-drop) (omega arith)))
+
+-- Numbers that are copied into the place from there on, and a word.
+pub copied-sets : (s : List ℕ) (at k : ℕ) (vs : List ℕ) → at + k ≤ length s → k ≡ length vs → take at s ++ (vs ++ drop k (drop at s)) ≡ sets s at vs
+copied-sets s at k vs h e =
+    rw drop-drop
+    (sym (sets-eq vs s at (omega (arith, e)) ∙ append_assoc (take at s) vs (drop (at + length vs) s) ∙ ap (λ (n : ℕ). take at s ++ (vs ++ drop (at + n) s)) (sym e)))
+
+pub word-copied : (s : List ℕ) (at k v : ℕ) → at + 8 ≤ length s → k ≡ 8
+    → take at s ++ (to_le_bytes w64 v ++ drop k (drop at s)) ≡ sets s at (bytes 8 v)
+word-copied s at k v h e = copied-sets s at k (to_le_bytes w64 v) (omega arith) e ∙ ap (sets s at) (bytes-le v)
 
 pub sets-append : (s : List ℕ) (at : ℕ) (xs ys : List ℕ) → sets s at (xs ++ ys) ≡ sets (sets s at xs) (at + length xs) ys
 sets-append s at [] ys = rw add-zero

@@ -63,7 +63,13 @@ pub struct Children {
 }
 
 // The children of the node n, the left one first, where `below` is at hand on the side of the turn, unless one is missing.
-pub fn children_of(n: Node, turn: bool, below: Span, count: usize, next: usize) -> Result<Children, Want>
+pub fn children_of(
+    n: Node,
+    turn: bool,
+    below: Span,
+    count: usize,
+    next: usize,
+) -> Result<Children, Want>
     requires { (below.at + below.length ≤ count) × (next ≤ count) × (count ≤ places) }
     ensures { ChildrenIfHeld (to_node n) turn below count next result }
 {

@@ -60,7 +60,15 @@ fn pass(
             made: more,
         };
     }
-    let all = list_both(way, held, with_value(value, m), c.left, c.right, made, count);
+    let all = list_both(
+        way,
+        held,
+        with_value(value, m),
+        c.left,
+        c.right,
+        made,
+        count,
+    );
     Sinking {
         span: None,
         next: c.next,

@@ -18,7 +18,13 @@ use operations::{link_one, no_nodes, one_less};
 use slot_spec::{Link, Node};
 
 // An add wants the nodes of the way to the next position. A full heap's wants none.
-pub fn add_wanted(limit: u16, entries: u16, root: Link, held: &[u64; ROW], count: usize) -> Option<Want>
+pub fn add_wanted(
+    limit: u16,
+    entries: u16,
+    root: Link,
+    held: &[u64; ROW],
+    count: usize,
+) -> Option<Want>
     requires { count ≤ places }
     ensures { (value tag : ℕ) → to_wanted result ≡ wanted_of (resume (add_prog 0 value tag entries limit (to_link root)) (nodes_of (held_in held.now count))) }
 {

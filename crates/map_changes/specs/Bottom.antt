@@ -1,5 +1,5 @@
 -- Where the way up starts, as the code says it.
-use Rattle.std.specs.Prelude.{ℕ, ◌+◌, ◌≤◌, ◌≡◌, [], Bool, true, false, get_or, drop, Result, Ok, MatchResult}
+use Rattle.std.specs.Prelude.{ℕ, ◌+◌, ◌≤◌, ◌≡◌, [], Bool, true, get_or, drop, Result, Ok, MatchResult}
 use Rattle.method_spec.specs.Prog.{Prog, done, bind, start}
 use Rattle.method_spec.specs.Outcome.{Outcome}
 use Rattle.method_spec.specs.Map.{Built, finish}

@@ -98,14 +98,7 @@ pub fn added(key: u32, value: u64, tag: u16, depth: usize, entries: u16) -> Bott
 {
     let n = leaf(key, value, tag);
     let sub = Sub::Top(n, None, None);
-    bottom_at(
-        true,
-        sub,
-        depth,
-        depth,
-        entries + 1,
-        Ok(Answer::New),
-    )
+    bottom_at(true, sub, depth, depth, entries + 1, Ok(Answer::New))
 }
 
 // The node with the key, with the new value.

@@ -22,12 +22,7 @@ pub struct Descent {
 }
 
 // Down by key, unless a node is missing. Heights bound the walk: it passes no more nodes than the root link's height says.
-pub fn descend(
-    key: u32,
-    root: Link,
-    held: &[u64; ROW],
-    count: usize,
-) -> Result<Descent, Want>
+pub fn descend(key: u32, root: Link, held: &[u64; ROW], count: usize) -> Result<Descent, Want>
     requires { Walks root (held_in held.now count) }
     ensures { Descends key (held_in held.now count) (prog.start (to_link root)) root.height result }
 {
@@ -63,12 +58,7 @@ pub fn descend(
 
 // The number of the next larger key's node below the fetched node `found`, at which `want` was wanted: once to the right,
 // then to the left as far as there are nodes; or the node that is missing.
-pub fn next_larger(
-    want: Want,
-    found: usize,
-    held: &[u64; ROW],
-    count: usize,
-) -> Result<usize, Want>
+pub fn next_larger(want: Want, found: usize, held: &[u64; ROW], count: usize) -> Result<usize, Want>
     requires { HeldFrom 100 (held_in held.now count) 0 × (found < count) }
     ensures { Lowers (held_in held.now count) found (map.below (map.step_at (to_want want) (held_at (held_in held.now count) found) false)) (held_at (held_in held.now count) found).right.height result }
 {

@@ -15,7 +15,13 @@ use operations::one_less;
 use slot_spec::Link;
 
 // A get changes nothing but tags.
-pub fn get(key: u32, entries: u16, root: Link, held: &[u64; ROW], count: usize) -> Result<Bottom, Want>
+pub fn get(
+    key: u32,
+    entries: u16,
+    root: Link,
+    held: &[u64; ROW],
+    count: usize,
+) -> Result<Bottom, Want>
     requires { Walks root (held_in held.now count) }
     ensures { StartsIfHeld key root (held_in held.now count) (get_prog key entries (to_link root)) result }
 {
@@ -53,7 +59,13 @@ pub fn put(
 }
 
 // A remove takes the node with the key out of the tree. One with two children leaves its place to the next larger key's node.
-pub fn remove(key: u32, entries: u16, root: Link, held: &[u64; ROW], count: usize) -> Result<Bottom, Want>
+pub fn remove(
+    key: u32,
+    entries: u16,
+    root: Link,
+    held: &[u64; ROW],
+    count: usize,
+) -> Result<Bottom, Want>
     requires { Walks root (held_in held.now count) }
     ensures { StartsIfHeld key root (held_in held.now count) (remove_prog key entries (to_link root)) result }
 {

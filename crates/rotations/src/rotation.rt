@@ -8,8 +8,8 @@ ghost use Rattle.node_rows.specs.Heights.{Low};
 ghost use Rattle.map_nodes.specs.Method.{to_kid, to_sub};
 ghost use Rattle.rotations.specs.Raise.{to_rotated};
 
-use map_nodes::sides::{child_link, link_to, with_child};
 use map_nodes::Sub;
+use map_nodes::sides::{child_link, link_to, with_child};
 use slot_spec::Node;
 
 // The two nodes of a rotation.

@@ -53,11 +53,7 @@ pub fn pop(entries: u16, root: Link, top: Node) -> OneMade
     if root.height == 0 {
         return none_made(root, entries, Ok(Answer::Empty));
     }
-    none_made(
-        top.left,
-        one_less(entries),
-        Ok(Answer::Popped(top.value)),
-    )
+    none_made(top.left, one_less(entries), Ok(Answer::Popped(top.value)))
 }
 
 // The stack's fetch test: no right link, and a left link of height 1 to the key before, absent exactly at key 1.

@@ -6,9 +6,9 @@ use Rattle.heap_children.proofs.child_of.Goals.{then-below-gt0-via-then-below-gt
 pub returns-then-below-gt0 : goal.returns-then-below-gt0
 returns-then-below-gt0 c =
     elim c.then-below-gt0.branch [
-      then-below-gt0-via-then-below-gt0 w ↦ child-at-hand c.requires.0 c.requires.1 (omega (arith, w.if-below-gt0.true))
-    | then-below-gt0-via-else-below-gt0+then-child_link-eq0 w ↦
-        child-none c.requires.0 c.requires.1 (omega (arith, w.if-below-gt0.false)) w.child_link.ensures w.if-child_link-eq0.true
+      | then-below-gt0-via-then-below-gt0 w ↦ child-at-hand c.requires.0 c.requires.1 (omega (arith, w.if-below-gt0.true))
+      | then-below-gt0-via-else-below-gt0+then-child_link-eq0 w ↦
+          child-none c.requires.0 c.requires.1 (omega (arith, w.if-below-gt0.false)) w.child_link.ensures w.if-child_link-eq0.true
     ]
 
 pub returns-then-next-count : goal.returns-then-next-count

@@ -17,6 +17,6 @@ returns c =
     let a = c.args in
     let over = c.with_child-upper.ensures ∙ ap (with_child a.left (to_node a.p)) c.link_one.ensures in
     elim c.else-rising.branch [
-      else-rising-via-then-rising+else-n-p w ↦ lift-rests (to_node a.n) (to_node a.p) a.left over w.if-rising.true (omega (arith, w.if-n-p.false)) refl
-    | else-rising-via-else-rising w ↦ lift-settled (to_node a.n) (to_node a.p) a.left over w.if-rising.false refl
+      | else-rising-via-then-rising+else-n-p w ↦ lift-rests (to_node a.n) (to_node a.p) a.left over w.if-rising.true (omega (arith, w.if-n-p.false)) refl
+      | else-rising-via-else-rising w ↦ lift-settled (to_node a.n) (to_node a.p) a.left over w.if-rising.false refl
     ]

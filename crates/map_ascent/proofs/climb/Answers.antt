@@ -1,10 +1,7 @@
-use mathlib.Core.Path.{subst}
-use Prim.Native.Nat.{ℕ}
 use native.Mathlib.Omega.{arith}
 use Rattle.operations.specs.ResumeLaws.{handed-on}
 use Rattle.node_rows.specs.Held.{held_in}
-use Rattle.map_ascent.specs.Climb.{Climbing}
-use Rattle.map_ascent.specs.ClimbLaws.{climb-start, climb-asks, climb-missing, climb-room, climb-level, climb-end}
+use Rattle.map_ascent.specs.ClimbLaws.{climb-asks, climb-missing, climb-room, climb-level, climb-end}
 use Rattle.map_ascent.proofs.climb.Goals as goal
 
 pub raise_or_rest-requires : goal.raise_or_rest-requires

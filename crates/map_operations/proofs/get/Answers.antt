@@ -2,7 +2,6 @@ use mathlib.Core.Path.{refl}
 use Rattle.method_spec.specs.Prog.{done}
 use Rattle.method_spec.specs.Map.{get_step}
 use Rattle.leaf_spec.specs.Convert.{to_link}
-use Rattle.operation_spec.specs.Method.{to_want}
 use Rattle.operations.specs.ResumeLaws.{handed-on}
 use Rattle.map_operations.specs.BottomLaws.{get-is, get-gap, get-hit, starts-missing, starts-gap, starts-hit, hit-low}
 use Rattle.map_operations.proofs.get.Goals as goal

@@ -2,7 +2,7 @@ use mathlib.Core.Path.{refl}
 use Rattle.method_spec.specs.Map.{remove_step}
 use Rattle.leaf_spec.specs.Convert.{to_link}
 use Rattle.operations.specs.ResumeLaws.{handed-on}
-use Rattle.map_operations.specs.BottomLaws.{remove-is, remove-gap, remove-left, remove-right, starts-missing, starts-gap, starts-hit, misses-past, starts-past, hit-low, hit-held, hit-within}
+use Rattle.map_operations.specs.BottomLaws.{remove-is, remove-gap, remove-left, remove-right, starts-missing, starts-gap, starts-hit, misses-past, starts-past, hit-low, hit-held}
 use Rattle.map_operations.proofs.remove.Goals as goal
 
 pub returns-in_err-d : goal.returns-in_err-d

@@ -15,9 +15,9 @@ returns-then-i-lowest c =
     let now = rw (← c.node_at-n.ensures) at c.loop-i.invariant in
     rw (← c.node_at-n.ensures)
     (elim c.then-i-lowest.branch [
-      then-i-lowest-via-then-i-lowest w ↦ lower-spent c.requires.0 c.loop-i.next now (omega arith) (omega (arith, c.from.ensures, w.if-i-lowest.true))
-    | then-i-lowest-via-else-i-lowest+then-m-eq0 w ↦
-        lower-end c.requires.0 c.loop-i.next now (omega arith) (rw c.node_at-m.ensures at w.if-m-eq0.true)
+      | then-i-lowest-via-then-i-lowest w ↦ lower-spent c.requires.0 c.loop-i.next now (omega arith) (omega (arith, c.from.ensures, w.if-i-lowest.true))
+      | then-i-lowest-via-else-i-lowest+then-m-eq0 w ↦
+          lower-end c.requires.0 c.loop-i.next now (omega arith) (rw c.node_at-m.ensures at w.if-m-eq0.true)
     ])
 
 pub loop-i-preserved : goal.loop-i-preserved

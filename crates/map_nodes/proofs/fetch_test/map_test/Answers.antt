@@ -15,7 +15,7 @@ returns-then-height-from c =
     (sym c.is_tall-else-is_tall.ensures ∙ c.if-is_tall-2.false) (rw (c.from-height.ensures, c.max.ensures, c.from.ensures, add-one) at c.if-height-from.true))
 
 pub returns-else-height-from : goal.returns-else-height-from
-returns-else-height-from c = 
+returns-else-height-from c =
     let a = c.args in
     rw (ne_eqb _ _ c.if-height-from.false)
     (sym (other-height (to_want a.want) (to_node a.n) (sym c.is_tall.ensures ∙ c.if-is_tall.false)
@@ -25,8 +25,8 @@ pub returns-then-is_tall : goal.returns-then-is_tall
 returns-then-is_tall c =
     let a = c.args in
     elim c.then-is_tall.branch [
-      then-is_tall-via-then-is_tall w ↦ sym (tall-left (to_want a.want) (to_node a.n) (sym c.is_tall.ensures ∙ w.if-is_tall.true))
-    | then-is_tall-via-else-is_tall+then-is_tall-2 w ↦
-        sym (tall-right (to_want a.want) (to_node a.n) (sym c.is_tall.ensures ∙ w.if-is_tall.false)
-        (sym w.is_tall-else-is_tall.ensures ∙ w.if-is_tall-2.true))
+      | then-is_tall-via-then-is_tall w ↦ sym (tall-left (to_want a.want) (to_node a.n) (sym c.is_tall.ensures ∙ w.if-is_tall.true))
+      | then-is_tall-via-else-is_tall+then-is_tall-2 w ↦
+          sym (tall-right (to_want a.want) (to_node a.n) (sym c.is_tall.ensures ∙ w.if-is_tall.false)
+          (sym w.is_tall-else-is_tall.ensures ∙ w.if-is_tall-2.true))
     ]

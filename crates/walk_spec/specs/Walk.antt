@@ -1,5 +1,5 @@
 -- The walk program's whole output for an input.
-use Rattle.std.specs.Prelude.{ℕ, zero, suc, ◌+◌, ◌*◌, ◌≡◌, Bool, true, false, List, [], ◌∷◌, ◌++◌, eqb, length, take, drop, replicate, ⊤, Result, Ok, Err}
+use Rattle.std.specs.Prelude.{ℕ, zero, suc, ◌*◌, ◌≡◌, Bool, true, false, List, [], ◌∷◌, ◌++◌, eqb, length, take, drop, replicate, ⊤, Result, Ok, Err}
 use Rattle.state_spec.specs.declared.State.{State}
 use Rattle.state_spec.specs.Opening.{Opened, opened}
 use Rattle.call_spec.specs.declared.Reply.TheVariants.{Refused}

@@ -1,4 +1,4 @@
--- Every state has the opening's size.
+-- `readout::read_calls` is safe: every state has the opening's size.
 use Rattle.std.proofs.Common.{◌≤◌}
 use Rattle.state_spec.specs.Fit.{largest_size}
 use Rattle.readout.proofs.input.read_calls.Given as goal

@@ -1,5 +1,5 @@
 -- `readout_parts::put_report` meets its contract.
-use Rattle.std.proofs.Common.{◌≡◌, ◌+◌, ◌≤◌, ◌<◌, ap, length, arith}
+use Rattle.std.proofs.Common.{◌+◌, ◌≤◌, ◌<◌, ap, length, arith}
 use Rattle.readout_spec.specs.File.{report_width, report_part}
 use Rattle.survey_laws.specs.Items.{omitted_by}
 use Rattle.survey_laws.specs.FileLaws.{omitted_from, omitted-skip, omitted-more, omitted-none, omission-written, report-none, all-written}

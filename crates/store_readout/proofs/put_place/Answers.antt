@@ -1,8 +1,6 @@
 -- `store_readout::put_place` meets its contract. Owning a node tells that its numbers are within their widths.
-use Rattle.std.proofs.Common.{◌≡◌, sym, ◌∙◌, refl, replicate, rules}
-use Rattle.slot_spec.specs.Tree.{slot_length}
-use Rattle.slot_spec.specs.LittleEndian.{bytes}
-use Rattle.slot_spec.specs.Slot.{slot_bytes, Ranged}
+use Rattle.std.proofs.Common.{◌≡◌, sym, ◌∙◌, rules}
+use Rattle.slot_spec.specs.Slot.{slot_bytes}
 use Rattle.slot_laws.specs.Ranges.{NodeRanges, node-ranges}
 use Rattle.slot_laws.specs.SlotLaws.{slot-length}
 use Rattle.slot_laws.specs.BucketLaws.{zero-slot}

@@ -9,8 +9,7 @@ use Rattle.io.specs.Counts.{IsPrefixLen}
 use Rattle.io.specs.Digits.{last_digits, hex_digit_ascii, IsDigitCount}
 use Rattle.slot_laws.specs.WordLaws.{sets-append}
 use Rattle.operation_spec.specs.declared.Answer.TheVariants.{Found, Absent, Replaced, New, Removed, Pushed, Popped, Added, Taken, Queued, Dequeued, Empty}
-use Rattle.call_spec.specs.declared.Reply.{Reply}
-use Rattle.call_spec.specs.declared.Reply.TheVariants.{Answered, Refused}
+use Rattle.call_spec.specs.Reply.{Reply, Answered, Refused}
 use Rattle.call_spec.specs.Store.{reply_meaning}
 use Rattle.host_spec.specs.Result.{reply_number, reply_value, result_value}
 use Rattle.walk_spec.specs.Lines.{blank, newline, digit, leading, decimal, numbers, reply_word, value_or_zero, reply_shown, line_of, longest_line, most_leaves, Put}

@@ -1,7 +1,7 @@
 -- `walk_lines::line` meets its contract: word, value, leaves and newline are put one after another, and there is room for each.
 use Rattle.std.proofs.Common.{arith, List, [], ◌∷◌, ℕ, ◌≡◌, ◌+◌, ◌^◌, ◌<◌, ◌≤◌, get_or, length, take}
 use lib.ListN.{length-take}
-use Rattle.call_spec.specs.declared.Reply.{Reply}
+use Rattle.call_spec.specs.Reply.{Reply}
 use Rattle.walk_spec.specs.Lines.{numbers, line_of, reply_word, longest_line, most_leaves, Put}
 use Rattle.walk_laws.specs.LinesLaws.{first-leaves, value_room, leaves-room, line-put, put-length, put-end, put_first, put-counts}
 use Rattle.walk_lines.proofs.line.Goals as goal

@@ -1,39 +1,29 @@
 // The words of answers and replies.
 #![tactic(auto)]
 
-ghost use Rattle.std.specs.Prelude.{◌≤◌, length};
-ghost use Rattle.walk_spec.specs.Lines.{reply_word, Put};
+ghost use Rattle.std.specs.Prelude.{◌≡◌};
+ghost use Rattle.call_spec.specs.Reply.{to_reply};
+ghost use Rattle.walk_spec.specs.Lines.{reply_word};
 
-use call_spec::Reply;
+use call_spec::Refusal;
 use operation_spec::Answer;
-use text_writer::put_text;
 
-fn answer_word(answer: Answer, out: &mut [u8]) -> usize
-    requires { 8 ≤ length out.old }
-    ensures { Put (reply_word (Reply.Answered answer)) 0 out.old out.new result }
-{
-    match answer {
-        Answer::Found(_) => put_text(b"found", out, 0),
-        Answer::Absent => put_text(b"absent", out, 0),
-        Answer::Replaced(_) => put_text(b"replaced", out, 0),
-        Answer::New => put_text(b"new", out, 0),
-        Answer::Removed(_) => put_text(b"removed", out, 0),
-        Answer::Pushed => put_text(b"pushed", out, 0),
-        Answer::Popped(_) => put_text(b"popped", out, 0),
-        Answer::Added => put_text(b"added", out, 0),
-        Answer::Taken(_) => put_text(b"taken", out, 0),
-        Answer::Queued => put_text(b"queued", out, 0),
-        Answer::Dequeued(_) => put_text(b"dequeued", out, 0),
-        Answer::Empty => put_text(b"empty", out, 0),
-    }
-}
-
-pub fn reply_word(reply: Reply, out: &mut [u8]) -> usize
-    requires { 8 ≤ length out.old }
-    ensures { Put (reply_word reply) 0 out.old out.new result }
+pub fn reply_word(reply: Result<Answer, Refusal>) -> &'static [u8]
+    ensures { result.now ≡ reply_word (to_reply reply) }
 {
     match reply {
-        Reply::Answered(answer) => answer_word(answer, out),
-        Reply::Refused(_) => put_text(b"refused", out, 0),
+        Ok(Answer::Found(_)) => b"found",
+        Ok(Answer::Absent) => b"absent",
+        Ok(Answer::Replaced(_)) => b"replaced",
+        Ok(Answer::New) => b"new",
+        Ok(Answer::Removed(_)) => b"removed",
+        Ok(Answer::Pushed) => b"pushed",
+        Ok(Answer::Popped(_)) => b"popped",
+        Ok(Answer::Added) => b"added",
+        Ok(Answer::Taken(_)) => b"taken",
+        Ok(Answer::Queued) => b"queued",
+        Ok(Answer::Dequeued(_)) => b"dequeued",
+        Ok(Answer::Empty) => b"empty",
+        Err(_) => b"refused",
     }
 }

@@ -24,7 +24,6 @@ use Rattle.bucket_call_spec.specs.Peak.{peak_of}
 use Rattle.slot_spec.specs.declared.Link as link
 use Rattle.slot_spec.specs.declared.Ahead as ahead
 use Rattle.state_spec.specs.declared.State.{State}
-use Rattle.operation_spec.specs.declared.StepAnswer.{StepAnswer}
 use Rattle.operation_spec.specs.Method.{to_step_answer}
 use Rattle.operation_spec.specs.declared.Answer as told
 use Rattle.call_spec.specs.declared.Refusal.{Refusal}
@@ -43,6 +42,7 @@ use Rattle.idle_rounds.specs.IdleLaws.{goes_on_lem, stops-here}
 use Rattle.call_ending.specs.declared.Ran.{Ran}
 use Rattle.call_ending.specs.Ending.{left_by, ending_with, outcome_of, outcome_with, stepped_by, ahead_of, ShutAs, CanPut, Finishes, finished_by, listed_puts, FinishedAs}
 use Rattle.replies.specs.Answered.{answered, IsMark}
+use Rattle.operation_spec.specs.declared.Full.{Full}
 
 -- ---- parts alike
 saved-same : {structure size m m' n n' : ℕ} {l l' : link.Link} {a a' : ahead.Ahead} {ws ws' : List (Node ℕ)} → m ≡ m' → n ≡ n' → l ≡ l' → a ≡ a' → ws ≡ ws'
@@ -132,7 +132,7 @@ puts-mark {k} {n} {draw} {F} {first} {row} {tree} {row' = row'} {tree' = tree'} 
         inr (rw (p.rounds [] o ∙ stops-here r.mark end (done o) d) at (puts-marks k draw F first o (going n row tree [] [])))
 
 -- The put rounds, of the m nodes that wait after a step that came to such an outcome.
-module _ (j : Job) (draw : ℕ → ℕ) (l : link.Link) (entries : ℕ) (answer : StepAnswer) (ns : List (Node ℕ)) (m : ℕ) {row tree : List ℕ} (trace : List ℕ)
+module _ (j : Job) (draw : ℕ → ℕ) (l : link.Link) (entries : ℕ) (answer : Result told.Answer Full) (ns : List (Node ℕ)) (m : ℕ) {row tree : List ℕ} (trace : List ℕ)
     (long : 2 * j.rounds ≤ length trace) (a : ahead.Ahead) (known : to_ahead a ≡ ahead_of j)
     {row' tree' trace' : List ℕ} {r : Idle} (puts : Puts j.size m draw j.rounds j.puts row tree trace row' tree' trace' r) where
   abbrev O : Outcome ℕ

@@ -7,7 +7,7 @@ ghost use Rattle.call_spec.specs.Reply.{to_reply};
 ghost use Rattle.replies.specs.Answered.{answered, mark_of, IsMark};
 
 use call_spec::Refusal;
-use operation_spec::{Answer, StepAnswer};
+use operation_spec::{Answer, Full};
 
 // The cause for which a round closed the store with that mark, if it did: 8 damage, 9 overflow.
 pub fn cause_of(mark: u8) -> Option<Refusal>
@@ -22,14 +22,11 @@ pub fn cause_of(mark: u8) -> Option<Refusal>
 
 // The paper's answer, or for a full store a refusal, unless a put round closed the store for a cause.
 #[tactic(auto, using(crate::specs::AnsweredLaws::answer_replied, crate::specs::AnsweredLaws::cause_told), unfolding(call_spec::specs::Store::reply_of))]
-pub fn reply_after(cause: Option<Refusal>, answer: StepAnswer) -> Result<Answer, Refusal>
+pub fn reply_after(cause: Option<Refusal>, answer: Result<Answer, Full>) -> Result<Answer, Refusal>
     ensures { to_reply result ≡ answered (mark_of cause) (to_step_answer answer) }
 {
     if let Some(met) = cause {
         return Err(met);
     }
-    match answer {
-        StepAnswer::Answered(told) => Ok(told),
-        StepAnswer::Full => Err(Refusal::Full),
-    }
+    answer.map_err(|_| Refusal::Full)
 }

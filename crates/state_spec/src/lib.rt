@@ -7,14 +7,14 @@ use slot_spec::{Ahead, Link, Node};
 pub const PLACES: usize = 101;
 
 // A place for a waiting node. An unused one is all zero.
-#[derive(Clone, Copy)]
+#[derive(Clone, Copy, PartialEq, Eq, Default)]
 pub struct Place {
     pub full: bool,
     pub node: Node,
 }
 
 // Which of its two fields a kind of tickets uses.
-#[derive(Clone, Copy)]
+#[derive(Clone, Copy, PartialEq, Eq, Default)]
 pub struct Uses {
     pub key: bool,
     pub value: bool,

@@ -177,8 +177,12 @@ module _ {xs a b : List ℕ} {end : ℕ} (p : Put xs 0 a b end) (h : length xs �
       let l : length b ≡ length a = put-length p in
       (omega arith, rw length-take (omega arith))
 
+  -- The buffer is that text, and then what followed.
+  pub put-whole : {out : List ℕ} → out ≡ b → record { prefix_len : IsPrefixLen end out; value : (end ≡ length xs) × (out ≡ xs ++ drop end a) }
+  put-whole is = rw is (record { prefix_len = put-counts; value = (put-end, put_first) })
+
 -- ---- the line of a call
-word-length : (reply : Reply) → length (reply_word reply) ≤ 8
+pub word-length : (reply : Reply) → length (reply_word reply) ≤ 8
 word-length (Answered (Found v)) = omega arith
 word-length (Answered Absent) = omega arith
 word-length (Answered (Replaced v)) = omega arith
@@ -211,20 +215,27 @@ first-leaves [] (suc n) f i = omega arith
 first-leaves (t ∷ trace) (suc n) f zero = f 0
 first-leaves (t ∷ trace) (suc n) f (suc i) = first-leaves trace n (λ j. f (suc j)) i
 
+-- A line of a word, a number and leaves.
+abbrev pub line_with : List ℕ → ℕ → List ℕ → List ℕ
+line_with word v leaves = word ++ (numbers (v ∷ leaves) ++ (newline ∷ []))
+
 -- There is room for each part of the line.
-module _ (reply : Reply) {a b : List ℕ} {word : ℕ} (w : Put (reply_word reply) 0 a b word) (room : longest_line ≤ length a) (v : ℕ) (h : v < 2 ^ 64) where
+module _ {text : List ℕ} (short : length text ≤ 8) {a b : List ℕ} {word : ℕ} (w : Put text 0 a b word) (room : longest_line ≤ length a) (v : ℕ) (h : v < 2 ^ 64) where
   pub value_room : word + length (numbers (v ∷ [])) ≤ length b
-  value_room = omega (arith, number-length v 19 (omega arith), put-length w, w.ends, word-length reply)
+  value_room = omega (arith, number-length v 19 (omega arith), put-length w, w.ends, short)
 
   pub leaves-room : {c : List ℕ} {value : ℕ} (leaves : List ℕ) → Put (numbers (v ∷ [])) word b c value → length leaves ≤ most_leaves
       → ((i : ℕ) → get_or leaves i 0 < 2 ^ 16) → value + length (numbers leaves) < length c
   leaves-room leaves p few f =
-      omega (arith, number-length v 19 (omega arith), leaves-length leaves f, put-length w, w.ends, put-length p, p.ends, word-length reply)
+      omega (arith, number-length v 19 (omega arith), leaves-length leaves f, put-length w, w.ends, put-length p, p.ends, short)
 
 -- The line is put part by part.
-module _ (reply : Reply) (leaves : List ℕ) {a b c d e : List ℕ} {word value end all : ℕ} where
-  pub line-put : Put (reply_word reply) 0 a b word → Put (numbers (reply_shown reply ∷ [])) word b c value → Put (numbers leaves) value c d end
-      → Put (newline ∷ []) end d e all → Put (line_of reply leaves) 0 a e all
-  unfolding line_of
-  line-put w v n t =
-      rw (numbers-append (reply_shown reply ∷ []) leaves, append_assoc) (put_then w (put_then v (put_then n t)))
+module _ (text : List ℕ) (v : ℕ) (leaves : List ℕ) {a b c d e : List ℕ} {word value end all : ℕ} where
+  pub line-put : Put text 0 a b word → Put (numbers (v ∷ [])) word b c value → Put (numbers leaves) value c d end
+      → Put (newline ∷ []) end d e all → Put (line_with text v leaves) 0 a e all
+  line-put w p n t =
+      rw (numbers-append (v ∷ []) leaves, append_assoc) (put_then w (put_then p (put_then n t)))
+
+pub line-is : (reply : Reply) (leaves : List ℕ) → line_with (reply_word reply) (reply_shown reply) leaves ≡ line_of reply leaves
+unfolding line_of
+line-is reply leaves = refl

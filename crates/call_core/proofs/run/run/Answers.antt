@@ -1,6 +1,5 @@
 -- `call_core::run::run` meets its contract: a fetch round closed the store, or the step and the put rounds follow.
-use Rattle.std.proofs.Common.{◌≡◌, ◌∙◌, ap, sym, ℕ, omega, arith}
-use Rattle.replies.specs.Answered.{mark_of}
+use Rattle.std.proofs.Common.{arith}
 use Rattle.call_core.specs.RunLaws.{marked, went_on, fetched-mark, still-long, run-few, run-shuts, run-ends-shut, run-finishes, run-ends-finished, run-low}
 use Rattle.call_core.proofs.run.run.Goals as goal
 

@@ -1,5 +1,5 @@
 -- `tickets::read_ticket` meets its contract, kind by kind.
-use mathlib.Core.Path.{◌≡◌, refl, sym, ◌∙◌}
+use mathlib.Core.Path.{◌≡◌, refl, sym, ◌∙◌, ap}
 use mathlib.Core.Bool.{Bool, true, false}
 use mathlib.Core.List.{List}
 use mathlib.Core.Logic.{◌⊎◌, inl, inr}
@@ -9,6 +9,7 @@ use lib.ListN.{length, get_or}
 use native.Mathlib.Omega.{arith}
 use borrow.Author.Tests.{ltb-true, ltb-false}
 use Rattle.std.specs.Prelude.{Some}
+use Rattle.operation_spec.specs.declared.Op.TheVariants.{Push, Add, Enqueue}
 use Rattle.state_spec.specs.Ticket.{kind_in, key_in, value_in}
 use Rattle.tickets.specs.Asked.{asked, map_op, stack_op, heap_op, queue_op}
 use Rattle.tickets.specs.AskedLaws.{map-kinds, stack-kinds, heap-kinds, queue-kinds, no-map-kind, no-stack-kind, no-heap-kind, no-queue-kind, first_byte}
@@ -59,7 +60,7 @@ returns-in_default-kind c =
 
 pub returns-in-4 : goal.returns-in-4
 unfolding stack_op
-returns-in-4 c = rw c.value_in-value.ensures (of-stack c.args.ticket.now c.requires c.args.structure 4 c.in-4.is c.in-2.is (omega arith) (omega arith))
+returns-in-4 c = ap (λ (v : ℕ). Some (Push v)) c.value_in-value.ensures ∙ of-stack c.args.ticket.now c.requires c.args.structure 4 c.in-4.is c.in-2.is (omega arith) (omega arith)
 
 pub returns-in-5 : goal.returns-in-5
 unfolding stack_op
@@ -73,7 +74,7 @@ returns-in_default-kind-2 c =
 
 pub returns-in-6 : goal.returns-in-6
 unfolding heap_op
-returns-in-6 c = rw c.value_in-value.ensures (of_heap c.args.ticket.now c.requires c.args.structure 6 c.in-6.is c.in-3.is (omega arith) (omega arith))
+returns-in-6 c = ap (λ (v : ℕ). Some (Add v)) c.value_in-value.ensures ∙ of_heap c.args.ticket.now c.requires c.args.structure 6 c.in-6.is c.in-3.is (omega arith) (omega arith)
 
 pub returns-in-7 : goal.returns-in-7
 unfolding heap_op
@@ -89,7 +90,7 @@ pub returns-in-8 : goal.returns-in-8
 unfolding queue_op
 returns-in-8 c =
     let other = beyond c.args.structure (λ e. omega arith) (λ e. omega arith) (λ e. omega arith) in
-    rw c.value_in-value.ensures (of-queue c.args.ticket.now c.requires c.args.structure 8 c.in-8.is other (omega arith) (omega arith))
+    ap (λ (v : ℕ). Some (Enqueue v)) c.value_in-value.ensures ∙ of-queue c.args.ticket.now c.requires c.args.structure 8 c.in-8.is other (omega arith) (omega arith)
 
 pub returns-in-9 : goal.returns-in-9
 unfolding queue_op

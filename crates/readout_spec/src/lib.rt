@@ -1,6 +1,9 @@
 // Reading out a closed store (document 02, change 3): definitions.
 #![tactic(auto)]
 
+ghost use Rattle.std.specs.Prelude.{◌≡◌};
+ghost use Rattle.readout_spec.specs.ReadOut.{number_of};
+
 use state_spec::PLACES;
 
 // The most slots and waiting places that a store has: those of the largest tree, of size 8, and of a state.
@@ -25,9 +28,21 @@ pub const INDEX_WIDTH: usize = KEY_WIDTH + OFFSET_WIDTH;
 
 pub const REPORT_WIDTH: usize = PLACE_WIDTH + REASON_WIDTH;
 
-// What reading out brings: the length of the file that was written, or the number of a refusal.
-#[derive(Clone, Copy)]
-pub enum ReadOut {
-    Written(usize),
-    Refused(u8),
+// Why a store is not read out, with the number that a host gets.
+#[derive(Clone, Copy, PartialEq, Eq)]
+pub enum NoFile {
+    // Structure or size is unknown, or more nodes wait than there are places.
+    Unfit = 2,
+    TreeLength = 3,
+    // The mark is neither 8 nor 9.
+    NotClosed = 14,
+    ShortBuffer = 15,
+}
+
+impl NoFile {
+    pub fn number(self) -> u8
+        ensures { result ≡ number_of self }
+    {
+        self as u8
+    }
 }

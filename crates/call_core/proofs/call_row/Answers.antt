@@ -1,5 +1,5 @@
 -- `call_core::call_row` meets its contract: one refusal after the other, in document 01's order, then the short run or the long one.
-use Rattle.std.proofs.Common.{◌≡◌, ◌≤◌, ◌<◌, ◌+◌, ◌*◌, ◌^◌, refl, sym, ◌∙◌, ap, Bool, true, false, Ok, Err, List, ℕ, nat_eq, length, get_or, Fits, w8, w16, w32, eqb-true, arith, rules}
+use Rattle.std.proofs.Common.{◌≡◌, ◌≤◌, ◌<◌, ◌+◌, ◌*◌, refl, sym, ◌∙◌, ap, Bool, true, false, Ok, Err, List, ℕ, nat_eq, length, get_or, Fits, w8, w16, w32, eqb-true, arith, rules}
 use Rattle.std.proofs.lemmas.Bool.{eqb-false}
 use Rattle.slot_spec.specs.LittleEndian.{Bytes}
 use Rattle.slot_spec.specs.Tree.{tree_length}

@@ -1,5 +1,5 @@
 -- The checks of a call, one by one.
-use Rattle.std.specs.Prelude.{◌≡◌, refl, true, false, Ok, Err, List, [], ◌∷◌, map, ℕ, suc, ◌+◌, ◌*◌, ◌^◌, ◌≤◌, ◌<◌, length, drop, get_or}
+use Rattle.std.specs.Prelude.{◌≡◌, refl, true, false, Ok, Err, Some, None, List, [], ◌∷◌, map, ℕ, suc, ◌+◌, ◌*◌, ◌^◌, ◌≤◌, ◌<◌, length, drop, get_or}
 use Rattle.std.proofs.Common.{sym, ◌∙◌, subst, append-nil, add-zero, arith, pow_mono}
 use Rattle.std.proofs.Math.Path.{ap}
 use mathlib.Core.List.Memᴰ
@@ -30,7 +30,6 @@ use Rattle.state_spec.specs.Fetching.{rounds_of, spare_of}
 use Rattle.leaf_spec.specs.Convert.{to_link, to_ahead, to_node}
 use Rattle.operation_spec.specs.declared.Op.{Op}
 use Rattle.operation_spec.specs.Method.{to_op, structure_asked}
-use Rattle.tickets.specs.declared.Asked.TheVariants.{Call, Unknown}
 use Rattle.tickets.specs.Asked.{from_op, from_asked, asked}
 use Rattle.call_spec.specs.Store.{refusing, store_of, by_rounds, checks, first_met, decided, called}
 use Rattle.fitness_laws.specs.FitState.{FitState, fit-state}
@@ -56,7 +55,7 @@ bytes_of [] h = tt
 bytes_of (b ∷ bs) h = (h 0, bytes_of bs (λ i. h (suc i)))
 
 -- ---- what a ticket asks
-pub unknown-none : {s : Structure} (o : Option (method.Op s)) → from_asked o ≡ Unknown → o ≡ none
+pub unknown-none : {s : Structure} (o : Option (method.Op s)) → from_asked o ≡ None → o ≡ none
 unfolding from_asked
 unknown-none none e = refl
 unknown-none (some op) e = let z : ◌≡◌ {A = ℕ} 0 1 = cc in absurd (omega arith)
@@ -66,7 +65,7 @@ pub record AsksFor (s : Structure) (o : Option (method.Op s)) (op : Op) : Type 0
   pub is : o ≡ some asks
   pub same : from_op asks ≡ op
 
-pub asks-for : {s : Structure} (o : Option (method.Op s)) (op : Op) → from_asked o ≡ Call op → AsksFor s o op
+pub asks-for : {s : Structure} (o : Option (method.Op s)) (op : Op) → from_asked o ≡ Some op → AsksFor s o op
 unfolding from_asked
 asks-for none op e = let z : ◌≡◌ {A = ℕ} 0 1 = cc in absurd (omega arith)
 asks-for (some a) op e = let d : from_op a ≡ op = cc in record { asks = a; is = refl; same = d }
@@ -131,7 +130,7 @@ pub record Checked (s : State) (op : Op) (F : ℕ) (tree ticket tape trace : Lis
   pub fit : fits s ≡ true
   pub tree-sized : length tree ≡ tree_length s.size
   pub ticket-sized : length ticket ≡ ticket_length
-  pub asks : asked s.structure ticket ≡ Call op
+  pub asks : asked s.structure ticket ≡ Some op
   pub clean : stray_fields ticket ≡ false
   pub keys : out_of_keys (to_op op) s.ahead.key ≡ false
   pub rounds-are : F ≡ rounds (numbered s.structure) s.size
@@ -172,11 +171,11 @@ module _ (s : State) (tree ticket tape trace : List ℕ) where
           unfolding called checks first_met
           past = rw (eq-eqb s.mark 0 not-closed, fit, eq-eqb (length tree) (tree_length s.size) sized, eq-eqb (length ticket) ticket_length whole)
 
-          pub refused-5 : asked s.structure ticket ≡ Unknown → called s tree ticket tape trace ≡ refusing 5 s tree trace
+          pub refused-5 : asked s.structure ticket ≡ None → called s tree ticket tape trace ≡ refusing 5 s tree trace
           unfolding checks first_met decided
           refused-5 h = past ∙ rw (unknown-none (op_in st ticket) h)
 
-          module _ (op : Op) (asks : asked s.structure ticket ≡ Call op) where
+          module _ (op : Op) (asks : asked s.structure ticket ≡ Some op) where
             a : AsksFor st (op_in st ticket) op
             a = asks-for (op_in st ticket) op asks
 
@@ -328,11 +327,11 @@ module _ {s : State} {h : Head} {row : List ℕ} (st : StandsFor s h row) where
       gives-4 = refused-4 s tree ticket tape trace st.not-closed st.fit tree_is
 
       module _ (whole : length ticket ≡ ticket_length) where
-        pub gives-5 : asked h.structure ticket ≡ Unknown → Gives 5
+        pub gives-5 : asked h.structure ticket ≡ None → Gives 5
         gives-5 e = refused-5 s tree ticket tape trace st.not-closed st.fit tree_is whole (rw st.head at e)
 
-        module _ (op : Op) (asks : asked h.structure ticket ≡ Call op) where
-          asks-is : asked s.structure ticket ≡ Call op
+        module _ (op : Op) (asks : asked h.structure ticket ≡ Some op) where
+          asks-is : asked s.structure ticket ≡ Some op
           asks-is = rw st.head at asks
 
           pub gives-19 : stray_fields ticket ≡ true → Gives 19

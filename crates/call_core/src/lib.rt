@@ -9,7 +9,7 @@ ghost use Rattle.call_core.specs.Run.{Stands, CallsAs};
 use call_ending::Ran;
 use call_spec::Refusal;
 use fitness::Head;
-use tickets::{Asked, is_whole, out_of_keys, read_ticket};
+use tickets::{is_whole, out_of_keys, read_ticket};
 use tree_paths::tree_length;
 use unused_fields::has_stray;
 
@@ -37,7 +37,7 @@ pub fn call_row(
     if !is_whole(ticket) {
         return Err(Refusal::TicketLength);
     }
-    let Asked::Call(op) = read_ticket(head.structure, ticket) else {
+    let Some(op) = read_ticket(head.structure, ticket) else {
         return Err(Refusal::UnknownKind);
     };
     if has_stray(ticket) {

@@ -1,5 +1,5 @@
 -- `call_core::call_row` meets its contract: one refusal after the other, in document 01's order, then the short run or the long one.
-use Rattle.std.proofs.Common.{◌≡◌, ◌≤◌, ◌<◌, ◌+◌, ◌*◌, ◌^◌, refl, sym, ◌∙◌, ap, Bool, true, false, Ok, Err, List, ℕ, nat_eq, length, get_or, Fits, w8, w16, w32, eqb-true, arith, rules}
+use Rattle.std.proofs.Common.{◌≡◌, ◌≤◌, ◌<◌, ◌+◌, ◌*◌, refl, sym, ◌∙◌, ap, Bool, true, false, Ok, Err, List, ℕ, nat_eq, length, get_or, Fits, w8, w16, w32, eqb-true, arith, rules}
 use Rattle.std.proofs.lemmas.Bool.{eqb-false}
 use Rattle.slot_spec.specs.LittleEndian.{Bytes}
 use Rattle.slot_spec.specs.Tree.{tree_length}
@@ -12,8 +12,7 @@ use Rattle.state_spec.specs.declared.State.{State}
 use Rattle.call_spec.specs.declared.Refusal.{Refusal}
 use Rattle.call_spec.specs.declared.Refusal.TheVariants.{TreeLength, TicketLength, UnknownKind, ShortTape, ShortTrace, NoKeyLeft, StrayField}
 use Rattle.call_ending.specs.declared.Ran.{Ran}
-use Rattle.tickets.specs.declared.Asked as tickets
-use Rattle.tickets.specs.declared.Asked.TheVariants.{Call, Unknown}
+use Rattle.std.specs.Prelude.{Option, Some, None}
 use Rattle.tickets.specs.Asked.{asked}
 use Rattle.short_outcomes.specs.OneFetch.{one_fetch}
 use Rattle.want_rounds.specs.declared.Job.{Job}
@@ -56,15 +55,15 @@ module _ (tree ticket tape trace : List ℕ) {h : Head} {row : List ℕ} {F draw
     other-ticket : whole ≡ false → Refuses TicketLength
     other-ticket e = core-refuses r.0 TicketLength (λ s st. gives-4 st tree ticket tape trace tree_is (eqb-false (length ticket) 13 (sym length-told ∙ e)))
 
-    module _ (good : whole ≡ true) {read : tickets.Asked} (asked-is : read ≡ asked h.structure ticket) where
+    module _ (good : whole ≡ true) {read : Option Op} (asked-is : read ≡ asked h.structure ticket) where
       ticket_is : length ticket ≡ ticket_length
       ticket_is = eqb-true (length ticket) 13 (sym length-told ∙ good)
 
-      unknown : read ≡ Unknown → Refuses UnknownKind
+      unknown : read ≡ None → Refuses UnknownKind
       unknown e = core-refuses r.0 UnknownKind (λ s st. gives-5 st tree ticket tape trace tree_is ticket_is (sym asked-is ∙ e))
 
-      module _ {op : Op} (call : read ≡ Call op) {stray : Bool} (stray-told : stray ≡ stray_fields ticket) where
-        asks : asked h.structure ticket ≡ Call op
+      module _ {op : Op} (call : read ≡ Some op) {stray : Bool} (stray-told : stray ≡ stray_fields ticket) where
+        asks : asked h.structure ticket ≡ Some op
         asks = sym asked-is ∙ call
 
         strays : stray ≡ true → Refuses StrayField
@@ -136,36 +135,36 @@ returns-in_default c =
 pub returns-then-has_stray : goal.returns-then-has_stray
 returns-then-has_stray c =
     strays c.args.tree.now c.args.ticket.now c.args.tape.now c.args.trace.now c.requires c.from-size.ensures c.tree_length.ensures c.if-tree-tree_length.false c.is_whole.ensures c.if-not-is_whole.false
-    c.read_ticket.ensures c.in-Call.is c.has_stray.ensures c.if-has_stray.true
+    c.read_ticket.ensures c.in-Some.is c.has_stray.ensures c.if-has_stray.true
 
 pub returns-then-out_of_keys : goal.returns-then-out_of_keys
 returns-then-out_of_keys c =
     no-key c.args.tree.now c.args.ticket.now c.args.tape.now c.args.trace.now c.requires c.from-size.ensures c.tree_length.ensures c.if-tree-tree_length.false c.is_whole.ensures c.if-not-is_whole.false
-    c.read_ticket.ensures c.in-Call.is c.has_stray.ensures c.if-has_stray.false c.out_of_keys.ensures c.if-out_of_keys.true
+    c.read_ticket.ensures c.in-Some.is c.has_stray.ensures c.if-has_stray.false c.out_of_keys.ensures c.if-out_of_keys.true
 
 pub returns-then-tape-draws : goal.returns-then-tape-draws
 returns-then-tape-draws c =
     short-tape c.args.tree.now c.args.ticket.now c.args.tape.now c.args.trace.now c.requires c.from-size.ensures c.tree_length.ensures c.if-tree-tree_length.false c.is_whole.ensures c.if-not-is_whole.false
-    c.read_ticket.ensures c.in-Call.is c.has_stray.ensures c.if-has_stray.false c.out_of_keys.ensures c.if-out_of_keys.false c.if-tape-draws.true
+    c.read_ticket.ensures c.in-Some.is c.has_stray.ensures c.if-has_stray.false c.out_of_keys.ensures c.if-out_of_keys.false c.if-tape-draws.true
 
 pub returns-then-trace-rounds : goal.returns-then-trace-rounds
 returns-then-trace-rounds c =
     short-trace c.args.tree.now c.args.ticket.now c.args.tape.now c.args.trace.now c.requires c.from-size.ensures c.tree_length.ensures c.if-tree-tree_length.false c.is_whole.ensures c.if-not-is_whole.false
-    c.read_ticket.ensures c.in-Call.is c.has_stray.ensures c.if-has_stray.false c.out_of_keys.ensures c.if-out_of_keys.false c.if-tape-draws.false
+    c.read_ticket.ensures c.in-Some.is c.has_stray.ensures c.if-has_stray.false c.out_of_keys.ensures c.if-out_of_keys.false c.if-tape-draws.false
     c.if-trace-rounds.true
 
 pub job_for-job-requires : goal.job_for-job-requires
 job_for-job-requires c =
     job-asks c.args.tree.now c.args.ticket.now c.args.tape.now c.args.trace.now c.requires c.from-size.ensures c.tree_length.ensures c.if-tree-tree_length.false
-    c.is_whole.ensures c.if-not-is_whole.false c.read_ticket.ensures c.in-Call.is c.has_stray.ensures c.if-has_stray.false c.out_of_keys.ensures
+    c.is_whole.ensures c.if-not-is_whole.false c.read_ticket.ensures c.in-Some.is c.has_stray.ensures c.if-has_stray.false c.out_of_keys.ensures
     c.if-out_of_keys.false c.if-tape-draws.false
 
 pub run_short-requires : goal.run_short-requires
 run_short-requires c =
     let a = c.args in
-    let ok : (s : State) → StandsFor s a.head a.w.now → Checked s c.in-Call.op a.rounds a.tree.now a.ticket.now a.tape.now a.trace.now =
+    let ok : (s : State) → StandsFor s a.head a.w.now → Checked s c.in-Some.op a.rounds a.tree.now a.ticket.now a.tape.now a.trace.now =
     (enough a.tree.now a.ticket.now a.tape.now a.trace.now c.requires c.from-size.ensures c.tree_length.ensures c.if-tree-tree_length.false c.is_whole.ensures c.if-not-is_whole.false
-    c.read_ticket.ensures c.in-Call.is c.has_stray.ensures c.if-has_stray.false c.out_of_keys.ensures c.if-out_of_keys.false c.if-tape-draws.false
+    c.read_ticket.ensures c.in-Some.is c.has_stray.ensures c.if-has_stray.false c.out_of_keys.ensures c.if-out_of_keys.false c.if-tape-draws.false
     c.if-trace-rounds.false (bytes_of a.tree.now (λ i. let f : Fits w8 (get_or a.tree.now i 0) = search rules in f.fits)) (bytes_of a.ticket.now (λ i. (c.type_inv.ticket i).fits))
     (root-within a.head (search rules)) (ahead-within a.head (search rules))) in
     runs-short a.tree.now a.ticket.now a.tape.now a.trace.now c.requires ok c.job_for-job.ensures c.from-n.ensures c.if-rounds-eq1.true
@@ -173,9 +172,9 @@ run_short-requires c =
 pub returns-then-rounds-eq1 : goal.returns-then-rounds-eq1
 returns-then-rounds-eq1 c =
     let a = c.args in
-    let ok : (s : State) → StandsFor s a.head a.w.now → Checked s c.in-Call.op a.rounds a.tree.now a.ticket.now a.tape.now a.trace.now =
+    let ok : (s : State) → StandsFor s a.head a.w.now → Checked s c.in-Some.op a.rounds a.tree.now a.ticket.now a.tape.now a.trace.now =
     (enough a.tree.now a.ticket.now a.tape.now a.trace.now c.requires c.from-size.ensures c.tree_length.ensures c.if-tree-tree_length.false c.is_whole.ensures c.if-not-is_whole.false
-    c.read_ticket.ensures c.in-Call.is c.has_stray.ensures c.if-has_stray.false c.out_of_keys.ensures c.if-out_of_keys.false c.if-tape-draws.false
+    c.read_ticket.ensures c.in-Some.is c.has_stray.ensures c.if-has_stray.false c.out_of_keys.ensures c.if-out_of_keys.false c.if-tape-draws.false
     c.if-trace-rounds.false (bytes_of a.tree.now (λ i. let f : Fits w8 (get_or a.tree.now i 0) = search rules in f.fits)) (bytes_of a.ticket.now (λ i. (c.type_inv.ticket i).fits))
     (root-within a.head (search rules)) (ahead-within a.head (search rules))) in
     ran a.tree.now a.ticket.now a.tape.now a.trace.now c.requires ok c.job_for-job.ensures c.from-n.ensures c.run_short.ensures
@@ -183,9 +182,9 @@ returns-then-rounds-eq1 c =
 pub run-requires : goal.run-requires
 run-requires c =
     let a = c.args in
-    let ok : (s : State) → StandsFor s a.head a.w.now → Checked s c.in-Call.op a.rounds a.tree.now a.ticket.now a.tape.now a.trace.now =
+    let ok : (s : State) → StandsFor s a.head a.w.now → Checked s c.in-Some.op a.rounds a.tree.now a.ticket.now a.tape.now a.trace.now =
     (enough a.tree.now a.ticket.now a.tape.now a.trace.now c.requires c.from-size.ensures c.tree_length.ensures c.if-tree-tree_length.false c.is_whole.ensures c.if-not-is_whole.false
-    c.read_ticket.ensures c.in-Call.is c.has_stray.ensures c.if-has_stray.false c.out_of_keys.ensures c.if-out_of_keys.false c.if-tape-draws.false
+    c.read_ticket.ensures c.in-Some.is c.has_stray.ensures c.if-has_stray.false c.out_of_keys.ensures c.if-out_of_keys.false c.if-tape-draws.false
     c.if-trace-rounds.false (bytes_of a.tree.now (λ i. let f : Fits w8 (get_or a.tree.now i 0) = search rules in f.fits)) (bytes_of a.ticket.now (λ i. (c.type_inv.ticket i).fits))
     (root-within a.head (search rules)) (ahead-within a.head (search rules))) in
     runs-long a.tree.now a.ticket.now a.tape.now a.trace.now c.requires ok c.job_for-job.ensures c.from-n.ensures c.if-rounds-eq1.false
@@ -193,9 +192,9 @@ run-requires c =
 pub returns-else-rounds-eq1 : goal.returns-else-rounds-eq1
 returns-else-rounds-eq1 c =
     let a = c.args in
-    let ok : (s : State) → StandsFor s a.head a.w.now → Checked s c.in-Call.op a.rounds a.tree.now a.ticket.now a.tape.now a.trace.now =
+    let ok : (s : State) → StandsFor s a.head a.w.now → Checked s c.in-Some.op a.rounds a.tree.now a.ticket.now a.tape.now a.trace.now =
     (enough a.tree.now a.ticket.now a.tape.now a.trace.now c.requires c.from-size.ensures c.tree_length.ensures c.if-tree-tree_length.false c.is_whole.ensures c.if-not-is_whole.false
-    c.read_ticket.ensures c.in-Call.is c.has_stray.ensures c.if-has_stray.false c.out_of_keys.ensures c.if-out_of_keys.false c.if-tape-draws.false
+    c.read_ticket.ensures c.in-Some.is c.has_stray.ensures c.if-has_stray.false c.out_of_keys.ensures c.if-out_of_keys.false c.if-tape-draws.false
     c.if-trace-rounds.false (bytes_of a.tree.now (λ i. let f : Fits w8 (get_or a.tree.now i 0) = search rules in f.fits)) (bytes_of a.ticket.now (λ i. (c.type_inv.ticket i).fits))
     (root-within a.head (search rules)) (ahead-within a.head (search rules))) in
     ran a.tree.now a.ticket.now a.tape.now a.trace.now c.requires ok c.job_for-job.ensures c.from-n.ensures c.run.ensures

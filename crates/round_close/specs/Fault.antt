@@ -1,6 +1,6 @@
 -- The mark that a fault leaves on its store, and a round's close.
 use Rattle.std.specs.Prelude.{◌≡◌, refl, ℕ, ◌+◌, Bool, true, false, Option, Some, None, is_some}
-use Rattle.std.proofs.Common.{arith}
+use Rattle.std.proofs.Common.{◌∙◌, ap, arith}
 use Rattle.list_spec.specs.Choice.{pick}
 use Rattle.round_spec.specs.Round.{exceeds_limit}
 use Rattle.round_close.specs.declared.Fault.{Fault}
@@ -23,6 +23,9 @@ closing waiting held = record { count = waiting + held; fault = overflow_if (exc
 pub overflow-mark : (many : Bool) → mark_of (overflow_if many) ≡ pick many 9 0
 overflow-mark true = refl
 overflow-mark false = refl
+
+pub closed-mark : (c : Close) (waiting held : ℕ) → c ≡ closing waiting held → mark_of c.fault ≡ pick (exceeds_limit waiting held) 9 0
+closed-mark c waiting held is = ap (λ (x : Close). mark_of x.fault) is ∙ overflow-mark (exceeds_limit waiting held)
 
 pub fault-marks : (f : Option Fault) → is_some f ≡ true → mark_of f ≡ 0 → ⊥
 fault-marks None t e = let z : ◌≡◌ {A = ℕ} 0 1 = cc in absurd (omega arith)

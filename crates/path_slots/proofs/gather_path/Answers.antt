@@ -17,7 +17,8 @@ loop-level-preserved c =
     let starts = c.start_at in
     let all = full_starts a.tree.now (slot_starts (path a.size a.leaf)) in (
       omega (arith, g.ensures.0, l.invariant.0),
-      gather-level a.size a.leaf l.level starts.result a.tree.now all (take l.count l.from) (take g.result g.new.from) (omega arith) starts.ensures.0 g.ensures.1 l.invariant.1,
+      search rules,
+      gather-level a.size a.leaf l.level starts.result a.tree.now all (take l.count l.from) (take g.result g.new.from) (omega arith) starts.ensures.0 g.ensures.1 l.invariant.2,
     )
 
 pub returns : goal.returns
@@ -27,7 +28,7 @@ returns c =
     let all = full_starts a.tree.now (slot_starts (path a.size a.leaf)) in
     let e : l.level ≡ a.size + 1 = omega arith in
     record {
-      sized = search rules;
+      sized = l.invariant.1;
       fewer = omega (arith, l.invariant.0);
-      starts = gather-end a.size a.leaf l.level a.tree.now all (take l.count l.from) e l.invariant.1;
+      starts = gather-end a.size a.leaf l.level a.tree.now all (take l.count l.from) e l.invariant.2;
     }

@@ -10,5 +10,5 @@ use Rattle.path_slots.proofs.gather_path.Given as goal
 
 abbrev pub invariant-loop-level : goal.invariant-loop-level
 invariant-loop-level l =
-    (l.count ≤ 4 * l.level)
+    (l.count ≤ 4 * l.level) × (length l.from ≡ path_slots)
     × (full_starts l.tree (slot_starts (path l.size l.leaf)) ≡ take l.count l.from ++ full_starts l.tree (slot_starts (drop l.level (path l.size l.leaf))))

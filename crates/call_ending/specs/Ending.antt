@@ -1,5 +1,6 @@
 -- What the end of a call needs and leaves, as the definition of a call says it.
 use Rattle.std.specs.Prelude.{◌≡◌, true, List, [], ◌++◌, ℕ, max, ◌+◌, ◌*◌, ◌≤◌, length, take, drop}
+use Rattle.std.specs.Prelude as code
 use Rattle.list_spec.specs.Distinct.{All}
 use Rattle.method_spec.specs.Node.{Ahead, Node}
 use Rattle.method_spec.specs.Prog.{done, after}
@@ -15,7 +16,6 @@ use Rattle.bucket_call_spec.specs.Fetch as fetch
 use Rattle.bucket_call_spec.specs.Fetch.{CallLeft, Going, Round, closing}
 use Rattle.bucket_call_spec.specs.Call.{Store, after_puts, put_rounds, stepped, bucket_call}
 use Rattle.bucket_call_spec.specs.Peak.{rounds_from, peak_of, call_peak}
-use Rattle.operation_spec.specs.declared.StepAnswer.{StepAnswer}
 use Rattle.operation_spec.specs.Method.{to_op, to_step_answer, ahead_for, outcome_in}
 use Rattle.node_rows.specs.Row.{words as rowWords, fetches}
 use Rattle.word_round_laws.specs.SlotRow.{places}
@@ -29,6 +29,8 @@ use Rattle.want_rounds.specs.declared.Job.{Job}
 use Rattle.want_rounds.specs.declared.Fetched.{Fetched}
 use Rattle.want_rounds.specs.Wanting.{structure_in, program_of, LongEnough}
 use Rattle.call_ending.specs.declared.Ran.{Ran}
+use Rattle.operation_spec.specs.declared.Answer as answer
+use Rattle.operation_spec.specs.declared.Full.{Full}
 
 -- What the rounds and the step of a call leave, of a store of that structure and size, with the waiting nodes' row, the tree and
 -- the trace buffer as they are then.
@@ -90,7 +92,7 @@ abbrev pub stepped_by : Job → List (Node ℕ) → Fetched → (row tree trace 
 stepped_by j ns f row tree trace = stepped (outcome_of j ns) (going_by [] f row tree trace)
 
 -- An outcome by its parts.
-abbrev pub outcome_with : link.Link → ℕ → StepAnswer → List (Node ℕ) → Outcome ℕ
+abbrev pub outcome_with : link.Link → ℕ → code.Result answer.Answer Full → List (Node ℕ) → Outcome ℕ
 outcome_with l entries answer ns = record { nodes = ns; root = to_link l; entries = entries; answer = to_step_answer answer }
 
 -- What is known ahead after the step.
@@ -136,7 +138,7 @@ pub record FinishedAs (j : Job) (draw : ℕ → ℕ) (peak : ℕ) (o : Outcome �
       ≡ ending_with j.structure j.size trace (finished_by j draw o g) (max peak (peak_of (listed_puts j draw o g)))
 
 -- What is left by a call whose step came to these, after put rounds that came to p: whatever store they were made on, the call is finished so.
-abbrev pub EndsPuts : Job → (peak : ℕ) → link.Link → (entries : ℕ) → StepAnswer → Idle → Ran → Type 0
+abbrev pub EndsPuts : Job → (peak : ℕ) → link.Link → (entries : ℕ) → code.Result answer.Answer Full → Idle → Ran → Type 0
 EndsPuts j peak l entries answer p r =
     (draw : ℕ → ℕ) (m : ℕ) (row tree trace row' tree' trace' : List ℕ) (ns : List (Node ℕ)) → 2 * j.rounds ≤ length trace
     → Puts j.size m draw j.rounds j.puts row tree trace row' tree' trace' p

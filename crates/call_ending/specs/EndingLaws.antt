@@ -1,5 +1,6 @@
 -- What a call leaves after its fetch rounds.
 use Rattle.std.specs.Prelude.{◌≡◌, true, List, [], ◌++◌, ℕ, max, ◌+◌, ◌*◌, ◌≤◌, length, take, drop}
+use Rattle.std.specs.Prelude as code
 use Rattle.std.proofs.Math.Path.{refl, ap}
 use Rattle.std.proofs.Common.{sym, ◌∙◌, ap₂, arith, eq-eqb, ne_eqb, length-take, length-append, take-append-drop}
 use Rattle.std.proofs.Math.Option.{none}
@@ -22,7 +23,6 @@ use Rattle.bucket_call_spec.specs.Peak.{peak_of}
 use Rattle.slot_spec.specs.declared.Link as link
 use Rattle.slot_spec.specs.declared.Ahead as ahead
 use Rattle.state_spec.specs.declared.State.{State}
-use Rattle.operation_spec.specs.declared.StepAnswer.{StepAnswer}
 use Rattle.operation_spec.specs.Method.{to_step_answer}
 use Rattle.call_spec.specs.declared.Reply.{Reply}
 use Rattle.call_spec.specs.declared.Reply.TheVariants.{Refused}
@@ -40,6 +40,8 @@ use Rattle.idle_rounds.specs.IdleLaws.{goes_on_lem, stops-here}
 use Rattle.call_ending.specs.declared.Ran.{Ran}
 use Rattle.call_ending.specs.Ending.{left_by, ending_with, outcome_of, outcome_with, stepped_by, ahead_of, ShutAs, CanPut, Finishes, finished_by, listed_puts, FinishedAs}
 use Rattle.replies.specs.Answered.{answered}
+use Rattle.operation_spec.specs.declared.Answer as answer
+use Rattle.operation_spec.specs.declared.Full.{Full}
 
 -- ---- parts alike
 saved-same : {structure size m m' n n' : ℕ} {l l' : link.Link} {a a' : ahead.Ahead} {ws ws' : List (Node ℕ)} → m ≡ m' → n ≡ n' → l ≡ l' → a ≡ a' → ws ≡ ws'
@@ -89,7 +91,7 @@ unfolding closing join fetch.moved_link
 closing-none mark entries l a n row tree leaves = refl
 
 -- The put rounds, of the m nodes that wait after a step that came to such an outcome.
-module _ (j : Job) (draw : ℕ → ℕ) (l : link.Link) (entries : ℕ) (answer : StepAnswer) (ns : List (Node ℕ)) (m : ℕ) {row tree : List ℕ} (trace : List ℕ)
+module _ (j : Job) (draw : ℕ → ℕ) (l : link.Link) (entries : ℕ) (answer : code.Result answer.Answer Full) (ns : List (Node ℕ)) (m : ℕ) {row tree : List ℕ} (trace : List ℕ)
     (long : 2 * j.rounds ≤ length trace) (a : ahead.Ahead) (known : to_ahead a ≡ ahead_of j)
     {row' tree' trace' : List ℕ} {r : Idle} (puts : Puts j.size m draw j.rounds j.puts row tree trace row' tree' trace' r) where
   abbrev O : Outcome ℕ

@@ -17,7 +17,7 @@ use call_spec::Reply;
 use held_keys::MOST_HELD;
 use idle_rounds::idle::Idle;
 use node_rows::{FETCHES, ROW};
-use operation_spec::{Outcome, StepAnswer};
+use operation_spec::{Answer, Full, Outcome};
 use path_slots::PATH_SLOTS;
 use put_rounds::put_rounds;
 use replies::reply_after;
@@ -89,7 +89,7 @@ pub fn finished(
     peak: usize,
     root: Link,
     entries: u16,
-    answer: StepAnswer,
+    answer: Result<Answer, Full>,
     puts: Idle,
 ) -> Ran
     requires { KeyLeft (to_op job.op) job.spares.ahead.key × ((job.rounds ≤ 33) × (puts.shown ≤ job.rounds)) }

@@ -7,7 +7,7 @@ ghost use Rattle.fetch_rounds.specs.Short.{CanFetchOne};
 use held_keys::MOST_HELD;
 use idle_rounds::idle::{draw_at, idle_rounds};
 use one_round::short_round;
-use operation_spec::Wanted;
+
 use path_slots::PATH_SLOTS;
 use short_steps::short_wanted;
 use slot_fields::no_node;
@@ -31,7 +31,7 @@ pub fn short_fetch(
     let op = job.op;
     let root = job.root;
     let next = short_wanted(op, job.entries, root);
-    let Wanted::Fetch(want) = next else {
+    let Some(want) = next else {
         let r = idle_rounds(w, n, tree, job.size, keys, 0, tape, 0, 1, trace, 0, from);
         return FetchedOne {
             fetched: came_to(0, r.waiting, r.mark, r.shown, r.peak),

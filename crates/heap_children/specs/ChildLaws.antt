@@ -1,5 +1,6 @@
 -- The children of a node, case by case.
-use Rattle.std.specs.Prelude.{ℕ, suc, ◌+◌, ◌≤◌, ◌<◌, ◌≡◌, refl, Bool, true, false, not, length, drop}
+use Rattle.std.specs.Prelude.{ℕ, suc, ◌+◌, ◌≤◌, ◌<◌, ◌≡◌, refl, Bool, true, false, not, length, drop, None, Some}
+use Rattle.std.specs.Prelude as code
 use native.Mathlib.Omega.{arith}
 use Rattle.std.proofs.Common.{add-one, sym, ◌∙◌, ap, eq-eqb, ne_eqb, le-leb}
 use mathlib.Core.List.{List, [], ◌∷◌}
@@ -13,8 +14,6 @@ use Rattle.slot_spec.specs.declared.Link as link
 use Rattle.slot_spec.specs.declared.Node as node
 use Rattle.leaf_spec.specs.Convert.{to_link}
 use Rattle.operation_spec.specs.declared.Want as want
-use Rattle.operation_spec.specs.declared.Wanted.{Wanted}
-use Rattle.operation_spec.specs.declared.Wanted.TheVariants.{Done, Fetch}
 use Rattle.operation_spec.specs.Method.{to_want}
 use Rattle.operations.specs.Resume.{Resumed, missing, finished, resume, resumed_as, unless_missing, follow}
 use Rattle.operations.specs.ResumeLaws.{resume-done, resume-want, resume-missing, resume-bind}
@@ -59,7 +58,7 @@ bare-span below e h way = passes_none h.nodes way below.length below.at e
 -- ---- one child, as the code has it
 
 module _ {n : Node ℕ} {left : Bool} {below : Span} {count next : ℕ} (inside : below.at + below.length ≤ count) (within : next ≤ count) where
-  pub child-at-hand : 0 < below.length → ChildTo n left below count next (record { wanted = Done; span = below; next = next })
+  pub child-at-hand : 0 < below.length → ChildTo n left below count next (record { wanted = None; span = below; next = next })
   child-at-hand k =
       record {
         resumes = λ h way e on.
@@ -72,7 +71,7 @@ module _ {n : Node ℕ} {left : Bool} {below : Span} {count next : ℕ} (inside 
       }
 
   module _ (bare : below.length ≡ 0) {l : link.Link} (is : to_link l ≡ child left n) where
-    pub child-none : l.height ≡ 0 → ChildTo n left below count next (record { wanted = Done; span = below; next = next })
+    pub child-none : l.height ≡ 0 → ChildTo n left below count next (record { wanted = None; span = below; next = next })
     child-none z =
         record {
           resumes = λ h way e on. rw (bare-span below bare h way) (no-child (beneath n left) (drop next (nodes_of h)) (rw (← is) z));
@@ -84,7 +83,7 @@ module _ {n : Node ℕ} {left : Bool} {below : Span} {count next : ℕ} (inside 
 
     module _ (z : l.height ≡ 0 → ⊥) where
       pub child-waits : next ≡ count → {w : want.Want} → to_want w ≡ beneath n left
-          → ChildTo n left below count next (record { wanted = Fetch w; span = below; next = next })
+          → ChildTo n left below count next (record { wanted = Some w; span = below; next = next })
       child-waits k f =
           record {
             resumes = λ h way e on.
@@ -96,7 +95,7 @@ module _ {n : Node ℕ} {left : Bool} {below : Span} {count next : ℕ} (inside 
           }
 
       pub child-next : (next ≡ count → ⊥)
-          → ChildTo n left below count next (record { wanted = Done; span = record { at = next; length = 1 }; next = next + 1 })
+          → ChildTo n left below count next (record { wanted = None; span = record { at = next; length = 1 }; next = next + 1 })
       child-next k =
           record {
             resumes = λ h way e on.
@@ -119,10 +118,10 @@ module _ (nodes : List node.Node) (way : List Bool) (below : Span) where
   right_side true = sym (passes_none nodes way 0 0 refl)
   right_side false = refl
 
-follow-as : {A B : Type 0} (w : Wanted) (a : A) (ns : List (Node ℕ)) (f : A → List (Node ℕ) → Resumed ℕ B)
+follow-as : {A B : Type 0} (w : code.Option want.Want) (a : A) (ns : List (Node ℕ)) (f : A → List (Node ℕ) → Resumed ℕ B)
     → follow (resumed_as w a ns) f ≡ unless_missing w (f a ns)
-follow-as Done a ns f = refl
-follow-as (Fetch w) a ns f = refl
+follow-as None a ns f = refl
+follow-as (Some w) a ns f = refl
 
 -- What is at hand on one side only is as many nodes, and as well inside.
 pub side-inside : (t : Bool) (below : Span) (count : ℕ) → below.at + below.length ≤ count
@@ -150,8 +149,8 @@ module _ {n : Node ℕ} (turn : Bool) (below : Span) {count next : ℕ} {a : Chi
         ∙ follow-as a.wanted (passes_of h.nodes way a.span) (drop a.next (nodes_of h))
         (λ x rest. resume (bind (child_of (beneath n false) (pick turn [] (passes_of h.nodes way below))) (f x)) rest)
 
-  pub children-missing : {w : want.Want} → a.wanted ≡ Fetch w
-      → ChildrenTo n turn below count next (record { wanted = Fetch w; left = a.span; right = a.span; next = a.next })
+  pub children-missing : {w : want.Want} → a.wanted ≡ Some w
+      → ChildrenTo n turn below count next (record { wanted = Some w; left = a.span; right = a.span; next = a.next })
   children-missing g =
       record {
         resumes = λ h way e on f. after_first h way e on f ∙ rw g;
@@ -162,7 +161,7 @@ module _ {n : Node ℕ} (turn : Bool) (below : Span) {count next : ℕ} {a : Chi
         counted = λ d. let z : ◌≡◌ {A = ℕ} 0 1 = cc in absurd (omega arith);
       }
 
-  pub children-both : {b : Child} → a.wanted ≡ Done → ChildTo n false (pick (not turn) below no_span) count a.next b
+  pub children-both : {b : Child} → a.wanted ≡ None → ChildTo n false (pick (not turn) below no_span) count a.next b
       → ChildrenTo n turn below count next (record { wanted = b.wanted; left = a.span; right = b.span; next = b.next })
   children-both {b} g second =
       record {

@@ -1,11 +1,10 @@
 -- What the code says of a node's children.
-use Rattle.std.specs.Prelude.{ℕ, ◌+◌, ◌≤◌, ◌≡◌, Bool, true, false, List, [], ◌∷◌, length, drop}
+use Rattle.std.specs.Prelude.{ℕ, ◌+◌, ◌≤◌, ◌≡◌, Bool, true, false, List, [], ◌∷◌, length, drop, None}
 use Rattle.list_spec.specs.Choice.{pick}
 use Rattle.method_spec.specs.Node.{Node}
 use Rattle.method_spec.specs.Prog.{Prog, bind}
 use Rattle.method_spec.specs.Heap.{Pass, Lower, childless, lower, beneath, child_of, smaller}
 use Rattle.slot_spec.specs.declared.Node as node
-use Rattle.operation_spec.specs.declared.Wanted.TheVariants.{Done}
 use Rattle.operations.specs.Resume.{resume, resumed_as, unless_missing}
 use Rattle.node_rows.specs.Held.{Held, nodes_of}
 use Rattle.heap_spans.specs.declared.Span.{Span}
@@ -42,7 +41,7 @@ module _ (n : Node ℕ) where
     pub within : r.next ≤ count
     pub left-inside : r.left.at + r.left.length ≤ count
     pub right-inside : r.right.at + r.right.length ≤ count
-    pub counted : r.wanted ≡ Done → r.left.length + r.right.length + next ≡ below.length + r.next
+    pub counted : r.wanted ≡ None → r.left.length + r.right.length + next ≡ below.length + r.next
 
 -- The smaller child and the others, as the method has them.
 abbrev pub lower_from : (low others : List (Pass ℕ)) → Lower ℕ

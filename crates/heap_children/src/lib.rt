@@ -14,13 +14,13 @@ use heap_descent::nodes::{beneath, link_one};
 use heap_spans::Span;
 use map_nodes::sides::{child_link, with_child};
 use node_rows::{ROW, node_at};
-use operation_spec::Wanted;
+use operation_spec::Want;
 use slot_spec::Node;
 
 // A child with what is at hand below it, and how many fetched nodes are taken; or the node that is missing.
 #[derive(Clone, Copy)]
 pub struct Child {
-    pub wanted: Wanted,
+    pub wanted: Option<Want>,
     pub span: Span,
     pub next: usize,
 }
@@ -32,7 +32,7 @@ fn child_of(n: Node, left: bool, below: Span, count: usize, next: usize) -> Chil
 {
     if below.length > 0 {
         return Child {
-            wanted: Wanted::Done,
+            wanted: None,
             span: below,
             next,
         };
@@ -40,20 +40,20 @@ fn child_of(n: Node, left: bool, below: Span, count: usize, next: usize) -> Chil
     let link = child_link(left, n);
     if link.height == 0 {
         return Child {
-            wanted: Wanted::Done,
+            wanted: None,
             span: below,
             next,
         };
     }
     if next == count {
         return Child {
-            wanted: Wanted::Fetch(beneath(n, left)),
+            wanted: Some(beneath(n, left)),
             span: below,
             next,
         };
     }
     Child {
-        wanted: Wanted::Done,
+        wanted: None,
         span: Span {
             at: next,
             length: 1,
@@ -75,7 +75,7 @@ fn span_if(here: bool, below: Span) -> Span
 // Both children.
 #[derive(Clone, Copy)]
 pub struct Children {
-    pub wanted: Wanted,
+    pub wanted: Option<Want>,
     pub left: Span,
     pub right: Span,
     pub next: usize,
@@ -89,9 +89,9 @@ pub fn children_of(n: Node, turn: bool, below: Span, count: usize, next: usize) 
     let a = child_of(n, true, span_if(turn, below), count, next);
     let wanted = a.wanted;
     let left = a.span;
-    if let Wanted::Fetch(w) = wanted {
+    if let Some(w) = wanted {
         return Children {
-            wanted: Wanted::Fetch(w),
+            wanted: Some(w),
             left,
             right: left,
             next: a.next,

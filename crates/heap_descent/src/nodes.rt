@@ -6,7 +6,7 @@ ghost use Rattle.leaf_spec.specs.Convert.{to_link, to_node};
 ghost use Rattle.operation_spec.specs.Method.{to_want};
 
 use map_nodes::sides::child_link;
-use operation_spec::{Bound, From, Want};
+use operation_spec::{From, Want};
 use slot_spec::{Link, Node};
 
 // The link of a node on a side, as a wanted one.
@@ -17,8 +17,8 @@ pub fn beneath(n: Node, left: bool) -> Want
     Want {
         link,
         from: From::Side(n.key, left),
-        low: Bound::Open,
-        high: Bound::Open,
+        low: None,
+        high: None,
     }
 }
 

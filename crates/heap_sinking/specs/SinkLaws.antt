@@ -2,7 +2,7 @@
 use Prim.Native.Nat.{ℕ, zero, suc, ◌+◌, ◌-◌, ◌≤◌, ◌<◌}
 use native.Mathlib.Omega.{arith}
 use Rattle.std.proofs.Common.{add-one, ◌∙◌, append_assoc, length-append}
-use Rattle.std.specs.Prelude.{◌≡◌, Bool, List, [], ◌∷◌, ◌++◌, ltb, length, drop}
+use Rattle.std.specs.Prelude.{◌≡◌, Bool, List, [], ◌∷◌, ◌++◌, ltb, length, drop, None, Some}
 use Rattle.std.proofs.Math.Path.{refl, sym, ap}
 use Rattle.std.proofs.Math.Bool.{true, false}
 use Rattle.method_spec.specs.Node.{Node, with_value}
@@ -10,7 +10,6 @@ use Rattle.method_spec.specs.Prog.{Prog}
 use Rattle.method_spec.specs.Heap.{Pass, passed, smaller, above, sunk, sink}
 use Rattle.slot_spec.specs.declared.Node as node
 use Rattle.operation_spec.specs.declared.Want as want
-use Rattle.operation_spec.specs.declared.Wanted.TheVariants.{Done, Fetch}
 use Rattle.operations.specs.Resume.{Resumed, missing, finished, resume, unless_missing, follow}
 use Rattle.operations.specs.ResumeLaws.{resume-done, resume-map}
 use Rattle.node_rows.specs.Row.{places, words}
@@ -84,7 +83,7 @@ module _ (nodes : List node.Node) (way : List Bool) (v : ℕ) (n : Node ℕ) (c 
   module _ {l : code.Lower} (chosen : LowerOf nodes c.left c.right l) {x : Node ℕ} {ws' : List ℕ} {k : ℕ} where
     pub pass_on : sinks_in v (passes_of nodes way l.low) ≡ true → {val : ℕ} → val ≡ (fetched nodes l.low.at).value → x ≡ with_value val (joined nodes way n c)
         → Lists ws count (x ∷ passed (passes_of nodes way l.others)) ws' k
-        → PassTo nodes way v n c ws count ws' (record { wanted = Done; going = true; span = l.low; next = c.next; made = k })
+        → PassTo nodes way v n c ws count ws' (record { wanted = None; going = true; span = l.low; next = c.next; made = k })
     pass_on e d f lists =
         let low = l.low in
         let out₁ = passed (passes_of nodes way l.others) in
@@ -111,7 +110,7 @@ module _ (nodes : List node.Node) (way : List Bool) (v : ℕ) (n : Node ℕ) (c 
 
     pub pass-rests : sinks_in v (passes_of nodes way l.low) ≡ false → x ≡ with_value v (joined nodes way n c)
         → Lists ws count (x ∷ (passed (passes_of nodes way c.left) ++ passed (passes_of nodes way c.right))) ws' k
-        → PassTo nodes way v n c ws count ws' (record { wanted = Done; going = false; span = l.low; next = c.next; made = k })
+        → PassTo nodes way v n c ws count ws' (record { wanted = None; going = false; span = l.low; next = c.next; made = k })
     pass-rests e f lists =
         record {
           resumes = λ fuel ns.
@@ -151,8 +150,8 @@ module _ (h : Held) (way : List Bool) (v : ℕ) (span : Span) (next dn : ℕ) (w
       (kids.resumes h way refl (record { room = fits; past = ready.past })
       (λ a b. sunk (sink fuel v) v (above true a (above false b (node_in h.nodes way span.at))) a b (smaller a b)))
 
-  pub turn-missing : {w : want.Want} → length ws ≡ words → c.wanted ≡ Fetch w
-      → TurnTo h way v span next dn ws ws (record { wanted = Fetch w; going = false; span = span; next = c.next; made = dn })
+  pub turn-missing : {w : want.Want} → length ws ≡ words → c.wanted ≡ Some w
+      → TurnTo h way v span next dn ws ws (record { wanted = Some w; going = false; span = span; next = c.next; made = dn })
   turn-missing long e =
       record {
         resumes = λ fuel. level fuel ∙ rw e;
@@ -161,7 +160,7 @@ module _ (h : Held) (way : List Bool) (v : ℕ) (span : Span) (next dn : ℕ) (w
         few = omega (arith, ready.counted, ready.within);
       }
 
-  module _ (e : c.wanted ≡ Done) where
+  module _ (e : c.wanted ≡ None) where
     pub turn-placed : Placed dn c
     turn-placed =
         record {
@@ -213,7 +212,7 @@ module _ (h : Held) (way : List Bool) (v : ℕ) where
     -- No fuel is left.
     pub sink-last : fuel ≡ 0 → {x : Node ℕ} → x ≡ with_value v (node_in h.nodes way span.at) → {ws' : List ℕ} {k : ℕ}
         → Lists ws dn (x ∷ passed (passes_of h.nodes way (below_first span))) ws' k
-        → h.count ≤ places → SinksTo h way v ws' (record { wanted = Done; going = false; span = span; next = next; made = k })
+        → h.count ≤ places → SinksTo h way v ws' (record { wanted = None; going = false; span = span; next = next; made = k })
     unfolding sink
     sink-last e f {ws'} {k} lists most =
         record {

@@ -16,14 +16,14 @@ use heap_descent::nodes::with_value;
 use heap_descent::way::{Way, goes_left};
 use heap_spans::{Span, below_first, list_both, list_first, node_in};
 use node_rows::{ROW, node_at};
-use operation_spec::Wanted;
+use operation_spec::Want;
 use slot_spec::Node;
 
 // Where the number is after a turn: whether it goes on, at the first node of a span, how many fetched nodes are taken, and
 // how many nodes are done with; or the node that is missing.
 #[derive(Clone, Copy)]
 pub struct Sinking {
-    pub wanted: Wanted,
+    pub wanted: Option<Want>,
     pub going: bool,
     pub span: Span,
     pub next: usize,
@@ -66,7 +66,7 @@ fn pass(
         let v = node_at(held, at).value;
         let more = list_first(way, held, with_value(v, m), others, made, count);
         return Sinking {
-            wanted: Wanted::Done,
+            wanted: None,
             going: true,
             span: low,
             next: c.next,
@@ -75,7 +75,7 @@ fn pass(
     }
     let all = list_both(way, held, with_value(value, m), left, right, made, count);
     Sinking {
-        wanted: Wanted::Done,
+        wanted: None,
         going: false,
         span: low,
         next: c.next,
@@ -101,9 +101,9 @@ fn turn(
     let n = node_in(way, held, at);
     let c = children_of(n, goes_left(way, at), below_first(span), count, next);
     let wanted = c.wanted;
-    if let Wanted::Fetch(w) = wanted {
+    if let Some(w) = wanted {
         return Sinking {
-            wanted: Wanted::Fetch(w),
+            wanted: Some(w),
             going: false,
             span,
             next: c.next,
@@ -139,7 +139,7 @@ pub fn sink(value: u64, way: Way, held: &[u64; ROW], count: usize, made: &mut [u
     let n = with_value(value, node_in(way, held, at));
     let all = list_first(way, held, n, below_first(span), made, done);
     Sinking {
-        wanted: Wanted::Done,
+        wanted: None,
         going: false,
         span,
         next,

@@ -1,5 +1,5 @@
 -- The heap's add on the nodes at hand.
-use Rattle.std.specs.Prelude.{ℕ, suc, ◌+◌, ◌≤◌, ◌<◌, ◌≡◌, List, [], length, drop}
+use Rattle.std.specs.Prelude.{ℕ, suc, ◌+◌, ◌≤◌, ◌<◌, ◌≡◌, List, [], length, drop, Ok}
 use Rattle.std.proofs.Common.{arith, add-one, ◌∙◌, ap, lt-ltb, le-ltb}
 use Rattle.std.proofs.Math.Option.{none}
 use Rattle.method_spec.specs.Node.{Link, Node, link_one}
@@ -11,7 +11,6 @@ use Rattle.slot_spec.specs.declared.Link as link
 use Rattle.slot_spec.specs.declared.Node as node
 use Rattle.leaf_spec.specs.Convert.{to_link, to_node}
 use Rattle.operation_spec.specs.declared.Answer.TheVariants.{Added}
-use Rattle.operation_spec.specs.declared.StepAnswer.TheVariants.{Answered}
 use Rattle.operation_spec.specs.Method.{nothing, to_outcome}
 use Rattle.operations.specs.Resume.{Resumed, missing, finished, resume, follow, wanted_of, outcome_of}
 use Rattle.operations.specs.ResumeLaws.{resume-done, resume-map}
@@ -75,7 +74,7 @@ module _ (value tag entries limit : ℕ) (root : link.Link) (ws : List ℕ) (cou
 
   pub add-makes : way.depth ≤ count → {n top : node.Node} {ws' : List ℕ} → to_node n ≡ new_node 0 value tag entries
       → RisesTo (held_in ws count) (way_to way.position) (to_node n) ws' (to_node top) → {l : link.Link} → to_link l ≡ link_one (to_node top)
-      → (to_outcome (record { made = way.depth + 1; root = l; entries = entries + 1; answer = Answered Added }) (nodes_of (held_in ws' (way.depth + 1)))
+      → (to_outcome (record { made = way.depth + 1; root = l; entries = entries + 1; answer = Ok Added }) (nodes_of (held_in ws' (way.depth + 1)))
       ≡ outcome_of (to_link root) entries (resume (add_prog 0 value tag entries limit (to_link root)) (nodes_of (held_in ws count))))
       × ((way.depth + 1 ≤ places) × (length ws' ≡ words))
   add-makes m {n} {top} {ws'} e rises f =

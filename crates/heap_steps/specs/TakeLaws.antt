@@ -1,8 +1,9 @@
 -- The heap's take on the nodes at hand.
 use Prim.Native.Nat.{ℕ, suc, pred, ◌-◌, ◌≤◌, ◌<◌}
+use Rattle.std.specs.Prelude as code
 use Rattle.std.proofs.Common.{arith, ◌∙◌, ap, eq-eqb, ne_eqb}
 use Rattle.std.proofs.Math.Decide.{dec_lt}
-use Rattle.std.specs.Prelude.{◌≡◌, refl, List, [], drop, get_or}
+use Rattle.std.specs.Prelude.{◌≡◌, refl, List, [], drop, get_or, None, Ok, Some}
 use Rattle.std.proofs.Math.ListN.{length}
 use Rattle.method_spec.specs.Node.{Link, Node, absent, link_one}
 use Rattle.method_spec.specs.Prog.{Prog, want, start}
@@ -16,9 +17,6 @@ use Rattle.slot_spec.specs.Row.{nodes_from}
 use Rattle.leaf_spec.specs.Convert.{to_link, to_node}
 use Rattle.operation_spec.specs.declared.Want as want
 use Rattle.operation_spec.specs.declared.Answer.TheVariants.{Taken}
-use Rattle.operation_spec.specs.declared.StepAnswer.TheVariants.{Answered}
-use Rattle.operation_spec.specs.declared.Wanted.{Wanted}
-use Rattle.operation_spec.specs.declared.Wanted.TheVariants.{Done, Fetch}
 use Rattle.operation_spec.specs.Method.{nothing, to_want, to_wanted, to_outcome}
 use Rattle.operations.specs.Resume.{Resumed, missing, finished, resume, resumed_as, follow, wanted_of, outcome_of}
 use Rattle.operations.specs.ResumeLaws.{resume-done, resume-want, resume-missing, resume-bind, resume-map}
@@ -113,7 +111,7 @@ module _ (entries : ℕ) (root : link.Link) (ws : List ℕ) (count : ℕ) (long 
         rw (f, e) (take-only entries (to_link root) (held_in ws count) (held-room ws long count most) k (omega (arith, deep)) (omega (arith, deep)))
 
     pub take-clears : way.depth ≡ 0 → {z : node.Node} → z ≡ get_or (nodes_from ws) way.depth no_node → {l : link.Link} → l ≡ no_link → {fewer : ℕ} → fewer ≡ pred entries
-        → to_outcome (record { made = 0; root = l; entries = fewer; answer = Answered (Taken z.value) }) []
+        → to_outcome (record { made = 0; root = l; entries = fewer; answer = Ok (Taken z.value) }) []
         ≡ outcome_of (to_link root) entries (resume (take_prog 0 entries (to_link root)) (nodes_of (held_in ws count)))
     take-clears e f g fewer = rw (take_last e f, g, fewer)
 
@@ -132,17 +130,17 @@ module _ (entries : ℕ) (root : link.Link) (ws : List ℕ) (count : ℕ) (long 
       pub take-wants : wanted_of (resume (take_prog 0 entries (to_link root)) (nodes_of (held_in ws count))) ≡ to_wanted r.wanted
       take-wants = rw by-sinking (go r.wanted)
         where
-          go : (w : Wanted)
+          go : (w : code.Option want.Want)
               → wanted_of (follow (resumed_as w (nodes_of (held_in ws' r.made)) (drop r.next (nodes_of (held_in ws count))))
               (λ out rest. finished (shrunk (link_one (held_at (held_in ws count) 0)) entries (held_at (held_in ws count) 0).value out) rest)) ≡ to_wanted w
-          go Done = refl
-          go (Fetch w) = refl
+          go None = refl
+          go (Some w) = refl
 
-      pub take-misses : {w : want.Want} → r.wanted ≡ Fetch w → resume (take_prog 0 entries (to_link root)) (nodes_of (held_in ws count)) ≡ missing (to_want w)
+      pub take-misses : {w : want.Want} → r.wanted ≡ Some w → resume (take_prog 0 entries (to_link root)) (nodes_of (held_in ws count)) ≡ missing (to_want w)
       take-misses d = by-sinking ∙ rw d
 
-      pub take-makes : r.wanted ≡ Done → {top : node.Node} → top ≡ get_or (nodes_from ws) 0 no_node → {l : link.Link} → to_link l ≡ link_one (to_node top) → {fewer : ℕ} → fewer ≡ pred entries
-          → (to_outcome (record { made = r.made; root = l; entries = fewer; answer = Answered (Taken top.value) }) (nodes_of (held_in ws' r.made))
+      pub take-makes : r.wanted ≡ None → {top : node.Node} → top ≡ get_or (nodes_from ws) 0 no_node → {l : link.Link} → to_link l ≡ link_one (to_node top) → {fewer : ℕ} → fewer ≡ pred entries
+          → (to_outcome (record { made = r.made; root = l; entries = fewer; answer = Ok (Taken top.value) }) (nodes_of (held_in ws' r.made))
           ≡ outcome_of (to_link root) entries (resume (take_prog 0 entries (to_link root)) (nodes_of (held_in ws count))))
           × ((r.made ≤ places) × (length ws' ≡ words))
       take-makes d t u fewer = (rw (by-sinking, d, u, fewer, t), (sinks.few, sinks.long))

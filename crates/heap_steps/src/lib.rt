@@ -14,23 +14,23 @@ use heap_descent::way::{next_on, way_to};
 use heap_rising::rise;
 use heap_sinking::sink;
 use node_rows::{ROW, node_at};
-use operation_spec::{Answer, Outcome, StepAnswer, Wanted};
+use operation_spec::{Answer, Full, Outcome, Want};
 use operations::{no_nodes, one_less};
 use slot_fields::no_link;
 use slot_spec::{Link, Node};
 
 // An add wants the nodes of the way to the next position. A full heap's wants none.
-pub fn add_wanted(limit: u16, entries: u16, root: Link, held: &[u64; ROW], count: usize) -> Wanted
+pub fn add_wanted(limit: u16, entries: u16, root: Link, held: &[u64; ROW], count: usize) -> Option<Want>
     requires { (length held.now ≡ words) × (count ≤ places) }
     ensures { (value tag : ℕ) → to_wanted result ≡ wanted_of (resume (add_prog 0 value tag entries limit (to_link root)) (nodes_of (held_in held.now count))) }
 {
     if entries < limit {
         let way = way_to(entries + 1);
         if count < way.depth {
-            return Wanted::Fetch(next_on(way, root, held, count));
+            return Some(next_on(way, root, held, count));
         }
     }
-    Wanted::Done
+    None
 }
 
 // The new position's node, whose number rises over the nodes of the way.
@@ -48,12 +48,12 @@ pub fn add(
     ensures { (to_outcome result (nodes_of (held_in made.new result.made)) ≡ outcome_of (to_link root) entries (resume (add_prog 0 value tag entries limit (to_link root)) (nodes_of (held_in held.now count)))) × ((result.made ≤ places) × (length made.new ≡ words)) }
 {
     if entries >= limit {
-        return no_nodes(root, entries, StepAnswer::Full);
+        return no_nodes(root, entries, Err(Full));
     }
     let more = entries + 1;
     let way = way_to(more);
     if count < way.depth {
-        return no_nodes(root, entries, StepAnswer::Answered(Answer::Absent));
+        return no_nodes(root, entries, Ok(Answer::Absent));
     }
     let none = no_link();
     let n = Node {
@@ -68,7 +68,7 @@ pub fn add(
         made: way.depth + 1,
         root: top,
         entries: more,
-        answer: StepAnswer::Answered(Answer::Added),
+        answer: Ok(Answer::Added),
     }
 }
 
@@ -80,20 +80,20 @@ pub fn take_wanted(
     held: &[u64; ROW],
     count: usize,
     made: &mut [u64; ROW],
-) -> Wanted
+) -> Option<Want>
     requires { (length held.now ≡ words) × (length made.old ≡ words) × (count ≤ places) }
     ensures { (to_wanted result ≡ wanted_of (resume (take_prog 0 entries (to_link root)) (nodes_of (held_in held.now count)))) × (length made.new ≡ words) }
 {
     if entries == 0 {
-        return Wanted::Done;
+        return None;
     }
     let way = way_to(entries);
     let last = way.depth;
     if count <= last {
-        return Wanted::Fetch(next_on(way, root, held, count));
+        return Some(next_on(way, root, held, count));
     }
     if last == 0 {
-        return Wanted::Done;
+        return None;
     }
     let z = node_at(held, last);
     let r = sink(z.value, way, held, count, made);
@@ -112,29 +112,29 @@ pub fn take(
     ensures { (to_outcome result (nodes_of (held_in made.new result.made)) ≡ outcome_of (to_link root) entries (resume (take_prog 0 entries (to_link root)) (nodes_of (held_in held.now count)))) × ((result.made ≤ places) × (length made.new ≡ words)) }
 {
     if entries == 0 {
-        return no_nodes(root, entries, StepAnswer::Answered(Answer::Empty));
+        return no_nodes(root, entries, Ok(Answer::Empty));
     }
     let way = way_to(entries);
     let last = way.depth;
     if count <= last {
-        return no_nodes(root, entries, StepAnswer::Answered(Answer::Absent));
+        return no_nodes(root, entries, Ok(Answer::Absent));
     }
     let fewer = one_less(entries);
     let z = node_at(held, last);
     if last == 0 {
         let none = no_link();
-        return no_nodes(none, fewer, StepAnswer::Answered(Answer::Taken(z.value)));
+        return no_nodes(none, fewer, Ok(Answer::Taken(z.value)));
     }
     let r = sink(z.value, way, held, count, made);
     let wanted = r.wanted;
-    if let Wanted::Fetch(_) = wanted {
-        return no_nodes(root, entries, StepAnswer::Answered(Answer::Absent));
+    if let Some(_) = wanted {
+        return no_nodes(root, entries, Ok(Answer::Absent));
     }
     let top = node_at(held, 0);
     Outcome {
         made: r.made,
         root: link_one(top),
         entries: fewer,
-        answer: StepAnswer::Answered(Answer::Taken(top.value)),
+        answer: Ok(Answer::Taken(top.value)),
     }
 }

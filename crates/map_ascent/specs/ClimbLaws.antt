@@ -1,5 +1,6 @@
 -- The way up turn by turn: the loop over the path, from its lowest step to the root's.
-use Rattle.std.specs.Prelude.{ℕ, suc, ◌+◌, ◌*◌, ◌-◌, ◌≤◌, ◌<◌, ◌≡◌, Bool, true, false, List, [], ◌∷◌, ◌++◌, drop, set}
+use Rattle.std.specs.Prelude.{ℕ, suc, ◌+◌, ◌*◌, ◌-◌, ◌≤◌, ◌<◌, ◌≡◌, Bool, true, false, List, [], ◌∷◌, ◌++◌, drop, set, None, Some}
+use Rattle.std.specs.Prelude as code
 use native.Mathlib.Omega.{arith}
 use Rattle.std.proofs.Math.Path.{refl, subst}
 use Rattle.std.proofs.Common.{sym, ◌∙◌, length-append}
@@ -12,15 +13,12 @@ use Rattle.slot_spec.specs.declared.Link as link
 use Rattle.slot_spec.specs.Row.{nodes_from}
 use Rattle.leaf_spec.specs.Convert.{to_link, to_node}
 use Rattle.operation_spec.specs.declared.Want as want
-use Rattle.operation_spec.specs.declared.Wanted.TheVariants.{Done, Fetch}
 use Rattle.operations.specs.Resume.{resume, finished, follow, Ends}
 use Rattle.operations.specs.ResumeLaws.{resume-bind}
 use Rattle.node_rows.specs.Row.{places, words}
 use Rattle.node_rows.specs.Heights.{Low, Lows}
 use Rattle.node_rows.specs.Held.{Held, held_in, nodes_of, HeldFrom, Lists}
 use Rattle.node_rows.specs.HeldLaws.{held-length, lows-drop, lists-nothing, lists-node}
-use Rattle.map_nodes.specs.declared.Kid.{Kid}
-use Rattle.map_nodes.specs.declared.Kid.TheVariants.{Away, Here}
 use Rattle.map_nodes.specs.declared.Step as step
 use Rattle.map_nodes.specs.declared.Sub as sub
 use Rattle.map_nodes.specs.Method.{to_kid, to_sub, to_step}
@@ -60,19 +58,19 @@ level-kept most false p b ns h k l = rest-kept most p b h k ns
 
 -- ---- more nodes in a row
 
-pub room-for-one : {k : Kid} {n : node.Node} (count : ℕ) → k ≡ Here n → count + length (listed (to_kid k)) ≤ places → count < places
+pub room-for-one : {k : code.Option node.Node} {n : node.Node} (count : ℕ) → k ≡ Some n → count + length (listed (to_kid k)) ≤ places → count < places
 room-for-one count e h = let room = rw e at h in omega arith
 
-module _ (ws : List ℕ) (count : ℕ) (long : length ws ≡ words) {k : Kid} where
-  pub lists-none : k ≡ Away → Lists ws count (listed (to_kid k)) ws count
+module _ (ws : List ℕ) (count : ℕ) (long : length ws ≡ words) {k : code.Option node.Node} where
+  pub lists-none : k ≡ None → Lists ws count (listed (to_kid k)) ws count
   lists-none e = rw e (lists-nothing ws long count)
 
-  pub lists-one : {n : node.Node} {ws' : List ℕ} → k ≡ Here n → count < places → nodes_from ws' ≡ set (nodes_from ws) count n → length ws' ≡ words
+  pub lists-one : {n : node.Node} {ws' : List ℕ} → k ≡ Some n → count < places → nodes_from ws' ≡ set (nodes_from ws) count n → length ws' ≡ words
       → Lists ws count (listed (to_kid k)) ws' (count + 1)
   lists-one e h stored long' = rw e (lists-node ws long count h stored long')
 
 -- What a level is done with, counted.
-pub level-room : (aside : Kid) (o : Others)
+pub level-room : (aside : code.Option node.Node) (o : Others)
     → length (listed (to_kid aside) ++ list_of o)
     ≡ length (listed (to_kid aside)) + length (listed (to_kid o.left)) + length (listed (to_kid o.right)) + length (listed (to_kid o.top))
 level-room aside o = simp length-append (omega arith)
@@ -125,8 +123,8 @@ module _ (key : ℕ) (root : link.Link) (h : Held) (b : Bottom) (walks : Walks r
           (upward-step b.rotating (to_step p) (steps_to key root h b i) (to_sub s) (nodes_of (held_in ws count)) (drop next (nodes_of h)))
 
       module _ {r : Raised} (raises : Raises (level b.rotating (to_step p) (to_sub s)) h next r) where
-        pub climb-missing : {w : want.Want} → r.wanted ≡ Fetch w
-            → ClimbsTo key root h b ws (record { wanted = Fetch w; sub = s; count = count; next = next })
+        pub climb-missing : {w : want.Want} → r.wanted ≡ Some w
+            → ClimbsTo key root h b ws (record { wanted = Some w; sub = s; count = count; next = next })
         climb-missing e =
             record {
               resumes = resumes-step ∙ rw (raises.resumes, e);
@@ -135,10 +133,10 @@ module _ (key : ℕ) (root : link.Link) (h : Held) (b : Bottom) (walks : Walks r
               low = low-now;
             }
 
-        made : r.wanted ≡ Done → resume (level b.rotating (to_step p) (to_sub s)) (drop next (nodes_of h)) ≡ finished (built_of r) (drop r.next (nodes_of h))
+        made : r.wanted ≡ None → resume (level b.rotating (to_step p) (to_sub s)) (drop next (nodes_of h)) ≡ finished (built_of r) (drop r.next (nodes_of h))
         made e = raises.resumes ∙ rw e
 
-        kept : r.wanted ≡ Done → LevelKept (2 + most) (suc (weight (to_sub s) + length (drop next (nodes_of h)))) (built_of r) (drop r.next (nodes_of h))
+        kept : r.wanted ≡ None → LevelKept (2 + most) (suc (weight (to_sub s) + length (drop next (nodes_of h)))) (built_of r) (drop r.next (nodes_of h))
         unfolding most
         kept e =
             subst (Ends (LevelKept (2 + most) (suc (weight (to_sub s) + length (drop next (nodes_of h)))))) (made e)
@@ -147,7 +145,7 @@ module _ (key : ℕ) (root : link.Link) (h : Held) (b : Bottom) (walks : Walks r
             (lows-drop most next (nodes_of h) (lows-more 100 most (omega arith) (nodes_of h) walks.held.low)))
 
         -- Room for the nodes that are done with.
-        pub climb-room : r.wanted ≡ Done → count + length (built_of r).out ≤ places
+        pub climb-room : r.wanted ≡ None → count + length (built_of r).out ≤ places
         climb-room e =
             omega (
               arith,
@@ -161,7 +159,7 @@ module _ (key : ℕ) (root : link.Link) (h : Held) (b : Bottom) (walks : Walks r
               held-length h few,
             )
 
-        pub climb-level : {ws' : List ℕ} {count' : ℕ} → r.wanted ≡ Done → Lists ws count (built_of r).out ws' count'
+        pub climb-level : {ws' : List ℕ} {count' : ℕ} → r.wanted ≡ None → Lists ws count (built_of r).out ws' count'
             → Climbing key root h b ws' count' r.sub r.next i
         unfolding most
         climb-level e w =
@@ -186,7 +184,7 @@ module _ (key : ℕ) (root : link.Link) (h : Held) (b : Bottom) (walks : Walks r
             }
 
   pub climb-end : {ws : List ℕ} {count : ℕ} {s : sub.Sub} {next : ℕ} → Climbing key root h b ws count s next 0
-      → ClimbsTo key root h b ws (record { wanted = Done; sub = s; count = count; next = next })
+      → ClimbsTo key root h b ws (record { wanted = None; sub = s; count = count; next = next })
   climb-end {ws} {count} {s} {next} now =
       record {
         resumes = sym now.resumes ∙ rw path-none (upward-end b.rotating (to_sub s) (nodes_of (held_in ws count)) (drop next (nodes_of h)));

@@ -13,20 +13,20 @@ ghost use Rattle.map_ascent.specs.Climb.{ClimbsTo};
 
 use map_changes::Bottom;
 use map_descent::path_steps::step_to;
-use map_nodes::{Kid, Sub};
+use map_nodes::Sub;
 use node_rows::{ROW, set_node};
-use operation_spec::Wanted;
+use operation_spec::Want;
 use rotations::raise::{Others, raise_or_rest};
-use slot_spec::Link;
+use slot_spec::{Link, Node};
 
 // One more node in a row's next place, if it is at hand: how many there are then.
-pub fn list_kid(made: &mut [u64; ROW], count: usize, kid: Kid) -> usize
+pub fn list_kid(made: &mut [u64; ROW], count: usize, kid: Option<Node>) -> usize
     requires { (length made.old ≡ words) × (count + length (listed (to_kid kid)) ≤ places) }
     ensures { Lists made.old count (listed (to_kid kid)) made.new result }
 {
     match kid {
-        Kid::Away => count,
-        Kid::Here(n) => {
+        None => count,
+        Some(n) => {
             set_node(made, count, n);
             count + 1
         }
@@ -34,7 +34,7 @@ pub fn list_kid(made: &mut [u64; ROW], count: usize, kid: Kid) -> usize
 }
 
 // What a level of the climb is done with.
-fn list_level(made: &mut [u64; ROW], count: usize, aside: Kid, others: Others) -> usize
+fn list_level(made: &mut [u64; ROW], count: usize, aside: Option<Node>, others: Others) -> usize
     requires { (length made.old ≡ words) × (count + length (listed (to_kid aside) ++ list_of others) ≤ places) }
     ensures { Lists made.old count (listed (to_kid aside) ++ list_of others) made.new result }
 {
@@ -51,7 +51,7 @@ fn list_level(made: &mut [u64; ROW], count: usize, aside: Kid, others: Others) -
 // that is missing.
 #[derive(Clone, Copy)]
 pub struct Climbed {
-    pub wanted: Wanted,
+    pub wanted: Option<Want>,
     pub sub: Sub,
     pub count: usize,
     pub next: usize,
@@ -78,9 +78,9 @@ pub fn climb(
         let p = step_to(key, root, held, count, b.found, b.length, i);
         let r = raise_or_rest(b.rotating, p, sub, held, count, next);
         let wanted = r.wanted;
-        if let Wanted::Fetch(w) = wanted {
+        if let Some(w) = wanted {
             return Climbed {
-                wanted: Wanted::Fetch(w),
+                wanted: Some(w),
                 sub,
                 count: done,
                 next,
@@ -93,7 +93,7 @@ pub fn climb(
         next = r.next;
     }
     Climbed {
-        wanted: Wanted::Done,
+        wanted: None,
         sub,
         count: done,
         next,

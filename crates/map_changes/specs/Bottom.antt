@@ -1,5 +1,6 @@
 -- Where the way up starts, as the code says it.
-use Rattle.std.specs.Prelude.{ℕ, ◌+◌, ◌≤◌, ◌≡◌, [], Bool, true, false, get_or, drop}
+use Rattle.std.specs.Prelude.{ℕ, ◌+◌, ◌≤◌, ◌≡◌, [], Bool, true, false, get_or, drop, None, Ok, Some}
+use Rattle.std.specs.Prelude as code
 use Rattle.method_spec.specs.Prog.{Prog, done, bind, start}
 use Rattle.method_spec.specs.Outcome.{Outcome}
 use Rattle.method_spec.specs.Map.{Built, finish}
@@ -9,10 +10,6 @@ use Rattle.operation_spec.specs.declared.Want as want
 use Rattle.map_nodes.specs.declared.Sub.TheVariants.{Stub}
 use Rattle.operation_spec.specs.declared.Answer.TheVariants.{Absent, Removed}
 use Rattle.map_nodes.specs.declared.Sub as sub
-use Rattle.operation_spec.specs.declared.StepAnswer.{StepAnswer}
-use Rattle.operation_spec.specs.declared.StepAnswer.TheVariants.{Answered}
-use Rattle.operation_spec.specs.declared.Wanted.{Wanted}
-use Rattle.operation_spec.specs.declared.Wanted.TheVariants.{Done, Fetch}
 use Rattle.slot_spec.specs.Slot.{no_link, no_node}
 use Rattle.leaf_spec.specs.Convert.{to_link}
 use Rattle.operation_spec.specs.Method.{to_step_answer}
@@ -23,26 +20,28 @@ use Rattle.map_nodes.specs.Upward.{weight, upward}
 use Rattle.map_nodes.specs.Heights.{LowSub}
 use Rattle.map_changes.specs.declared.Bottom.{Bottom}
 use Rattle.map_descent.specs.PathTo.{path_to}
+use Rattle.operation_spec.specs.declared.Answer as answer
+use Rattle.operation_spec.specs.declared.Full.{Full}
 
 -- The code's three forms: a node is missing; the path ends at the node with the key, or where it would be; the path goes
 -- past that node.
 abbrev pub unfinished_at : want.Want → Bottom
 unfinished_at w =
     record {
-      wanted = Fetch w;
+      wanted = Some w;
       rotating = false;
       sub = Stub w.link;
       found = 0;
       length = 0;
       at = 0;
       entries = 0;
-      answer = Answered Absent;
+      answer = Ok Absent;
     }
 
-abbrev pub bottom_at : Bool → sub.Sub → (length at entries : ℕ) → StepAnswer → Bottom
+abbrev pub bottom_at : Bool → sub.Sub → (length at entries : ℕ) → code.Result answer.Answer Full → Bottom
 bottom_at rotating b length at entries a =
     record {
-      wanted = Done;
+      wanted = None;
       rotating = rotating;
       sub = b;
       found = length;
@@ -59,19 +58,19 @@ leaf_of key value tag = record { value = value; key = key; tag = tag; left = no_
 abbrev pub valued : ℕ → node.Node → node.Node
 valued value n = record { value = value; key = n.key; tag = n.tag; left = n.left; right = n.right }
 
-abbrev pub past_found : Wanted → (last found entries value : ℕ) → Held → Bottom
-past_found Done last found entries value h =
+abbrev pub past_found : code.Option want.Want → (last found entries value : ℕ) → Held → Bottom
+past_found None last found entries value h =
     record {
-      wanted = Done;
+      wanted = None;
       rotating = true;
       sub = Stub (get_or h.nodes last no_node).right;
       found = found;
       length = last;
       at = last + 1;
       entries = entries;
-      answer = Answered (Removed value);
+      answer = Ok (Removed value);
     }
-past_found (Fetch w) last found entries value h = unfinished_at w
+past_found (Some w) last found entries value h = unfinished_at w
 
 module _ (key : ℕ) (root : link.Link) (h : Held) where
   -- The way up from there, and what comes of it.
@@ -91,4 +90,4 @@ module _ (key : ℕ) (root : link.Link) (h : Held) where
   -- The program, on the held nodes, misses that node, or goes up from there.
   pub record StartsUp (p : Prog ℕ (Outcome ℕ)) (r : Bottom) : Type 0 where
     pub resumes : resume p (nodes_of h) ≡ unless_missing r.wanted (resume (up_from r) (drop r.at (nodes_of h)))
-    pub ready : r.wanted ≡ Done → BottomReady r
+    pub ready : r.wanted ≡ None → BottomReady r

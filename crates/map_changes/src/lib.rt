@@ -7,9 +7,9 @@ ghost use Rattle.node_rows.specs.Held.{held_in, HeldFrom};
 ghost use Rattle.map_changes.specs.Bottom.{unfinished_at, bottom_at, leaf_of, valued, past_found};
 
 use map_descent::descend::Lowest;
-use map_nodes::{Kid, Sub};
+use map_nodes::Sub;
 use node_rows::{ROW, node_at};
-use operation_spec::{Answer, StepAnswer, Want, Wanted};
+use operation_spec::{Answer, Full, Want};
 use slot_fields::no_link;
 use slot_spec::{Link, Node};
 
@@ -17,14 +17,14 @@ use slot_spec::{Link, Node};
 // fetched nodes are taken so far, and what the step makes of the entries and answers; or the node that is missing.
 #[derive(Clone, Copy)]
 pub struct Bottom {
-    pub wanted: Wanted,
+    pub wanted: Option<Want>,
     pub rotating: bool,
     pub sub: Sub,
     pub found: usize,
     pub length: usize,
     pub at: usize,
     pub entries: u16,
-    pub answer: StepAnswer,
+    pub answer: Result<Answer, Full>,
 }
 
 // The node that is missing.
@@ -33,14 +33,14 @@ pub fn unfinished(want: Want) -> Bottom
 {
     let link = want.link;
     Bottom {
-        wanted: Wanted::Fetch(want),
+        wanted: Some(want),
         rotating: false,
         sub: Sub::Stub(link),
         found: 0,
         length: 0,
         at: 0,
         entries: 0,
-        answer: StepAnswer::Answered(Answer::Absent),
+        answer: Ok(Answer::Absent),
     }
 }
 
@@ -51,12 +51,12 @@ fn bottom_at(
     length: usize,
     at: usize,
     entries: u16,
-    answer: StepAnswer,
+    answer: Result<Answer, Full>,
 ) -> Bottom
     ensures { result ≡ bottom_at rotating sub length at entries answer }
 {
     Bottom {
-        wanted: Wanted::Done,
+        wanted: None,
         rotating,
         sub,
         found: length,
@@ -68,7 +68,7 @@ fn bottom_at(
 }
 
 // The place where the key would be, with its link as it is.
-pub fn at_gap(want: Want, depth: usize, entries: u16, answer: StepAnswer) -> Bottom
+pub fn at_gap(want: Want, depth: usize, entries: u16, answer: Result<Answer, Full>) -> Bottom
     ensures { result ≡ bottom_at false (Sub.Stub want.link) depth depth entries answer }
 {
     let link = want.link;
@@ -76,11 +76,11 @@ pub fn at_gap(want: Want, depth: usize, entries: u16, answer: StepAnswer) -> Bot
 }
 
 // The node with the key, as it is.
-pub fn at_node(n: Node, depth: usize, entries: u16, answer: StepAnswer) -> Bottom
+pub fn at_node(n: Node, depth: usize, entries: u16, answer: Result<Answer, Full>) -> Bottom
     requires { depth < fetches }
-    ensures { result ≡ bottom_at false (Sub.Top n Kid.Away Kid.Away) depth (depth + 1) entries answer }
+    ensures { result ≡ bottom_at false (Sub.Top n None None) depth (depth + 1) entries answer }
 {
-    let sub = Sub::Top(n, Kid::Away, Kid::Away);
+    let sub = Sub::Top(n, None, None);
     bottom_at(false, sub, depth, depth + 1, entries, answer)
 }
 
@@ -93,25 +93,25 @@ pub fn past_found(
     held: &[u64; ROW],
     count: usize,
 ) -> Bottom
-    requires { (length held.now ≡ words) × HeldFrom 100 (held_in held.now count) 0 × (y.wanted ≡ Wanted.Done → y.last < count) }
+    requires { (length held.now ≡ words) × HeldFrom 100 (held_in held.now count) 0 × (y.wanted ≡ None → y.last < count) }
     ensures { result ≡ past_found y.wanted y.last found entries value (held_in held.now count) }
 {
     let wanted = y.wanted;
     match wanted {
-        Wanted::Fetch(w) => unfinished(w),
-        Wanted::Done => {
+        Some(w) => unfinished(w),
+        None => {
             let last = y.last;
             let m = node_at(held, last);
             let right = m.right;
             Bottom {
-                wanted: Wanted::Done,
+                wanted: None,
                 rotating: true,
                 sub: Sub::Stub(right),
                 found,
                 length: last,
                 at: last + 1,
                 entries,
-                answer: StepAnswer::Answered(Answer::Removed(value)),
+                answer: Ok(Answer::Removed(value)),
             }
         }
     }
@@ -133,41 +133,41 @@ pub fn leaf(key: u32, value: u64, tag: u16) -> Node
 // A new node where the key would be.
 pub fn added(key: u32, value: u64, tag: u16, depth: usize, entries: u16) -> Bottom
     requires { entries < 65535 }
-    ensures { result ≡ bottom_at true (Sub.Top (leaf_of key value tag) Kid.Away Kid.Away) depth depth (entries + 1) (StepAnswer.Answered Answer.New) }
+    ensures { result ≡ bottom_at true (Sub.Top (leaf_of key value tag) None None) depth depth (entries + 1) (Ok Answer.New) }
 {
     let n = leaf(key, value, tag);
-    let sub = Sub::Top(n, Kid::Away, Kid::Away);
+    let sub = Sub::Top(n, None, None);
     bottom_at(
         true,
         sub,
         depth,
         depth,
         entries + 1,
-        StepAnswer::Answered(Answer::New),
+        Ok(Answer::New),
     )
 }
 
 // The node with the key, with the new value.
 pub fn replaced(n: Node, value: u64, depth: usize, entries: u16) -> Bottom
     requires { depth < fetches }
-    ensures { result ≡ bottom_at false (Sub.Top (valued value n) Kid.Away Kid.Away) depth (depth + 1) entries (StepAnswer.Answered (Answer.Replaced n.value)) }
+    ensures { result ≡ bottom_at false (Sub.Top (valued value n) None None) depth (depth + 1) entries (Ok (Answer.Replaced n.value)) }
 {
     let mut m = n;
     m.value = value;
     bottom_at(
         false,
-        Sub::Top(m, Kid::Away, Kid::Away),
+        Sub::Top(m, None, None),
         depth,
         depth + 1,
         entries,
-        StepAnswer::Answered(Answer::Replaced(n.value)),
+        Ok(Answer::Replaced(n.value)),
     )
 }
 
 // The place of the node with the key: its only child's link, or an absent one, takes that.
 pub fn taken_out(child: Link, depth: usize, entries: u16, value: u64) -> Bottom
     requires { depth < fetches }
-    ensures { result ≡ bottom_at true (Sub.Stub child) depth (depth + 1) entries (StepAnswer.Answered (Answer.Removed value)) }
+    ensures { result ≡ bottom_at true (Sub.Stub child) depth (depth + 1) entries (Ok (Answer.Removed value)) }
 {
     let sub = Sub::Stub(child);
     bottom_at(
@@ -176,6 +176,6 @@ pub fn taken_out(child: Link, depth: usize, entries: u16, value: u64) -> Bottom
         depth,
         depth + 1,
         entries,
-        StepAnswer::Answered(Answer::Removed(value)),
+        Ok(Answer::Removed(value)),
     )
 }

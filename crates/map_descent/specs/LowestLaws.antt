@@ -1,12 +1,11 @@
 -- The search for the next larger key's node turn by turn.
 use Prim.Native.Nat.{ℕ, zero, suc, ◌+◌, ◌-◌, ◌≤◌, ◌<◌}
 use Rattle.std.proofs.Common.{arith, add-one, sym, ◌∙◌, ap, subst, eq-eqb, ne_eqb, lt-ltb, le-ltb}
-use Rattle.std.specs.Prelude.{◌≡◌, Bool, true, List, [], ◌∷◌, drop}
+use Rattle.std.specs.Prelude.{◌≡◌, Bool, true, List, [], ◌∷◌, drop, None, Some}
 use Rattle.method_spec.specs.Node.{Node}
 use Rattle.method_spec.specs.Prog.{Want}
 use Rattle.method_spec.specs.Map.{Step, step_at, below, lowest}
 use Rattle.operation_spec.specs.declared.Want as want
-use Rattle.operation_spec.specs.declared.Wanted.TheVariants.{Done, Fetch}
 use Rattle.operation_spec.specs.Method.{to_want}
 use Rattle.operations.specs.Resume.{finished, resume}
 use Rattle.operations.specs.ResumeLaws.{resume-done, resume-want, resume-missing}
@@ -58,7 +57,7 @@ module _ {h : Held} {found : ℕ} {w : Want ℕ} {fuel : ℕ} where
   lowers-from {r = r} e = subst (λ (u : Want ℕ). LowersTo h found u fuel r) e
 
   module _ (from : HeldFrom 100 h 0) (v : want.Want) {left i : ℕ} (now : Lowering h found w fuel (to_want v) left i) where
-    pub lower-missing : h.count ≤ i → LowersTo h found w fuel (record { wanted = Fetch v; last = i })
+    pub lower-missing : h.count ≤ i → LowersTo h found w fuel (record { wanted = Some v; last = i })
     lower-missing k =
         record {
           resumes = λ w₀ ways l. sym (now.resumes w₀ ways l).0 ∙ rw (held_none h i k (held_fits from)) (resume-missing (to_want v) _);
@@ -69,7 +68,7 @@ module _ {h : Held} {found : ℕ} {w : Want ℕ} {fuel : ℕ} where
       at_head : (path : List (Step ℕ)) → resume (lowest_from left (to_want v) path) (drop i (nodes_of h)) ≡ resume (lowest_from left (to_want v) path) (held_at h i ∷ drop (suc i) (nodes_of h))
       at_head path = ap (resume (lowest_from left (to_want v) path)) (held_next h i here (held_fits from))
 
-      pub lower-spent : left ≡ 0 → LowersTo h found w fuel (record { wanted = Done; last = i })
+      pub lower-spent : left ≡ 0 → LowersTo h found w fuel (record { wanted = None; last = i })
       lower-spent e =
           record {
             resumes = λ w₀ ways l.
@@ -78,7 +77,7 @@ module _ {h : Held} {found : ℕ} {w : Want ℕ} {fuel : ℕ} where
             reached = λ d. (now.past, here);
           }
 
-      pub lower-end : (held_at h i).left.height ≡ 0 → LowersTo h found w fuel (record { wanted = Done; last = i })
+      pub lower-end : (held_at h i).left.height ≡ 0 → LowersTo h found w fuel (record { wanted = None; last = i })
       lower-end e =
           record {
             resumes = λ w₀ ways l.

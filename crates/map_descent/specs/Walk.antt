@@ -1,10 +1,9 @@
 -- The walk down, by the numbers of the fetched nodes.
-use Rattle.std.specs.Prelude.{ℕ, zero, suc, ◌≤◌, ◌<◌, ◌≡◌, Bool, true, List, [], ◌∷◌, ltb, drop}
+use Rattle.std.specs.Prelude.{ℕ, zero, suc, ◌≤◌, ◌<◌, ◌≡◌, Bool, true, List, [], ◌∷◌, ltb, drop, None}
 use Rattle.list_spec.specs.Choice.{pick}
 use Rattle.method_spec.specs.Prog.{Want, Prog, want}
 use Rattle.method_spec.specs.Map.{Step, Spot, gap, hit, Lowest, step_at, below, walk, lowest}
 use Rattle.slot_spec.specs.declared.Link as link
-use Rattle.operation_spec.specs.declared.Wanted.TheVariants.{Done}
 use Rattle.operation_spec.specs.Method.{to_want}
 use Rattle.operations.specs.Resume.{Resumed, missing, finished, resume, resumed_as}
 use Rattle.node_rows.specs.Held.{Held, nodes_of, held_at, HeldFrom}
@@ -86,7 +85,7 @@ module _ (h : Held) (found : ℕ) (w : Want ℕ) (fuel : ℕ) where
     pub resumes : (w₀ : Want ℕ) (ways : ℕ → Bool) → LeftFrom h w₀ ways found w
         → resume (lowest_from fuel w []) (drop (suc found) (nodes_of h))
         ≡ resumed_as r.wanted (record { node = held_at h r.last; path = after h w₀ ways found r.last }) (drop (suc r.last) (nodes_of h))
-    pub reached : r.wanted ≡ Done → (found < r.last) × (r.last < h.count)
+    pub reached : r.wanted ≡ None → (found < r.last) × (r.last < h.count)
 
   -- The search with the node i to come.
   pub record Lowering (v : Want ℕ) (left i : ℕ) : Type 0 where

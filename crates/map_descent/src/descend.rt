@@ -10,7 +10,7 @@ ghost use Rattle.map_descent.specs.Walk.{Walks, DescendsTo, LowersTo};
 
 use map_nodes::wants::{below, step_at};
 use node_rows::{ROW, node_at};
-use operation_spec::{Want, Wanted};
+use operation_spec::Want;
 use operations::start;
 use slot_spec::Link;
 
@@ -76,7 +76,7 @@ pub fn descend(key: u32, root: Link, held: &[u64; ROW], count: usize) -> Descent
 // The node with the next larger key, by its number among the fetched nodes.
 #[derive(Clone, Copy)]
 pub struct Lowest {
-    pub wanted: Wanted,
+    pub wanted: Option<Want>,
     pub last: usize,
 }
 
@@ -93,14 +93,14 @@ pub fn next_larger(want: Want, found: usize, held: &[u64; ROW], count: usize) ->
     while i < count {
         if fuel == 0 {
             return Lowest {
-                wanted: Wanted::Done,
+                wanted: None,
                 last: i,
             };
         }
         let m = node_at(held, i);
         if m.left.height == 0 {
             return Lowest {
-                wanted: Wanted::Done,
+                wanted: None,
                 last: i,
             };
         }
@@ -109,7 +109,7 @@ pub fn next_larger(want: Want, found: usize, held: &[u64; ROW], count: usize) ->
         fuel -= 1;
     }
     Lowest {
-        wanted: Wanted::Fetch(next),
+        wanted: Some(next),
         last: i,
     }
 }

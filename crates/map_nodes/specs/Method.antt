@@ -1,8 +1,7 @@
 -- The code's steps and subtrees as the method's, at leaf numbers for tags.
-use Rattle.std.specs.Prelude.{ℕ}
+use Rattle.std.specs.Prelude.{ℕ, None, Some}
+use Rattle.std.specs.Prelude as code
 use Rattle.std.proofs.Math.Option.{Option, none, some}
-use Rattle.map_nodes.specs.declared.Kid.{Kid}
-use Rattle.map_nodes.specs.declared.Kid.TheVariants.{Away, Here}
 use Rattle.map_nodes.specs.declared.Sub as sub
 use Rattle.map_nodes.specs.declared.Sub.TheVariants.{Stub, Top}
 use Rattle.map_nodes.specs.declared.Step as step
@@ -10,10 +9,11 @@ use Rattle.method_spec.specs.Node.{Node}
 use Rattle.method_spec.specs.Map.{Step, Sub, stub, top}
 use Rattle.leaf_spec.specs.Convert.{to_link, to_node}
 use Rattle.operation_spec.specs.Method.{to_bound}
+use Rattle.slot_spec.specs.declared.Node as node
 
-abbrev pub to_kid : Kid → Option (Node ℕ)
-to_kid Away = none
-to_kid (Here n) = some (to_node n)
+abbrev pub to_kid : code.Option node.Node → Option (Node ℕ)
+to_kid None = none
+to_kid (Some n) = some (to_node n)
 
 abbrev pub to_sub : sub.Sub → Sub ℕ
 to_sub (Stub l) = stub (to_link l)

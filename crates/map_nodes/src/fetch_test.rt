@@ -6,21 +6,21 @@ ghost use Rattle.operation_spec.specs.Method.{to_bound, to_want};
 
 use super::sides::taller;
 use map_balance::is_tall;
-use operation_spec::{Bound, Want};
+use operation_spec::Want;
 use slot_spec::Node;
 
 // A key strictly between the nearest keys that the walk passed.
-fn is_between(low: Bound, high: Bound, key: u32) -> bool
+fn is_between(low: Option<u32>, high: Option<u32>, key: u32) -> bool
     ensures { result ≡ map.between (to_bound low) (to_bound high) key }
 {
     match low {
-        Bound::Open => match high {
-            Bound::Open => true,
-            Bound::Key(b) => key < b,
+        None => match high {
+            None => true,
+            Some(b) => key < b,
         },
-        Bound::Key(a) => match high {
-            Bound::Open => a < key,
-            Bound::Key(b) => {
+        Some(a) => match high {
+            None => a < key,
+            Some(b) => {
                 if a < key {
                     return key < b;
                 }

@@ -6,7 +6,7 @@ ghost use Rattle.map_nodes.specs.Method.{to_kid, to_sub, to_step};
 ghost use Rattle.map_nodes.specs.Heights.{LowSub};
 
 use super::sides::{child_link, link_to, with_child};
-use super::{Kid, Step, Sub};
+use super::{Step, Sub};
 use slot_spec::{Link, Node};
 
 pub fn link_of(b: Sub) -> Link
@@ -19,21 +19,21 @@ pub fn link_of(b: Sub) -> Link
     }
 }
 
-pub fn top_of(b: Sub) -> Kid
+pub fn top_of(b: Sub) -> Option<Node>
     ensures { to_kid result ≡ top_of (to_sub b) }
 {
     match b {
-        Sub::Stub(_) => Kid::Away,
-        Sub::Top(n, _, _) => Kid::Here(n),
+        Sub::Stub(_) => None,
+        Sub::Top(n, _, _) => Some(n),
     }
 }
 
 // The child at hand on a side.
-pub fn kid_of(left: bool, b: Sub) -> Kid
+pub fn kid_of(left: bool, b: Sub) -> Option<Node>
     ensures { to_kid result ≡ kid left (to_sub b) }
 {
     match b {
-        Sub::Stub(_) => Kid::Away,
+        Sub::Stub(_) => None,
         Sub::Top(_, l, r) => {
             if left {
                 return l;

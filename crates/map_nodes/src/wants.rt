@@ -7,7 +7,7 @@ ghost use Rattle.map_nodes.specs.Method.{to_step};
 
 use super::Step;
 use super::sides::child_link;
-use operation_spec::{Bound, From, Want};
+use operation_spec::{From, Want};
 use slot_spec::{Link, Node};
 
 // The step over a node that was wanted, on to a side.
@@ -36,13 +36,13 @@ pub fn beside(p: Step, left: bool, link: Link) -> Want
             link,
             from: From::Side(p.was, true),
             low,
-            high: Bound::Key(p.was),
+            high: Some(p.was),
         };
     }
     Want {
         link,
         from: From::Side(p.was, false),
-        low: Bound::Key(p.was),
+        low: Some(p.was),
         high,
     }
 }

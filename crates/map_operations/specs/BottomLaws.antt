@@ -1,5 +1,6 @@
 -- The map's operations, where their walk down has come to an end: what the method's programs do from there.
-use Rattle.std.specs.Prelude.{ℕ, suc, pred, ◌+◌, ◌≤◌, ◌<◌, ◌≡◌, Bool, true, false, List, [], ◌∷◌, ◌++◌, get_or, drop}
+use Rattle.std.specs.Prelude.{ℕ, suc, pred, ◌+◌, ◌≤◌, ◌<◌, ◌≡◌, Bool, true, false, List, [], ◌∷◌, ◌++◌, get_or, drop, None, Some}
+use Rattle.std.specs.Prelude as code
 use Rattle.std.proofs.Common.{arith, add-one, ◌∙◌, ap, subst}
 use Rattle.std.proofs.Math.Path.{refl, sym}
 use Rattle.std.proofs.Math.Option.{none}
@@ -13,9 +14,6 @@ use Rattle.slot_spec.specs.declared.Link as link
 use Rattle.slot_spec.specs.declared.Node as node
 use Rattle.slot_spec.specs.Slot.{no_node}
 use Rattle.map_nodes.specs.declared.Sub as sub
-use Rattle.operation_spec.specs.declared.StepAnswer.{StepAnswer}
-use Rattle.operation_spec.specs.declared.Wanted.{Wanted}
-use Rattle.operation_spec.specs.declared.Wanted.TheVariants.{Done, Fetch}
 use Rattle.leaf_spec.specs.Convert.{to_link, to_node}
 use Rattle.operation_spec.specs.Method.{to_want, to_step_answer}
 use Rattle.operations.specs.Resume.{Resumed, resume, follow, resumed_as}
@@ -36,6 +34,9 @@ use Rattle.map_descent.specs.WalkLaws.{held_fits}
 use Rattle.map_descent.specs.PathTo.{ways_to, path_to}
 use Rattle.map_descent.specs.PathLaws.{path-before, path-past, left-from}
 use Rattle.map_changes.specs.Bottom.{unfinished_at, bottom_at, past_found, up_from, StartsUp}
+use Rattle.operation_spec.specs.declared.Want as want
+use Rattle.operation_spec.specs.declared.Answer as answer
+use Rattle.operation_spec.specs.declared.Full.{Full}
 
 -- ---- the parts of the programs
 
@@ -120,7 +121,7 @@ module _ {key : ℕ} {root : link.Link} {h : Held} (walks : Walks root h) {d : D
     starts-missing e g =
         record { resumes = spot e ∙ rw g; ready = λ x. let z : ◌≡◌ {A = ℕ} 0 1 = cc in absurd (omega arith) }
 
-    module _ {rotating : Bool} {b : sub.Sub} {entries : ℕ} {a : StepAnswer} {r : Bottom} where
+    module _ {rotating : Bool} {b : sub.Sub} {entries : ℕ} {a : code.Result answer.Answer Full} {r : Bottom} where
       starts-at : (at : ℕ) (s : Spot ℕ) → resume (walking key (to_link root) f) (nodes_of h) ≡ resume (f s) (drop at (nodes_of h))
           → r ≡ bottom_at rotating b d.depth at entries a → d.depth ≤ at → at ≤ h.count → LowSub 100 (to_sub b) → weight (to_sub b) ≡ 1
           → f s ≡ way rotating passes (to_sub b) entries (to_step_answer a) → StartsUp key root h (walking key (to_link root) f) r
@@ -201,7 +202,7 @@ module _ {key : ℕ} {root : link.Link} {h : Held} (walks : Walks root h) (entri
 
   going-up : d.depth < y.last
       → follow (resume (go_up (record { node = held_at h y.last; path = between })) (drop (suc y.last) (nodes_of h))) (λ b ns. resume (end b) ns)
-      ≡ resume (up_from key root h (past_found Done y.last d.depth (pred entries) n.value h)) (drop (y.last + 1) (nodes_of h))
+      ≡ resume (up_from key root h (past_found None y.last d.depth (pred entries) n.value h)) (drop (y.last + 1) (nodes_of h))
   unfolding upward
   going-up k =
       sym (resume-bind (go_up (record { node = held_at h y.last; path = between })) end (drop (suc y.last) (nodes_of h)))
@@ -211,9 +212,9 @@ module _ {key : ℕ} {root : link.Link} {h : Held} (walks : Walks root h) (entri
       → StartsUp key root h (walking key (to_link root) (remove_step entries)) r
   starts-past {r} g = go y.wanted refl
     where
-      go : (x : Wanted) → y.wanted ≡ x → StartsUp key root h (walking key (to_link root) (remove_step entries)) r
-      go Done x =
-          let q : r ≡ past_found Done y.last d.depth (pred entries) n.value h = g ∙ rw x in
+      go : (x : code.Option want.Want) → y.wanted ≡ x → StartsUp key root h (walking key (to_link root) (remove_step entries)) r
+      go None x =
+          let q : r ≡ past_found None y.last d.depth (pred entries) n.value h = g ∙ rw x in
           let k = lowers.reached x in
           rw q
           record {
@@ -227,7 +228,7 @@ module _ {key : ℕ} {root : link.Link} {h : Held} (walks : Walks root h) (entri
                   bare = refl;
                 };
           }
-      go (Fetch w) x =
+      go (Some w) x =
           let q : r ≡ unfinished_at w = g ∙ rw x in
           rw q
           record { resumes = searched ∙ rw x; ready = λ z. let o : ◌≡◌ {A = ℕ} 0 1 = cc in absurd (omega arith) }

@@ -12,7 +12,7 @@ ghost use Rattle.map_changes.specs.Bottom.{StartsUp};
 use map_changes::{Bottom, added, at_gap, at_node, past_found, replaced, taken_out, unfinished};
 use map_descent::descend::{End, descend, next_larger};
 use node_rows::{ROW, node_at};
-use operation_spec::{Answer, StepAnswer};
+use operation_spec::{Answer, Full};
 use operations::one_less;
 use slot_spec::Link;
 
@@ -27,14 +27,14 @@ pub fn get(key: u32, entries: u16, root: Link, held: &[u64; ROW], count: usize) 
     let end = d.end;
     match end {
         End::Missing => unfinished(want),
-        End::Gap => at_gap(want, depth, entries, StepAnswer::Answered(Answer::Absent)),
+        End::Gap => at_gap(want, depth, entries, Ok(Answer::Absent)),
         End::Hit => {
             let n = node_at(held, depth);
             at_node(
                 n,
                 depth,
                 entries,
-                StepAnswer::Answered(Answer::Found(n.value)),
+                Ok(Answer::Found(n.value)),
             )
         }
     }
@@ -64,7 +64,7 @@ pub fn put(
             if entries < limit {
                 return added(key, value, tag, depth, entries);
             }
-            at_gap(want, depth, entries, StepAnswer::Full)
+            at_gap(want, depth, entries, Err(Full))
         }
         End::Hit => {
             let n = node_at(held, depth);
@@ -84,7 +84,7 @@ pub fn remove(key: u32, entries: u16, root: Link, held: &[u64; ROW], count: usiz
     let end = d.end;
     match end {
         End::Missing => unfinished(want),
-        End::Gap => at_gap(want, depth, entries, StepAnswer::Answered(Answer::Absent)),
+        End::Gap => at_gap(want, depth, entries, Ok(Answer::Absent)),
         End::Hit => {
             let n = node_at(held, depth);
             let left = n.left;

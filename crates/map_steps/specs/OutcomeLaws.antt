@@ -1,5 +1,6 @@
 -- The outcome and the next wanted node, put together from their parts as the code computes them.
-use Rattle.std.specs.Prelude.{ℕ, ◌+◌, ◌≤◌, ◌<◌, ◌≡◌, refl, true, false, List, length, drop}
+use Rattle.std.specs.Prelude.{ℕ, ◌+◌, ◌≤◌, ◌<◌, ◌≡◌, refl, true, false, List, length, drop, None, Ok, Some}
+use Rattle.std.specs.Prelude as code
 use Rattle.std.proofs.Common.{arith, length-append}
 use Rattle.std.proofs.Math.Option.{none}
 use Rattle.method_spec.specs.Prog.{Want, bind}
@@ -9,11 +10,7 @@ use Rattle.slot_spec.specs.declared.Link as link
 use Rattle.leaf_spec.specs.Convert.{to_link}
 use Rattle.operation_spec.specs.declared.Want as want
 use Rattle.operation_spec.specs.declared.Answer.TheVariants.{Absent}
-use Rattle.operation_spec.specs.declared.StepAnswer.{StepAnswer}
-use Rattle.operation_spec.specs.declared.StepAnswer.TheVariants.{Answered}
 use Rattle.operation_spec.specs.declared.Outcome as outcome
-use Rattle.operation_spec.specs.declared.Wanted.{Wanted}
-use Rattle.operation_spec.specs.declared.Wanted.TheVariants.{Done, Fetch}
 use Rattle.operation_spec.specs.Method.{to_want, to_wanted, to_step_answer, to_outcome}
 use Rattle.operations.specs.Resume.{missing, finished, outcome_of}
 use Rattle.operations.specs.Resume.{Resumed, resume, resumed_as, follow, wanted_of}
@@ -21,8 +18,6 @@ use Rattle.operations.specs.ResumeLaws.{resume-map}
 use Rattle.node_rows.specs.Row.{places, words}
 use Rattle.node_rows.specs.Held.{Held, held_in, nodes_of, Lists}
 use Rattle.node_rows.specs.HeldLaws.{lists-then}
-use Rattle.map_nodes.specs.declared.Kid.{Kid}
-use Rattle.map_nodes.specs.declared.Kid.TheVariants.{Away, Here}
 use Rattle.map_nodes.specs.Method.{to_kid, to_sub}
 use Rattle.map_nodes.specs.Upward.{upward}
 use Rattle.map_changes.specs.declared.Bottom.{Bottom}
@@ -30,19 +25,22 @@ use Rattle.map_changes.specs.Bottom.{way_up}
 use Rattle.map_ascent.specs.declared.Climbed.{Climbed}
 use Rattle.map_ascent.specs.Climb.{climbed_in, ClimbsTo}
 use Rattle.map_steps.specs.Outcome.{from_bottom, RoomToFinish}
+use Rattle.operation_spec.specs.declared.Answer as answer
+use Rattle.operation_spec.specs.declared.Full.{Full}
+use Rattle.slot_spec.specs.declared.Node as node
 
 -- ---- the last nodes
 
-pub listed-one : (k : Kid) → length (listed (to_kid k)) ≤ 1
-listed-one Away = omega arith
-listed-one (Here n) = omega arith
+pub listed-one : (k : code.Option node.Node) → length (listed (to_kid k)) ≤ 1
+listed-one None = omega arith
+listed-one (Some n) = omega arith
 
-module _ (ws : List ℕ) (c : Climbed) (room : RoomToFinish ws c) (left right : Kid) (l : to_kid left ≡ kid true (to_sub c.sub))
+module _ (ws : List ℕ) (c : Climbed) (room : RoomToFinish ws c) (left right : code.Option node.Node) (l : to_kid left ≡ kid true (to_sub c.sub))
     (r : to_kid right ≡ kid false (to_sub c.sub)) where
   pub finish-room : c.count + length (listed (to_kid left)) + length (listed (to_kid right)) < places
   finish-room = rw (l, r) (omega (arith, room.room, length-append (listed (kid true (to_sub c.sub))) (listed (kid false (to_sub c.sub)))))
 
-  pub finish-is : (last : Kid) (t : to_kid last ≡ top_of (to_sub c.sub)) {some more all : List ℕ} {i j n : ℕ} {k : link.Link} (entries : ℕ) (a : StepAnswer)
+  pub finish-is : (last : code.Option node.Node) (t : to_kid last ≡ top_of (to_sub c.sub)) {some more all : List ℕ} {i j n : ℕ} {k : link.Link} (entries : ℕ) (a : code.Result answer.Answer Full)
       → Lists ws c.count (listed (to_kid left)) some i → Lists some i (listed (to_kid right)) more j → Lists more j (listed (to_kid last)) all n
       → to_link k ≡ link_of (to_sub c.sub)
       → (to_outcome (record { made = n; root = k; entries = entries; answer = a }) (nodes_of (held_in all n)) ≡ finish entries (to_step_answer a) (climbed_in ws c))
@@ -56,20 +54,20 @@ module _ (ws : List ℕ) (c : Climbed) (room : RoomToFinish ws c) (left right : 
 
 -- A step that makes no nodes, where one is missing.
 pub unmade : (root : link.Link) (entries : ℕ) (ws : List ℕ) → length ws ≡ words → {o : outcome.Outcome} {x : Resumed ℕ (Outcome ℕ)} {w : Want ℕ}
-    → o ≡ record { made = 0; root = root; entries = entries; answer = Answered Absent } → x ≡ missing w
+    → o ≡ record { made = 0; root = root; entries = entries; answer = Ok Absent } → x ≡ missing w
     → (to_outcome o (nodes_of (held_in ws o.made)) ≡ outcome_of (to_link root) entries x) × ((o.made ≤ places) × (length ws ≡ words))
 unmade root entries ws long e f = rw (e, f) (refl, (omega arith, long))
 
 module _ (key : ℕ) (root : link.Link) (h : Held) (b : Bottom) where
-  pub from-missing : {w : want.Want} → b.wanted ≡ Fetch w → from_bottom key root h b ≡ missing (to_want w)
+  pub from-missing : {w : want.Want} → b.wanted ≡ Some w → from_bottom key root h b ≡ missing (to_want w)
   from-missing e = rw e
 
   -- Without rotations no node is wanted on the way up.
-  pub from-resting : b.wanted ≡ Done → b.rotating ≡ false → wanted_of (from_bottom key root h b) ≡ none
+  pub from-resting : b.wanted ≡ None → b.rotating ≡ false → wanted_of (from_bottom key root h b) ≡ none
   unfolding upward bind resume
   from-resting e f = rw (e, f)
 
-  module _ {ws : List ℕ} {r : Climbed} (e : b.wanted ≡ Done) (climbs : ClimbsTo key root h b ws r) where
+  module _ {ws : List ℕ} {r : Climbed} (e : b.wanted ≡ None) (climbs : ClimbsTo key root h b ws r) where
     from-climb : from_bottom key root h b
         ≡ follow (resumed_as r.wanted (climbed_in ws r) (drop r.next (nodes_of h)))
         (λ x ns. finished (finish b.entries (to_step_answer b.answer) x) ns)
@@ -79,14 +77,14 @@ module _ (key : ℕ) (root : link.Link) (h : Held) (b : Bottom) where
     pub from-rising : wanted_of (from_bottom key root h b) ≡ to_wanted r.wanted
     from-rising = rw from-climb (go r.wanted)
       where
-        go : (w : Wanted)
+        go : (w : code.Option want.Want)
             → wanted_of (follow (resumed_as w (climbed_in ws r) (drop r.next (nodes_of h))) (λ x ns. finished (finish b.entries (to_step_answer b.answer) x) ns)) ≡ to_wanted w
-        go Done = refl
-        go (Fetch w) = refl
+        go None = refl
+        go (Some w) = refl
 
-    pub from-climbing : {w : want.Want} → r.wanted ≡ Fetch w → from_bottom key root h b ≡ missing (to_want w)
+    pub from-climbing : {w : want.Want} → r.wanted ≡ Some w → from_bottom key root h b ≡ missing (to_want w)
     from-climbing f = rw (from-climb, f)
 
-    pub from-climbed : (entries : ℕ) {o : Outcome ℕ} → r.wanted ≡ Done → o ≡ finish b.entries (to_step_answer b.answer) (climbed_in ws r)
+    pub from-climbed : (entries : ℕ) {o : Outcome ℕ} → r.wanted ≡ None → o ≡ finish b.entries (to_step_answer b.answer) (climbed_in ws r)
         → o ≡ outcome_of (to_link root) entries (from_bottom key root h b)
     from-climbed entries f g = rw (from-climb, f) g

@@ -18,12 +18,12 @@ use map_ascent::{Climbed, climb, list_kid};
 use map_changes::Bottom;
 use map_nodes::subtree::{kid_of, link_of, top_of};
 use node_rows::ROW;
-use operation_spec::{Answer, Outcome, StepAnswer, Wanted};
+use operation_spec::{Answer, Full, Outcome, Want};
 use operations::no_nodes;
 use slot_spec::Link;
 
 // The outcome of a climb that came to its end: the nodes at hand there are done with too.
-fn finish(c: Climbed, entries: u16, answer: StepAnswer, made: &mut [u64; ROW]) -> Outcome
+fn finish(c: Climbed, entries: u16, answer: Result<Answer, Full>, made: &mut [u64; ROW]) -> Outcome
     requires { RoomToFinish made.old c }
     ensures { (to_outcome result (nodes_of (held_in made.new result.made)) ≡ map.finish entries (to_step_answer answer) (climbed_in made.old c)) × ((result.made ≤ places) × (length made.new ≡ words)) }
 {
@@ -51,16 +51,16 @@ pub fn map_wanted(
     held: &[u64; ROW],
     count: usize,
     made: &mut [u64; ROW],
-) -> Wanted
-    requires { (length held.now ≡ words) × (length made.old ≡ words) × Walks root (held_in held.now count) × (b.wanted ≡ Wanted.Done → BottomReady key root (held_in held.now count) b) }
+) -> Option<Want>
+    requires { (length held.now ≡ words) × (length made.old ≡ words) × Walks root (held_in held.now count) × (b.wanted ≡ None → BottomReady key root (held_in held.now count) b) }
     ensures { (to_wanted result ≡ wanted_of (from_bottom key root (held_in held.now count) b)) × (length made.new ≡ words) }
 {
     let wanted = b.wanted;
-    if let Wanted::Fetch(w) = wanted {
-        return Wanted::Fetch(w);
+    if let Some(w) = wanted {
+        return Some(w);
     }
     if !b.rotating {
-        return Wanted::Done;
+        return None;
     }
     let c = climb(b, key, root, held, count, made);
     c.wanted
@@ -76,17 +76,17 @@ pub fn map_step(
     count: usize,
     made: &mut [u64; ROW],
 ) -> Outcome
-    requires { (length held.now ≡ words) × (length made.old ≡ words) × Walks root (held_in held.now count) × (b.wanted ≡ Wanted.Done → BottomReady key root (held_in held.now count) b) }
+    requires { (length held.now ≡ words) × (length made.old ≡ words) × Walks root (held_in held.now count) × (b.wanted ≡ None → BottomReady key root (held_in held.now count) b) }
     ensures { (to_outcome result (nodes_of (held_in made.new result.made)) ≡ outcome_of (to_link root) entries (from_bottom key root (held_in held.now count) b)) × ((result.made ≤ places) × (length made.new ≡ words)) }
 {
     let wanted = b.wanted;
-    if let Wanted::Fetch(_) = wanted {
-        return no_nodes(root, entries, StepAnswer::Answered(Answer::Absent));
+    if let Some(_) = wanted {
+        return no_nodes(root, entries, Ok(Answer::Absent));
     }
     let c = climb(b, key, root, held, count, made);
     let still = c.wanted;
-    if let Wanted::Fetch(_) = still {
-        return no_nodes(root, entries, StepAnswer::Answered(Answer::Absent));
+    if let Some(_) = still {
+        return no_nodes(root, entries, Ok(Answer::Absent));
     }
     let answer = b.answer;
     finish(c, b.entries, answer, made)

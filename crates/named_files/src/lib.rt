@@ -16,7 +16,7 @@ use std::io::{Error, ErrorKind, Write};
 use std::os::unix::fs::OpenOptionsExt;
 use std::rt::Files;
 use std::{fs, str};
-use text_writer::put_text;
+use text_writer::Text;
 
 pub const LONGEST_NAME: usize = 4000;
 
@@ -46,8 +46,10 @@ fn join(a: &[u8], b: &[u8], out: &mut [u8]) -> usize
     ensures prefix_len { IsPrefixLen result out.new }
     ensures put { Put (a.now ++ b.now) 0 out.old out.new result }
 {
-    let at = put_text(a, out, 0);
-    put_text(b, out, at)
+    let mut text = Text::new(out);
+    text.put(a);
+    text.put(b);
+    text.end
 }
 
 // Says what failed, and why.

@@ -1,5 +1,6 @@
 -- The code's values as the method's, at leaf numbers for tags.
-use Rattle.std.specs.Prelude.{ℕ, List, [], eqb}
+use Rattle.std.specs.Prelude.{ℕ, List, [], eqb, Err, None, Ok, Some}
+use Rattle.std.specs.Prelude as code
 use Rattle.std.proofs.Math.Option.{Option, none, some}
 use Rattle.list_spec.specs.Choice.{pick}
 use Rattle.leaf_spec.specs.Convert.{to_link, to_ahead}
@@ -7,15 +8,9 @@ use Rattle.operation_spec.specs.declared.Op as op
 use Rattle.operation_spec.specs.declared.Op.TheVariants.{Get, Put, Remove, Push, Pop, Add, Take, Enqueue, Dequeue}
 use Rattle.operation_spec.specs.declared.Answer as answer
 use Rattle.operation_spec.specs.declared.Answer.TheVariants.{Found, Absent, Replaced, New, Removed, Pushed, Popped, Added, Taken, Queued, Dequeued, Empty}
-use Rattle.operation_spec.specs.declared.StepAnswer.{StepAnswer}
-use Rattle.operation_spec.specs.declared.StepAnswer.TheVariants.{Answered, Full}
 use Rattle.operation_spec.specs.declared.From as from
 use Rattle.operation_spec.specs.declared.From.TheVariants.{Root, Side}
-use Rattle.operation_spec.specs.declared.Bound.{Bound}
-use Rattle.operation_spec.specs.declared.Bound.TheVariants.{Open, Key}
 use Rattle.operation_spec.specs.declared.Want as wanted
-use Rattle.operation_spec.specs.declared.Wanted.{Wanted}
-use Rattle.operation_spec.specs.declared.Wanted.TheVariants.{Done, Fetch}
 use Rattle.operation_spec.specs.declared.Spares.{Spares}
 use Rattle.operation_spec.specs.declared.Outcome as outcome
 use Rattle.method_spec.specs.Node.{Link, Ahead, Node}
@@ -24,14 +19,15 @@ use Rattle.method_spec.specs.Answer.{Structure, Op, Answer}
 use Rattle.method_spec.specs.Answer as method
 use Rattle.method_spec.specs.Outcome.{Outcome}
 use Rattle.method_spec.specs.Call.{program, ahead_after}
+use Rattle.operation_spec.specs.declared.Full.{Full}
 
 abbrev pub to_from : from.From → From
 to_from Root = root
 to_from (Side k s) = side k s
 
-abbrev pub to_bound : Bound → Option ℕ
-to_bound Open = none
-to_bound (Key k) = some k
+abbrev pub to_bound : code.Option ℕ → Option ℕ
+to_bound None = none
+to_bound (Some k) = some k
 
 abbrev pub to_want : wanted.Want → Want ℕ
 to_want w =
@@ -74,9 +70,9 @@ to_answer Queued = method.queued
 to_answer (Dequeued v) = method.dequeued v
 to_answer Empty = method.empty
 
-abbrev pub to_step_answer : StepAnswer → Answer
-to_step_answer (Answered a) = to_answer a
-to_step_answer Full = method.full
+abbrev pub to_step_answer : code.Result answer.Answer Full → Answer
+to_step_answer (Ok a) = to_answer a
+to_step_answer (Err e) = method.full
 
 -- ---- a program, what it wants next, and its outcome
 
@@ -91,9 +87,9 @@ program_for o s limit entries l = program 0 (to_op o) (spares_in s) limit entrie
 abbrev pub ahead_for : (o : op.Op) → Spares → (limit entries : ℕ) → Ahead ℕ
 ahead_for o s limit entries = ahead_after 0 (to_op o) (spares_in s) limit entries (to_ahead s.ahead)
 
-abbrev pub to_wanted : Wanted → Option (Want ℕ)
-to_wanted Done = none
-to_wanted (Fetch w) = some (to_want w)
+abbrev pub to_wanted : code.Option wanted.Want → Option (Want ℕ)
+to_wanted None = none
+to_wanted (Some w) = some (to_want w)
 
 abbrev pub wanted_in : {A : Type 0} → Prog ℕ A → Option (Want ℕ)
 wanted_in (done a) = none

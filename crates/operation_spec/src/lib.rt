@@ -33,12 +33,9 @@ pub enum Answer {
     Empty,
 }
 
-// What a step answers: a full store's put, push, add and enqueue have an answer that a call tells as a refusal.
+// What a full store's put, push, add and enqueue answer: a call tells it as a refusal.
 #[derive(Clone, Copy)]
-pub enum StepAnswer {
-    Answered(Answer),
-    Full,
-}
+pub struct Full;
 
 // Where a link stands: it is the root link, or that of the node with that key on a side, the left or else the right.
 #[derive(Clone, Copy)]
@@ -47,27 +44,14 @@ pub enum From {
     Side(u32, bool),
 }
 
-// The nearest key that a walk passed, below or above.
-#[derive(Clone, Copy)]
-pub enum Bound {
-    Open,
-    Key(u32),
-}
-
 // A wanted node: the link that leads to it, where that link stands, and the nearest keys below and above that the walk
-// passed on its way.
+// passed on its way, where it passed any.
 #[derive(Clone, Copy)]
 pub struct Want {
     pub link: Link,
     pub from: From,
-    pub low: Bound,
-    pub high: Bound,
-}
-
-#[derive(Clone, Copy)]
-pub enum Wanted {
-    Done,
-    Fetch(Want),
+    pub low: Option<u32>,
+    pub high: Option<u32>,
 }
 
 // What a new node's tags come from: the first two spare draws, and what a queue's state knows ahead.
@@ -84,5 +68,5 @@ pub struct Outcome {
     pub made: usize,
     pub root: Link,
     pub entries: u16,
-    pub answer: StepAnswer,
+    pub answer: Result<Answer, Full>,
 }

@@ -1,14 +1,14 @@
 -- A program on the nodes that were fetched for it so far, in fetch order: what it is still missing, or its result and the
 -- nodes that it has not taken.
-use Rattle.std.specs.Prelude.{ℕ, List, [], ◌∷◌}
+use Rattle.std.specs.Prelude.{ℕ, List, [], ◌∷◌, None, Some}
+use Rattle.std.specs.Prelude as code
 use Rattle.std.proofs.Math.Option.{Option, none, some}
 use Rattle.method_spec.specs.Node.{Link, Node}
 use Rattle.method_spec.specs.Prog.{Want, Prog, done, want}
 use Rattle.method_spec.specs.Answer as method
 use Rattle.method_spec.specs.Outcome.{Outcome}
-use Rattle.operation_spec.specs.declared.Wanted.{Wanted}
-use Rattle.operation_spec.specs.declared.Wanted.TheVariants.{Done, Fetch}
 use Rattle.operation_spec.specs.Method.{to_want, nothing}
+use Rattle.operation_spec.specs.declared.Want as want
 
 pub data Resumed (T A : Type 0) : Type 0 where
   missing : Want T → Resumed T A
@@ -34,14 +34,14 @@ module _ {T A B : Type 0} where
 -- ---- the code's values
 module _ {A : Type 0} where
   -- A result, where no node is missing.
-  abbrev pub resumed_as : Wanted → A → List (Node ℕ) → Resumed ℕ A
-  resumed_as Done a ns = finished a ns
-  resumed_as (Fetch w) a ns = missing (to_want w)
+  abbrev pub resumed_as : code.Option want.Want → A → List (Node ℕ) → Resumed ℕ A
+  resumed_as None a ns = finished a ns
+  resumed_as (Some w) a ns = missing (to_want w)
 
   -- Where no node is missing, the rest; else that node.
-  abbrev pub unless_missing : Wanted → Resumed ℕ A → Resumed ℕ A
-  unless_missing Done r = r
-  unless_missing (Fetch w) r = missing (to_want w)
+  abbrev pub unless_missing : code.Option want.Want → Resumed ℕ A → Resumed ℕ A
+  unless_missing None r = r
+  unless_missing (Some w) r = missing (to_want w)
 
   -- The node that is missing, if one is.
   abbrev pub wanted_of : Resumed ℕ A → Option (Want ℕ)

@@ -6,7 +6,7 @@ ghost use Rattle.method_spec.specs.Prog as prog;
 ghost use Rattle.leaf_spec.specs.Convert.{to_link};
 ghost use Rattle.operation_spec.specs.Method.{to_want};
 
-use operation_spec::{Bound, From, Outcome, StepAnswer, Want};
+use operation_spec::{Answer, From, Full, Outcome, Want};
 use slot_spec::Link;
 
 // The root link's node, as a wanted one.
@@ -16,8 +16,8 @@ pub fn start(root: Link) -> Want
     Want {
         link: root,
         from: From::Root,
-        low: Bound::Open,
-        high: Bound::Open,
+        low: None,
+        high: None,
     }
 }
 
@@ -32,7 +32,7 @@ pub fn one_less(entries: u16) -> u16
 }
 
 // A step that makes no nodes.
-pub fn no_nodes(root: Link, entries: u16, answer: StepAnswer) -> Outcome
+pub fn no_nodes(root: Link, entries: u16, answer: Result<Answer, Full>) -> Outcome
     ensures { result ≡ record { made = 0; root = root; entries = entries; answer = answer } }
 {
     Outcome {

@@ -7,15 +7,16 @@ ghost use Rattle.walk_spec.specs.Lines.{longest_line, Put};
 ghost use Rattle.walk_spec.specs.PeakLines.{named, peak_line};
 
 use round_close::LIMIT;
-use text_writer::{put_number, put_text};
+use text_writer::Text;
 
 // A word, a blank and a number.
-fn put_named(word: &[u8], n: u64, out: &mut [u8], at: usize) -> usize
-    requires { at + length (named word.now n) ≤ length out.old }
-    ensures { Put (named word.now n) at out.old out.new result }
+fn put_named(text: &mut Text, word: &[u8], n: u64)
+    requires { text.old.end + length (named word.now n) ≤ length text.old.out.now }
+    ensures same_buffer { text.new.out.ghost_name ≡ text.old.out.ghost_name }
+    ensures put { Put (named word.now n) text.old.end text.old.out.now text.new.out.now text.new.end }
 {
-    let middle = put_text(word, out, at);
-    put_number(n, out, middle)
+    text.put(word);
+    text.put_number(n);
 }
 
 // The peak of a call, and the largest of the run so far.
@@ -24,8 +25,10 @@ pub fn peak_line(last: usize, largest: usize, out: &mut [u8]) -> usize
     ensures prefix_len { IsPrefixLen result out.new }
     ensures value { (result ≡ length (peak_line last largest)) × (out.new ≡ peak_line last largest ++ drop result out.old) }
 {
-    let first = put_named(b"last", last as u64, out, 0);
-    let second = put_named(b" largest", largest as u64, out, first);
-    let third = put_named(b" limit", LIMIT as u64, out, second);
-    put_text(b"\n", out, third)
+    let mut text = Text::new(out);
+    put_named(&mut text, b"last", last as u64);
+    put_named(&mut text, b" largest", largest as u64);
+    put_named(&mut text, b" limit", LIMIT as u64);
+    text.put(b"\n");
+    text.end
 }

@@ -12,7 +12,7 @@ ghost use Rattle.leaf_spec.specs.Convert.{to_link, to_ahead, to_node};
 ghost use Rattle.operation_spec.specs.Method.{to_want, to_wanted, wanted_in};
 ghost use Rattle.short_outcomes.specs.OneFetch.{to_one_outcome};
 
-use operation_spec::{Answer, Spares, StepAnswer, Want, Wanted};
+use operation_spec::{Answer, Full, Spares, Want};
 use operations::{one_less, start};
 use short_outcomes::{OneMade, none_made};
 use slot_fields::no_link;
@@ -85,7 +85,7 @@ pub fn enqueue(value: u64, spares: Spares, limit: u16, entries: u16, root: Link)
     ensures { done (to_one_outcome result) ≡ enqueue_prog 0 value spares.first spares.second entries limit (to_ahead spares.ahead) (to_link root) }
 {
     if entries >= limit {
-        return none_made(root, entries, StepAnswer::Full);
+        return none_made(root, entries, Err(Full));
     }
     let n = newest(value, spares, entries);
     let more = entries + 1;
@@ -94,7 +94,7 @@ pub fn enqueue(value: u64, spares: Spares, limit: u16, entries: u16, root: Link)
         node: n,
         root: root_after_in(entries, root, n),
         entries: more,
-        answer: StepAnswer::Answered(Answer::Queued),
+        answer: Ok(Answer::Queued),
     }
 }
 
@@ -113,13 +113,13 @@ pub fn enqueue_ahead(spares: Spares, limit: u16, entries: u16) -> Ahead
 
 // ---- out
 // An out wants the oldest.
-pub fn dequeue_wanted(entries: u16, root: Link) -> Wanted
+pub fn dequeue_wanted(entries: u16, root: Link) -> Option<Want>
     ensures { to_wanted result ≡ wanted_in (dequeue_prog 0 entries (to_link root)) }
 {
     if entries == 0 {
-        return Wanted::Done;
+        return None;
     }
-    Wanted::Fetch(start(root))
+    Some(start(root))
 }
 
 // The root link after an out: the oldest's left link, and none with the last one gone.
@@ -138,13 +138,13 @@ pub fn dequeue(entries: u16, root: Link, oldest: Node) -> OneMade
     ensures { done (to_one_outcome result) ≡ after (dequeue_prog 0 entries (to_link root)) (to_node oldest ∷ []) }
 {
     if entries == 0 {
-        return none_made(root, entries, StepAnswer::Answered(Answer::Empty));
+        return none_made(root, entries, Ok(Answer::Empty));
     }
     let link = root_after_out(entries, oldest.left);
     none_made(
         link,
         one_less(entries),
-        StepAnswer::Answered(Answer::Dequeued(oldest.value)),
+        Ok(Answer::Dequeued(oldest.value)),
     )
 }
 

@@ -1,5 +1,6 @@
 -- Laws of a level of the way up.
-use Rattle.std.specs.Prelude.{ℕ, suc, ◌+◌, ◌≤◌, ◌<◌, ◌≡◌, Bool, true, false, not, List, [], ◌++◌, length, get_or, drop}
+use Rattle.std.specs.Prelude.{ℕ, suc, ◌+◌, ◌≤◌, ◌<◌, ◌≡◌, Bool, true, false, not, List, [], ◌++◌, length, get_or, drop, None, Some}
+use Rattle.std.specs.Prelude as code
 use Rattle.std.proofs.Common.{arith, add-one, sym, ◌∙◌, subst, append-nil}
 use Rattle.std.proofs.Math.Option.{Option, none, some}
 use Rattle.method_spec.specs.Node.{Node, child}
@@ -8,12 +9,9 @@ use Rattle.method_spec.specs.Map.{Step, Sub, Built, listed, kid, top_of, beside,
 use Rattle.slot_spec.specs.declared.Node as node
 use Rattle.map_nodes.specs.declared.Sub as sub
 use Rattle.operation_spec.specs.declared.Want as want
-use Rattle.operation_spec.specs.declared.Wanted.TheVariants.{Done, Fetch}
 use Rattle.rotations.specs.declared.raise.Others.{Others}
 use Rattle.rotations.specs.declared.raise.Raised.{Raised}
 use Rattle.rotations.specs.declared.raise.Opened.{Opened}
-use Rattle.map_nodes.specs.declared.Kid.{Kid}
-use Rattle.map_nodes.specs.declared.Kid.TheVariants.{Away, Here}
 use Rattle.leaf_spec.specs.Convert.{to_node}
 use Rattle.operation_spec.specs.Method.{to_want}
 use Rattle.map_nodes.specs.Method.{to_kid, to_sub}
@@ -30,11 +28,11 @@ use Rattle.rotations.specs.Raise.{Opens, opened_as, list_of, built_of, Raises, t
 -- ---- opening
 
 module _ (h : Held) (next : ℕ) (from : HeldFrom 250 h next) where
-  pub opens-here : (n : node.Node) → Low 250 (to_node n) → Opens (some (to_node n)) h next (record { node = Here n; next = next })
+  pub opens-here : (n : node.Node) → Low 250 (to_node n) → Opens (some (to_node n)) h next (record { node = Some n; next = next })
   opens-here n low =
       record { resumes = λ w. resume-done (to_node n) (drop next (nodes_of h)); within = from.within; low = low }
 
-  pub opens-next : next < h.count → Opens none h next (record { node = Here (get_or h.nodes next no_node); next = next + 1 })
+  pub opens-next : next < h.count → Opens none h next (record { node = Some (get_or h.nodes next no_node); next = next + 1 })
   opens-next k =
       let few : h.count ≤ length h.nodes = omega (arith, from.places, from.few) in
       record {
@@ -43,7 +41,7 @@ module _ (h : Held) (next : ℕ) (from : HeldFrom 250 h next) where
         low = held_low h next 250 from.low k few;
       }
 
-  pub opens-none : h.count ≤ next → Opens none h next (record { node = Away; next = next })
+  pub opens-none : h.count ≤ next → Opens none h next (record { node = None; next = next })
   opens-none k =
       let few : h.count ≤ length h.nodes = omega (arith, from.places, from.few) in
       record {
@@ -70,10 +68,10 @@ module _ (p : Step ℕ) (s : Bool) (n c : Node ℕ) (near : Sub ℕ) (others : L
   turn-inward ns e = rw e (resume-map (fetched_top inward (kid (not s) near)) (λ g. double s n c g (kid s near) others) ns)
 
 module _ (p : Step ℕ) (s : Bool) (n c : Node ℕ) (near : Sub ℕ) (others : Others) (h : Held) (next : ℕ) where
-  pub raises-single : {b : sub.Sub} {inner : Kid} → to_kid inner ≡ kid (not s) near → leans_out s c ≡ true
+  pub raises-single : {b : sub.Sub} {inner : code.Option node.Node} → to_kid inner ≡ kid (not s) near → leans_out s c ≡ true
       → to_sub b ≡ (single s n c (kid s near) none []).sub → next ≤ h.count
       → Raises (turn_over p s n c near (list_of others)) h next
-      (record { wanted = Done; sub = b; aside = inner; others = others; next = next })
+      (record { wanted = None; sub = b; aside = inner; others = others; next = next })
   raises-single i e q k =
       record {
         resumes = turn-single p s n c near (list_of others) (drop next (nodes_of h)) e ∙ rw (q, i);
@@ -89,15 +87,15 @@ module _ (p : Step ℕ) (s : Bool) (n c : Node ℕ) (near : Sub ℕ) (others : O
         ∙ rw (opens.resumes (inward p s n c near (list_of others)))
 
     pub raises-inward : {w : want.Want} {r : Raised} → to_kid o.node ≡ none
-        → to_want w ≡ below (step_at (beside p s (child s n)) c (not s)) → r.wanted ≡ Fetch w → r.next ≡ next → next ≤ h.count
+        → to_want w ≡ below (step_at (beside p s (child s n)) c (not s)) → r.wanted ≡ Some w → r.next ≡ next → next ≤ h.count
         → Raises (turn_over p s n c near (list_of others)) h next r
     raises-inward q u v x k =
         record { resumes = resumes-inward ∙ rw (q, v, u); within = rw x k }
 
-    pub raises-double : {g : node.Node} {b : sub.Sub} {outer : Kid} → to_kid o.node ≡ some (to_node g)
+    pub raises-double : {g : node.Node} {b : sub.Sub} {outer : code.Option node.Node} → to_kid o.node ≡ some (to_node g)
         → to_sub b ≡ (double s n c (to_node g) none []).sub → to_kid outer ≡ kid s near
         → Raises (turn_over p s n c near (list_of others)) h next
-        (record { wanted = Done; sub = b; aside = outer; others = others; next = o.next })
+        (record { wanted = None; sub = b; aside = outer; others = others; next = o.next })
     raises-double q u v = record { resumes = resumes-inward ∙ rw (q, u, v); within = opens.within }
 
 module _ (p : Step ℕ) (s : Bool) (n : Node ℕ) (near : Sub ℕ) (others : Others) (h : Held) (next : ℕ) where
@@ -111,7 +109,7 @@ module _ (p : Step ℕ) (s : Bool) (n : Node ℕ) (near : Sub ℕ) (others : Oth
         ∙ rw (opens.resumes (beside p s (child s n)))
 
     pub raises-missing : {w : want.Want} {r : Raised} → to_kid o.node ≡ none
-        → to_want w ≡ beside p s (child s n) → r.wanted ≡ Fetch w → r.next ≡ next → next ≤ h.count
+        → to_want w ≡ beside p s (child s n) → r.wanted ≡ Some w → r.next ≡ next → next ≤ h.count
         → Raises (turn p s n near (list_of others)) h next r
     raises-missing q u v x k = record { resumes = resumes-turn ∙ rw (q, v, u); within = rw x k }
 
@@ -147,7 +145,7 @@ module _ (p : Step ℕ) (b : Sub ℕ) where
   rest-is d e f g i = rw (append-nil, f, d, e, g, i)
 
   module _ (h : Held) (next : ℕ) {r : Raised} where
-    pub raises-rest : r.wanted ≡ Done → built_of r ≡ rest p b → r.next ≡ next → next ≤ h.count → Raises (done (rest p b)) h next r
+    pub raises-rest : r.wanted ≡ None → built_of r ≡ rest p b → r.next ≡ next → next ≤ h.count → Raises (done (rest p b)) h next r
     raises-rest d e f k =
         record { resumes = resume-done (rest p b) (drop next (nodes_of h)) ∙ rw (d, ← e, f); within = rw f k }
 

@@ -17,37 +17,37 @@ use map_balance::{is_tall, leans_out};
 use map_nodes::sides::child_link;
 use map_nodes::subtree::{kid_of, near_on, place, top_of};
 use map_nodes::wants::{below, beside, step_at};
-use map_nodes::{Kid, Step, Sub};
+use map_nodes::{Step, Sub};
 use node_rows::{ROW, node_at};
-use operation_spec::{Want, Wanted};
+use operation_spec::Want;
 use slot_spec::Node;
 
 // The node that is at hand, or else the next of the fetched nodes.
 #[derive(Clone, Copy)]
 pub struct Opened {
-    pub node: Kid,
+    pub node: Option<Node>,
     pub next: usize,
 }
 
-fn open_kid(kid: Kid, held: &[u64; ROW], count: usize, next: usize) -> Opened
+fn open_kid(kid: Option<Node>, held: &[u64; ROW], count: usize, next: usize) -> Opened
     requires { (length held.now ≡ words) × (HeldFrom 250 (held_in held.now count) next × LowKid 250 (to_kid kid)) }
     ensures { Opens (to_kid kid) (held_in held.now count) next result }
 {
-    if let Kid::Here(n) = kid {
+    if let Some(n) = kid {
         return Opened {
-            node: Kid::Here(n),
+            node: Some(n),
             next,
         };
     }
     if next < count {
         let n = node_at(held, next);
         return Opened {
-            node: Kid::Here(n),
+            node: Some(n),
             next: next + 1,
         };
     }
     Opened {
-        node: Kid::Away,
+        node: None,
         next,
     }
 }
@@ -55,18 +55,18 @@ fn open_kid(kid: Kid, held: &[u64; ROW], count: usize, next: usize) -> Opened
 // Nodes at hand that are done with: those of a subtree.
 #[derive(Clone, Copy)]
 pub struct Others {
-    pub left: Kid,
-    pub right: Kid,
-    pub top: Kid,
+    pub left: Option<Node>,
+    pub right: Option<Node>,
+    pub top: Option<Node>,
 }
 
 // A level up: the subtree at hand there, with the nodes that are done with, one by itself and those of a subtree; or the
 // node that is missing. The fetched nodes from `next` on are not taken yet.
 #[derive(Clone, Copy)]
 pub struct Raised {
-    pub wanted: Wanted,
+    pub wanted: Option<Want>,
     pub sub: Sub,
-    pub aside: Kid,
+    pub aside: Option<Node>,
     pub others: Others,
     pub next: usize,
 }
@@ -75,9 +75,9 @@ fn no_others() -> Others
     ensures { list_of result ≡ [] }
 {
     Others {
-        left: Kid::Away,
-        right: Kid::Away,
-        top: Kid::Away,
+        left: None,
+        right: None,
+        top: None,
     }
 }
 
@@ -99,14 +99,14 @@ fn others_of(p: Step, b: Sub, left: bool) -> Others
 }
 
 fn missing(want: Want, next: usize) -> Raised
-    ensures { (result.wanted ≡ Wanted.Fetch want) × (result.next ≡ next) }
+    ensures { (result.wanted ≡ Some want) × (result.next ≡ next) }
 {
     let link = want.link;
     let others = no_others();
     Raised {
-        wanted: Wanted::Fetch(want),
+        wanted: Some(want),
         sub: Sub::Stub(link),
-        aside: Kid::Away,
+        aside: None,
         others,
         next,
     }
@@ -147,7 +147,7 @@ fn turn_over(
     if leans_out(left, c) {
         let sub = single(left, n, c, outer);
         return Raised {
-            wanted: Wanted::Done,
+            wanted: None,
             sub,
             aside: inner,
             others,
@@ -157,11 +157,11 @@ fn turn_over(
     let o = open_kid(inner, held, count, next);
     let opened = o.node;
     match opened {
-        Kid::Away => missing(inner_want(p, left, n, c), next),
-        Kid::Here(g) => {
+        None => missing(inner_want(p, left, n, c), next),
+        Some(g) => {
             let sub = double(left, n, c, g);
             Raised {
-                wanted: Wanted::Done,
+                wanted: None,
                 sub,
                 aside: outer,
                 others,
@@ -189,30 +189,30 @@ fn turn(
     let o = open_kid(top, held, count, next);
     let opened = o.node;
     match opened {
-        Kid::Away => missing(child_want(p, left, n), next),
-        Kid::Here(c) => turn_over(p, left, n, c, near, others, held, count, o.next),
+        None => missing(child_want(p, left, n), next),
+        Some(c) => turn_over(p, left, n, c, near, others, held, count, o.next),
     }
 }
 
 // No rotation: the node that was passed takes the subtree in, and the children at hand there are done with.
 pub fn rest(p: Step, b: Sub, next: usize) -> Raised
     requires { LowSub 250 (to_sub b) }
-    ensures { (result.wanted ≡ Wanted.Done) × ((built_of result ≡ map.rest (to_step p) (to_sub b)) × (result.next ≡ next)) }
+    ensures { (result.wanted ≡ None) × ((built_of result ≡ map.rest (to_step p) (to_sub b)) × (result.next ≡ next)) }
 {
     let n = place(p, b);
     let top = top_of(b);
-    let sub = seated(p.left, n, top, Kid::Away);
+    let sub = seated(p.left, n, top, None);
     let l = kid_of(true, b);
     let r = kid_of(false, b);
     let others = Others {
         left: l,
         right: r,
-        top: Kid::Away,
+        top: None,
     };
     Raised {
-        wanted: Wanted::Done,
+        wanted: None,
         sub,
-        aside: Kid::Away,
+        aside: None,
         others,
         next,
     }

@@ -9,7 +9,7 @@ ghost use Rattle.map_nodes.specs.Method.{to_kid, to_sub};
 ghost use Rattle.rotations.specs.Raise.{to_rotated};
 
 use map_nodes::sides::{child_link, link_to, with_child};
-use map_nodes::{Kid, Sub};
+use map_nodes::Sub;
 use slot_spec::Node;
 
 // The two nodes of a rotation.
@@ -30,7 +30,7 @@ pub fn rotate(left: bool, n: Node, c: Node) -> Rotated
 }
 
 // A node with the children at hand on a side and on the other.
-pub fn seated(left: bool, n: Node, near: Kid, far: Kid) -> Sub
+pub fn seated(left: bool, n: Node, near: Option<Node>, far: Option<Node>) -> Sub
     ensures { to_sub result ≡ seat left (to_node n) (to_kid near) (to_kid far) }
 {
     if left {
@@ -40,14 +40,14 @@ pub fn seated(left: bool, n: Node, near: Kid, far: Kid) -> Sub
 }
 
 // A single rotation: the child that does not lean inward comes up.
-pub fn single(left: bool, n: Node, c: Node, outer: Kid) -> Sub
+pub fn single(left: bool, n: Node, c: Node, outer: Option<Node>) -> Sub
     requires { Low 253 (to_node n) × Low 253 (to_node c) }
     ensures { to_sub result ≡ (map.single left (to_node n) (to_node c) (to_kid outer) none []).sub }
 {
     let r = rotate(left, n, c);
     let up = r.up;
     let down = r.down;
-    seated(left, up, outer, Kid::Here(down))
+    seated(left, up, outer, Some(down))
 }
 
 // A double rotation: the inner child comes up over the child, then over the node.
@@ -61,5 +61,5 @@ pub fn double(left: bool, n: Node, c: Node, inner: Node) -> Sub
     let q = rotate(left, n, middle);
     let up = q.up;
     let down = q.down;
-    seated(left, up, Kid::Here(below), Kid::Here(down))
+    seated(left, up, Some(below), Some(down))
 }

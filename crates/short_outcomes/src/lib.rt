@@ -6,7 +6,7 @@ ghost use Rattle.leaf_spec.specs.Convert.{to_link};
 ghost use Rattle.operation_spec.specs.Method.{to_step_answer, nothing};
 ghost use Rattle.short_outcomes.specs.OneFetch.{to_one_outcome};
 
-use operation_spec::StepAnswer;
+use operation_spec::{Answer, Full};
 use slot_fields::no_node;
 use slot_spec::{Link, Node};
 
@@ -17,11 +17,11 @@ pub struct OneMade {
     pub node: Node,
     pub root: Link,
     pub entries: u16,
-    pub answer: StepAnswer,
+    pub answer: Result<Answer, Full>,
 }
 
 // A step that makes none.
-pub fn none_made(root: Link, entries: u16, answer: StepAnswer) -> OneMade
+pub fn none_made(root: Link, entries: u16, answer: Result<Answer, Full>) -> OneMade
     ensures { to_one_outcome result ≡ nothing (to_link root) entries (to_step_answer answer) }
 {
     OneMade {

@@ -11,21 +11,21 @@ ghost use Rattle.operation_spec.specs.declared.Spares as spares;
 ghost use Rattle.operation_spec.specs.Method.{structure_asked, to_op, to_want, to_wanted, program_for, wanted_in};
 ghost use Rattle.short_outcomes.specs.OneFetch.{one_fetch, to_one_outcome};
 
-use operation_spec::{Op, Spares, Want, Wanted};
+use operation_spec::{Op, Spares, Want};
 use queue_steps::{dequeue, dequeue_wanted, enqueue, queue_test};
 use short_outcomes::OneMade;
 use slot_spec::{Link, Node};
 use stack_steps::{pop, pop_wanted, push, stack_test};
 
 // The node that the fetch round wants, if it wants one.
-pub fn short_wanted(op: Op, entries: u16, root: Link) -> Wanted
+pub fn short_wanted(op: Op, entries: u16, root: Link) -> Option<Want>
     requires { one_fetch (structure_asked op) ≡ true }
     ensures { (s : spares.Spares) (limit : ℕ) → to_wanted result ≡ wanted_in (program_for op s limit entries (to_link root)) }
 {
     match op {
         Op::Pop => pop_wanted(root),
         Op::Dequeue => dequeue_wanted(entries, root),
-        _ => Wanted::Done,
+        _ => None,
     }
 }
 

@@ -8,7 +8,7 @@ ghost use Rattle.leaf_spec.specs.Convert.{to_link, to_node};
 ghost use Rattle.operation_spec.specs.Method.{to_want, to_wanted, wanted_in};
 ghost use Rattle.short_outcomes.specs.OneFetch.{to_one_outcome};
 
-use operation_spec::{Answer, StepAnswer, Want, Wanted};
+use operation_spec::{Answer, Full, Want};
 use operations::{one_less, start};
 use short_outcomes::{OneMade, none_made};
 use slot_fields::no_link;
@@ -19,7 +19,7 @@ pub fn push(value: u64, tag: u16, limit: u16, entries: u16, root: Link) -> OneMa
     ensures { done (to_one_outcome result) ≡ push_prog 0 value tag entries limit (to_link root) }
 {
     if entries >= limit {
-        return none_made(root, entries, StepAnswer::Full);
+        return none_made(root, entries, Err(Full));
     }
     let more = entries + 1;
     let key = more as u32;
@@ -40,18 +40,18 @@ pub fn push(value: u64, tag: u16, limit: u16, entries: u16, root: Link) -> OneMa
         node,
         root: top,
         entries: more,
-        answer: StepAnswer::Answered(Answer::Pushed),
+        answer: Ok(Answer::Pushed),
     }
 }
 
 // A pop wants the top.
-pub fn pop_wanted(root: Link) -> Wanted
+pub fn pop_wanted(root: Link) -> Option<Want>
     ensures { (entries : ℕ) → to_wanted result ≡ wanted_in (pop_prog entries (to_link root)) }
 {
     if root.height == 0 {
-        return Wanted::Done;
+        return None;
     }
-    Wanted::Fetch(start(root))
+    Some(start(root))
 }
 
 // The root link becomes the top's left link. An empty stack has no top: whatever node is given, nothing is popped.
@@ -59,13 +59,13 @@ pub fn pop(entries: u16, root: Link, top: Node) -> OneMade
     ensures { done (to_one_outcome result) ≡ after (pop_prog entries (to_link root)) (to_node top ∷ []) }
 {
     if root.height == 0 {
-        return none_made(root, entries, StepAnswer::Answered(Answer::Empty));
+        return none_made(root, entries, Ok(Answer::Empty));
     }
     let link = top.left;
     none_made(
         link,
         one_less(entries),
-        StepAnswer::Answered(Answer::Popped(top.value)),
+        Ok(Answer::Popped(top.value)),
     )
 }
 

@@ -9,7 +9,7 @@ ghost use Rattle.structures.specs.Operation.{LowHeld};
 use super::memory::{Memory, find, put_back, put_one, without};
 use fetch_tests::passes;
 use node_rows::{FETCHES, ROW, set_node};
-use operation_spec::{Answer, Op, Spares, StepAnswer, Wanted};
+use operation_spec::{Answer, Full, Op, Spares};
 use short_steps::{short_step, short_test, short_wanted};
 use slot_fields::no_node;
 use slot_spec::{Ahead, Node};
@@ -22,7 +22,7 @@ const LIMIT: u16 = 15;
 #[derive(Clone, Copy)]
 pub struct Done {
     pub memory: Memory,
-    pub answer: StepAnswer,
+    pub answer: Result<Answer, Full>,
 }
 
 // The nodes still in memory, and how many the call holds.
@@ -95,7 +95,7 @@ fn gather(
     let mut count: usize = 0;
     while count < FETCHES {
         let next = wanted(op, LIMIT, memory.entries, root, spares, held, count, made);
-        let Wanted::Fetch(want) = next else {
+        let Some(want) = next else {
             break;
         };
         let link = want.link;
@@ -165,10 +165,10 @@ fn short_call(memory: Memory, op: Op, structure: u8, tag: u16) -> Done
     let root = memory.root;
     let absent = Done {
         memory,
-        answer: StepAnswer::Answered(Answer::Absent),
+        answer: Ok(Answer::Absent),
     };
     let next = short_wanted(op, memory.entries, root);
-    let Wanted::Fetch(want) = next else {
+    let Some(want) = next else {
         return short_end(memory, op, tag, no_node());
     };
     let link = want.link;

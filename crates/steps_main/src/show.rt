@@ -2,7 +2,7 @@
 ghost use Rattle.std.specs.Prelude.{◌≤◌};
 
 use super::memory::{Memory, next_from};
-use operation_spec::{Answer, StepAnswer};
+use operation_spec::{Answer, Full};
 use slot_spec::{Link, Node};
 
 // The descriptor of the standard output.
@@ -52,10 +52,10 @@ fn print_answered(answer: Answer) {
     }
 }
 
-pub fn print_answer(answer: StepAnswer) {
+pub fn print_answer(answer: Result<Answer, Full>) {
     match answer {
-        StepAnswer::Answered(told) => print_answered(told),
-        StepAnswer::Full => text(b"full\n"),
+        Ok(told) => print_answered(told),
+        Err(Full) => text(b"full\n"),
     }
 }
 

@@ -15,7 +15,7 @@ use heap_steps::{add, add_wanted, take, take_wanted};
 use map_operations::{get, put, remove};
 use map_steps::{map_step, map_wanted};
 use node_rows::ROW;
-use operation_spec::{Op, Outcome, Spares, Wanted};
+use operation_spec::{Op, Outcome, Spares, Want};
 use queue_steps::{dequeue_ahead, enqueue_ahead};
 use slot_spec::{Ahead, Link};
 
@@ -30,7 +30,7 @@ pub fn wanted(
     held: &[u64; ROW],
     count: usize,
     made: &mut [u64; ROW],
-) -> Wanted
+) -> Option<Want>
     requires { LowHeld root held.now count × ((length made.old ≡ words) × (one_fetch (structure_asked op) ≡ false)) }
     ensures { (to_wanted result ≡ wanted_in (after_held op spares limit entries root (held_in held.now count))) × (length made.new ≡ words) }
 {

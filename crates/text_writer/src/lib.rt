@@ -1,7 +1,7 @@
-// Text put into a lent buffer at a position. Each function returns the position after it.
+// Text put into a lent buffer.
 #![tactic(auto)]
 
-ghost use Rattle.std.specs.Prelude.{◌+◌, ◌≤◌, [], ◌∷◌, length};
+ghost use Rattle.std.specs.Prelude.{◌≡◌, ◌+◌, ◌≤◌, [], ◌∷◌, length};
 ghost use Rattle.walk_spec.specs.Lines.{decimal, numbers, Put};
 
 use call_draws::MOST_LEAVES;
@@ -9,44 +9,60 @@ use call_draws::MOST_LEAVES;
 // A word of 8 letters, a value of 20 digits and leaves of 5 digits, each after a blank, and a newline.
 pub const LONGEST_LINE: usize = 8 + 21 + 6 * MOST_LEAVES + 1;
 
-pub fn put_text(text: &[u8], out: &mut [u8], at: usize) -> usize
-    requires { at + length text.now ≤ length out.old }
-    ensures { Put text.now at out.old out.new result }
-{
-    let end = at + text.len();
-    out[at..end].copy_from_slice(text);
-    end
+// A lent buffer, and how many of its first bytes are text.
+#[derive(Drop)]
+pub struct Text<'a> {
+    pub out: &'a mut [u8],
+    pub end: usize,
 }
 
-// A number in decimal.
-fn put_decimal(n: u64, out: &mut [u8], at: usize) -> usize
-    requires { at + length (decimal n) ≤ length out.old }
-    ensures { Put (decimal n) at out.old out.new result }
-{
-    let mut digits = [0u8; 20];
-    let count = io::decimal(n, &mut digits);
-    put_text(&digits[..count], out, at)
-}
-
-// A blank and a number.
-pub fn put_number(n: u64, out: &mut [u8], at: usize) -> usize
-    requires { at + length (numbers (n ∷ [])) ≤ length out.old }
-    ensures { Put (numbers (n ∷ [])) at out.old out.new result }
-{
-    out[at] = b' ';
-    put_decimal(n, out, at + 1)
-}
-
-// The leaves, each after a blank.
-pub fn put_leaves(leaves: &[u16], out: &mut [u8], at: usize) -> usize
-    requires { at + length (numbers leaves.now) ≤ length out.old }
-    ensures { Put (numbers leaves.now) at out.old out.new result }
-{
-    let mut end = at;
-    let mut i = 0;
-    while i < leaves.len() {
-        end = put_number(leaves[i] as u64, out, end);
-        i += 1;
+impl<'a> Text<'a> {
+    pub fn new(out: &'a mut [u8]) -> Text<'a>
+        ensures same_buffer { result.out.ghost_name ≡ out.entry.ghost_name }
+        ensures fresh { (result.out.now ≡ out.old) × (result.end ≡ 0) }
+    {
+        Text { out, end: 0 }
     }
-    end
+
+    pub fn put(&mut self, text: &[u8])
+        requires { self.old.end + length text.now ≤ length self.old.out.now }
+        ensures same_buffer { self.new.out.ghost_name ≡ self.old.out.ghost_name }
+        ensures put { Put text.now self.old.end self.old.out.now self.new.out.now self.new.end }
+    {
+        let end = self.end + text.len();
+        self.out[self.end..end].copy_from_slice(text);
+        self.end = end;
+    }
+
+    // A number in decimal.
+    fn put_decimal(&mut self, n: u64)
+        requires { self.old.end + length (decimal n) ≤ length self.old.out.now }
+        ensures same_buffer { self.new.out.ghost_name ≡ self.old.out.ghost_name }
+        ensures put { Put (decimal n) self.old.end self.old.out.now self.new.out.now self.new.end }
+    {
+        let mut digits = [0u8; 20];
+        let count = io::decimal(n, &mut digits);
+        self.put(&digits[..count]);
+    }
+
+    // A blank and a number.
+    pub fn put_number(&mut self, n: u64)
+        requires { self.old.end + length (numbers (n ∷ [])) ≤ length self.old.out.now }
+        ensures same_buffer { self.new.out.ghost_name ≡ self.old.out.ghost_name }
+        ensures put { Put (numbers (n ∷ [])) self.old.end self.old.out.now self.new.out.now self.new.end }
+    {
+        self.put(b" ");
+        self.put_decimal(n);
+    }
+
+    // The leaves, each after a blank.
+    pub fn put_leaves(&mut self, leaves: &[u16])
+        requires { self.old.end + length (numbers leaves.now) ≤ length self.old.out.now }
+        ensures same_buffer { self.new.out.ghost_name ≡ self.old.out.ghost_name }
+        ensures put { Put (numbers leaves.now) self.old.end self.old.out.now self.new.out.now self.new.end }
+    {
+        for leaf in leaves {
+            self.put_number(u64::from(*leaf));
+        }
+    }
 }

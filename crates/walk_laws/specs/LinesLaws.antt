@@ -178,8 +178,12 @@ module _ {xs a b : List ℕ} {end : ℕ} (p : Put xs 0 a b end) (h : length xs �
       let l : length b ≡ length a = put-length p in
       (omega arith, rw length-take (omega arith))
 
+  -- The buffer is that text, and then what followed.
+  pub put-whole : {out : List ℕ} → out ≡ b → record { prefix_len : IsPrefixLen end out; value : (end ≡ length xs) × (out ≡ xs ++ drop end a) }
+  put-whole is = rw is (record { prefix_len = put-counts; value = (put-end, put_first) })
+
 -- ---- the line of a call
-word-length : (reply : Reply) → length (reply_word reply) ≤ 8
+pub word-length : (reply : Reply) → length (reply_word reply) ≤ 8
 word-length (Answered (Found v)) = omega arith
 word-length (Answered Absent) = omega arith
 word-length (Answered (Replaced v)) = omega arith

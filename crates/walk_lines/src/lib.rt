@@ -8,17 +8,7 @@ ghost use Rattle.walk_spec.specs.Lines.{line_of, short_line, longest_line, most_
 use answer_values::reply_shown;
 use answer_words::reply_word;
 use call_spec::Reply;
-use text_writer::{put_leaves, put_number, put_text};
-
-// The first n numbers of a trace buffer.
-fn first(trace: &[u16], n: usize) -> &[u16]
-    ensures { result.now ≡ take n trace.now }
-{
-    if n < trace.len() {
-        return &trace[..n];
-    }
-    trace
-}
+use text_writer::Text;
 
 // The line of a call: its reply, and the first n numbers of its trace buffer.
 pub fn line(reply: Reply, n: usize, trace: &[u16], out: &mut [u8]) -> usize
@@ -26,10 +16,12 @@ pub fn line(reply: Reply, n: usize, trace: &[u16], out: &mut [u8]) -> usize
     ensures prefix_len { IsPrefixLen result out.new }
     ensures value { (result ≡ length (line_of reply (take n trace.now))) × (out.new ≡ line_of reply (take n trace.now) ++ drop result out.old) }
 {
-    let word = reply_word(reply, out);
-    let value = put_number(reply_shown(reply), out, word);
-    let leaves = put_leaves(first(trace, n), out, value);
-    put_text(b"\n", out, leaves)
+    let mut text = Text::new(out);
+    text.put(reply_word(reply));
+    text.put_number(reply_shown(reply));
+    text.put_leaves(&trace[..n.min(trace.len())]);
+    text.put(b"\n");
+    text.end
 }
 
 // The last line where the input ends within its head or within a call.
@@ -38,5 +30,7 @@ pub fn short_line(out: &mut [u8]) -> usize
     ensures prefix_len { IsPrefixLen result out.new }
     ensures value { (result ≡ length short_line) × (out.new ≡ short_line ++ drop result out.old) }
 {
-    put_text(b"short\n", out, 0)
+    let mut text = Text::new(out);
+    text.put(b"short\n");
+    text.end
 }

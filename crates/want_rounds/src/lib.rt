@@ -10,7 +10,7 @@ use held_keys::MOST_HELD;
 use idle_rounds::idle::draw_at;
 use node_rows::{FETCHES, ROW, set_node, word_of};
 use one_round::want_round;
-use operation_spec::{Op, Spares, Wanted};
+use operation_spec::{Op, Spares};
 use path_slots::PATH_SLOTS;
 use round_close::greater;
 use slot_spec::{Link, Node};
@@ -88,7 +88,7 @@ pub fn want_rounds(
     let mut peak = 0;
     while count < job.rounds {
         let next = wanted(op, job.limit, job.entries, root, spares, held, count, made);
-        let Wanted::Fetch(want) = next else {
+        let Some(want) = next else {
             return came_to(count, waiting, 0, count, peak);
         };
         let link = want.link;

@@ -30,12 +30,12 @@ returns-then-last-eq0 c =
       (omega arith, c.requires.1),
     )
 
-pub returns-in-Fetch : goal.returns-in-Fetch
-returns-in-Fetch c =
+pub returns-in-Some : goal.returns-in-Some
+returns-in-Some c =
     let a = c.args in
     let way = c.way_to-way in
-    rw c.no_nodes-in-Fetch.ensures (
-      rw (take-misses a.entries a.root a.held.now a.count c.requires.0 c.requires.2 c.if-entries-eq0.false way.result way.ensures.0 way.ensures.1 c.if-count-last.false c.if-last-eq0.false c.node_at-z.ensures c.sink-r.ensures c.in-Fetch.is),
+    rw c.no_nodes-in-Some.ensures (
+      rw (take-misses a.entries a.root a.held.now a.count c.requires.0 c.requires.2 c.if-entries-eq0.false way.result way.ensures.0 way.ensures.1 c.if-count-last.false c.if-last-eq0.false c.node_at-z.ensures c.sink-r.ensures c.in-Some.is),
       (omega arith, c.sink-r.ensures.long),
     )
 

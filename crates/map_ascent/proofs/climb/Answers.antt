@@ -17,8 +17,8 @@ raise_or_rest-r-requires c =
     (let l = c.loop-i in let e : l.i ≡ suc (l.i - 1) = omega arith in subst Now e l.invariant) in
     (c.requires.0, climb-asks c.args.key c.args.root held_here c.args.b c.requires.2 c.requires.3 now-in c.step_to-p.result c.step_to-p.ensures)
 
-pub returns-in-Fetch : goal.returns-in-Fetch
-returns-in-Fetch c =
+pub returns-in-Some : goal.returns-in-Some
+returns-in-Some c =
     let held_here : Held =
     (held_in c.args.held.now c.args.count) in
     let Now : ℕ → Type 0 =
@@ -26,7 +26,7 @@ returns-in-Fetch c =
     Climbing c.args.key c.args.root held_here c.args.b l.made l.done l.sub l.next i) in
     let now-in : Now (suc (c.loop-i.i - 1)) =
     (let l = c.loop-i in let e : l.i ≡ suc (l.i - 1) = omega arith in subst Now e l.invariant) in
-    climb-missing c.args.key c.args.root held_here c.args.b c.requires.2 c.requires.3 now-in c.step_to-p.result c.step_to-p.ensures c.raise_or_rest-r.ensures c.in-Fetch.is
+    climb-missing c.args.key c.args.root held_here c.args.b c.requires.2 c.requires.3 now-in c.step_to-p.result c.step_to-p.ensures c.raise_or_rest-r.ensures c.in-Some.is
 
 pub list_level-done-requires : goal.list_level-done-requires
 list_level-done-requires c =

@@ -2,12 +2,12 @@ use Rattle.node_rows.specs.Held.{held_in}
 use Rattle.map_steps.specs.OutcomeLaws.{unmade, from-climbing, from-climbed}
 use Rattle.map_steps.proofs.map_step.Goals as goal
 
-pub returns-in-Fetch-still : goal.returns-in-Fetch-still
-returns-in-Fetch-still c =
+pub returns-in-Some-still : goal.returns-in-Some-still
+returns-in-Some-still c =
     let up = c.climb-c.ensures in
     let a = c.args in
-    unmade a.root a.entries c.climb-c.new.made up.long c.no_nodes-in-Fetch-still.ensures
-    (from-climbing a.key a.root (held_in a.held.now a.count) a.b c.in_default.is up c.in-Fetch-still.is)
+    unmade a.root a.entries c.climb-c.new.made up.long c.no_nodes-in-Some-still.ensures
+    (from-climbing a.key a.root (held_in a.held.now a.count) a.b c.in_default.is up c.in-Some-still.is)
 
 pub returns : goal.returns
 returns c =

@@ -1,10 +1,8 @@
 -- `peak_lines::peak_line` meets its contract: its parts are put one after another, and there is room for each.
-use Rattle.std.proofs.Common.{ℕ, ◌≤◌, ◌<◌, ◌^◌}
-use native.Mathlib.Omega.{arith}
-use lib.ListN.{length}
-use Rattle.walk_spec.specs.Lines.{ascii, Put}
+use Rattle.std.proofs.Common.{rules, arith, ap, ℕ, ◌≤◌, ◌<◌, ◌^◌, length}
+use Rattle.walk_spec.specs.Lines.{ascii}
 use Rattle.walk_spec.specs.PeakLines.{named, peak_line}
-use Rattle.walk_laws.specs.LinesLaws.{put-length, put-end, put_first, put-counts}
+use Rattle.walk_laws.specs.LinesLaws.{put-length, put-whole}
 use Rattle.peak_lines.specs.PeakLineLaws.{named-length, peak-line-put}
 use Rattle.peak_lines.proofs.peak_line.Goals as goal
 
@@ -18,51 +16,62 @@ largest-length n h = named-length (ascii " largest") n h
 limit-length : length (named (ascii " limit") 64) ≤ 27
 limit-length = named-length (ascii " limit") 64 (omega arith)
 
-pub put_named-first-requires : goal.put_named-first-requires
-put_named-first-requires c = omega (arith, c.requires, last-length c.args.last c.ranges.last.fits)
+pub put_named-requires : goal.put_named-requires
+put_named-requires c =
+    let s = c.new-text.ensures.fresh in
+    omega (arith, c.requires, s.1, ap length s.0, last-length c.args.last c.ranges.last.fits)
 
-pub put_named-second-requires : goal.put_named-second-requires
-put_named-second-requires c =
-    let p = c.put_named-first in
+pub put_named-requires-2 : goal.put_named-requires-2
+put_named-requires-2 c =
+    let s = c.new-text.ensures.fresh in
+    let p = c.put_named.ensures.put in
     omega (
       arith,
       c.requires,
-      p.ensures.ends,
-      put-length p.ensures,
+      s.1,
+      ap length s.0,
+      p.ends,
+      put-length p,
       last-length c.args.last c.ranges.last.fits,
       largest-length c.args.largest c.ranges.largest.fits,
     )
 
-pub put_named-third-requires : goal.put_named-third-requires
-put_named-third-requires c =
-    let p = c.put_named-first in
-    let q = c.put_named-second in
+pub put_named-requires-3 : goal.put_named-requires-3
+put_named-requires-3 c =
+    let s = c.new-text.ensures.fresh in
+    let p = c.put_named.ensures.put in
+    let q = c.put_named-2.ensures.put in
     omega (
       arith,
       c.requires,
-      p.ensures.ends,
-      q.ensures.ends,
-      put-length p.ensures,
-      put-length q.ensures,
+      s.1,
+      ap length s.0,
+      p.ends,
+      q.ends,
+      put-length p,
+      put-length q,
       last-length c.args.last c.ranges.last.fits,
       largest-length c.args.largest c.ranges.largest.fits,
       limit-length,
     )
 
-pub put_text-requires : goal.put_text-requires
-put_text-requires c =
-    let p = c.put_named-first in
-    let q = c.put_named-second in
-    let r = c.put_named-third in
+pub put-requires : goal.put-requires
+put-requires c =
+    let s = c.new-text.ensures.fresh in
+    let p = c.put_named.ensures.put in
+    let q = c.put_named-2.ensures.put in
+    let r = c.put_named-3.ensures.put in
     omega (
       arith,
       c.requires,
-      p.ensures.ends,
-      q.ensures.ends,
-      r.ensures.ends,
-      put-length p.ensures,
-      put-length q.ensures,
-      put-length r.ensures,
+      s.1,
+      ap length s.0,
+      p.ends,
+      q.ends,
+      r.ends,
+      put-length p,
+      put-length q,
+      put-length r,
       last-length c.args.last c.ranges.last.fits,
       largest-length c.args.largest c.ranges.largest.fits,
       limit-length,
@@ -71,23 +80,24 @@ put_text-requires c =
 pub returns : goal.returns
 returns c =
     let a = c.args in
-    let p = c.put_named-first in
-    let q = c.put_named-second in
-    let r = c.put_named-third in
-    let t = c.put_text in
-    let line : Put (peak_line a.last a.largest) 0 a.out.now t.new.out t.result =
-    peak-line-put a.last a.largest p.ensures q.ensures r.ensures t.ensures in
+    let s = c.new-text.ensures.fresh in
+    let p = c.put_named.ensures.put in
+    let q = c.put_named-2.ensures.put in
+    let r = c.put_named-3.ensures.put in
+    let t = c.put.ensures.put in
+    let line = peak-line-put a.last a.largest (rw (s.0, s.1) at p) q r t in
     let h : length (peak_line a.last a.largest) ≤ length a.out.now =
     omega (
       arith,
       c.requires,
+      s.1,
       line.ends,
-      t.ensures.ends,
-      p.ensures.ends,
-      q.ensures.ends,
-      r.ensures.ends,
-      last-length c.args.last c.ranges.last.fits,
-      largest-length c.args.largest c.ranges.largest.fits,
+      t.ends,
+      p.ends,
+      q.ends,
+      r.ends,
+      last-length a.last c.ranges.last.fits,
+      largest-length a.largest c.ranges.largest.fits,
       limit-length,
     ) in
-    record { prefix_len = put-counts line h; value = (put-end line h, put_first line h) }
+    put-whole line h (search rules)

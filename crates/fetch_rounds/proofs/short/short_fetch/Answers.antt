@@ -58,8 +58,8 @@ short_round-r-requires c =
     let is_leaf : (d : ℕ) → draw d < 2 ^ job.size = draw-leaf job.size c.args.tape.now in
     let begins : Begins job draw c.args.n c.args.w.now c.args.tree.now = c.requires.0.begins in
     let trace₀ : List ℕ = c.args.trace.now in
-    let want : Want = c.in-Fetch.want in
-    let asked : wanted_in (program_of job) ≡ some (to_want want) = sym (c.short_wanted-next.ensures job.spares job.limit) ∙ ap to_wanted c.in-Fetch.is in (
+    let want : Want = c.in-Some.want in
+    let asked : wanted_in (program_of job) ≡ some (to_want want) = sym (c.short_wanted-next.ensures job.spares job.limit) ∙ ap to_wanted c.in-Some.is in (
       one-ready job draw is_leaf begins trace₀ c.requires.0.one-fetch want asked,
       c.requires.1,
       structure-one job draw is_leaf begins trace₀ c.requires.0.one-fetch,
@@ -85,8 +85,8 @@ returns-then-not-r c =
     let trace₀ : List ℕ = c.args.trace.now in
     let one : job.rounds ≡ 1 = rounds-one job draw is_leaf begins trace₀ c.requires.0.one-fetch in
     let room : 1 ≤ length trace₀ = omega (arith, one, c.requires.0.long.1) in
-    let want : Want = c.in-Fetch.want in
-    let asked : wanted_in (program_of job) ≡ some (to_want want) = sym (c.short_wanted-next.ensures job.spares job.limit) ∙ ap to_wanted c.in-Fetch.is in
+    let want : Want = c.in-Some.want in
+    let asked : wanted_in (program_of job) ≡ some (to_want want) = sym (c.short_wanted-next.ensures job.spares job.limit) ∙ ap to_wanted c.in-Some.is in
     let r = c.short_round-r in
     rw c.came_to-then-not-r.ensures
     (one-damaged job draw is_leaf begins trace₀ c.requires.0.one-fetch want asked room (r.ensures.0 job.entries) (not-true r.result.taken c.if-not-r.true), (c.requires.1.0, c.requires.1.1, r.ensures.1))
@@ -100,8 +100,8 @@ returns c =
     let trace₀ : List ℕ = c.args.trace.now in
     let one : job.rounds ≡ 1 = rounds-one job draw is_leaf begins trace₀ c.requires.0.one-fetch in
     let room : 1 ≤ length trace₀ = omega (arith, one, c.requires.0.long.1) in
-    let want : Want = c.in-Fetch.want in
-    let asked : wanted_in (program_of job) ≡ some (to_want want) = sym (c.short_wanted-next.ensures job.spares job.limit) ∙ ap to_wanted c.in-Fetch.is in
+    let want : Want = c.in-Some.want in
+    let asked : wanted_in (program_of job) ≡ some (to_want want) = sym (c.short_wanted-next.ensures job.spares job.limit) ∙ ap to_wanted c.in-Some.is in
     let r = c.short_round-r in
     let drawn = c.draw_at in
     rw c.came_to-2.ensures

@@ -5,17 +5,17 @@ use Rattle.node_rows.specs.Held.{held_in}
 use Rattle.rotations.specs.RaiseLaws.{raises-missing, raises-turn}
 use Rattle.rotations.proofs.raise.turn.Goals as goal
 
-pub returns-in-Away : goal.returns-in-Away
-returns-in-Away c =
+pub returns-in-None : goal.returns-in-None
+returns-in-None c =
     let a = c.args in
     raises-missing (to_step a.p) a.left (to_node a.n) (to_sub a.near) a.others (held_in a.held.now a.count) a.next
     c.open_kid-o.result (rw (← c.top_of-top.ensures) c.open_kid-o.ensures)
-    (ap to_kid c.in-Away.is) c.child_want.ensures
+    (ap to_kid c.in-None.is) c.child_want.ensures
     c.missing.ensures.0 c.missing.ensures.1 c.requires.1.0.within
 
-pub returns-in-Here : goal.returns-in-Here
-returns-in-Here c =
+pub returns-in-Some : goal.returns-in-Some
+returns-in-Some c =
     let a = c.args in
     raises-turn (to_step a.p) a.left (to_node a.n) (to_sub a.near) a.others (held_in a.held.now a.count) a.next
     c.open_kid-o.result (rw (← c.top_of-top.ensures) c.open_kid-o.ensures)
-    (ap to_kid c.in-Here.is) c.turn_over.ensures
+    (ap to_kid c.in-Some.is) c.turn_over.ensures

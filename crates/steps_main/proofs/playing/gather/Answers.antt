@@ -41,10 +41,10 @@ loop-count-preserved c =
     let low : LowHeld a.memory.root held count = c.loop-count.invariant.1.0 in
     let n : Node = get_or c.loop-count.m.nodes c.find-i.result no_node in
     let room : count < fetches = c.loop-count-test.true in
-    let asked = sym c.wanted-next.ensures.0 ∙ ap to_wanted c.in-Fetch.is in
+    let asked = sym c.wanted-next.ensures.0 ∙ ap to_wanted c.in-Some.is in
     let passed = sym c.passes.ensures ∙ c.if-not-passes.false in
     let node-low : Low 100 (to_node n) =
-    tested_low (structure_of a.structure) a.memory.entries (to_want c.in-Fetch.want) (to_node n) 100 passed (omega arith)
+    tested_low (structure_of a.structure) a.memory.entries (to_want c.in-Some.want) (to_node n) 100 passed (omega arith)
     (wanted-low (to_op a.op) (spares_in a.spares) 15 a.memory.entries (to_ahead a.spares.ahead) (to_link a.memory.root) (nodes_of (held_in held count)) 100 (omega arith) low.root-low low.low asked)
     in
     (c.without-m.ensures, (low-more _ n low room c.set_node.ensures.0 c.set_node.ensures.1 node-low, c.wanted-next.ensures.1))

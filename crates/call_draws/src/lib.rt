@@ -22,26 +22,20 @@ pub fn rounds_of(structure: u8, size: u8) -> usize
     requires { (1 ≤ size) × (size ≤ largest_size) }
     ensures { (result ≡ rounds_of structure size) × (result ≤ most_rounds) }
 {
-    if structure == 1 {
-        return 3 * greatest_height(size as usize) as usize;
+    match structure {
+        1 => 3 * usize::from(greatest_height(usize::from(size))),
+        3 => 3 * usize::from(size),
+        _ => 1,
     }
-    if structure == 2 {
-        return 1;
-    }
-    if structure == 3 {
-        return 3 * size as usize;
-    }
-    1
 }
 
 // The spare draws of a call: those that no round takes.
+#[tactic(auto, using(crate::proofs::Spares::one_spare, crate::proofs::Spares::none_spare, crate::proofs::Spares::two_spare))]
 pub fn spare_of(structure: u8) -> usize
     ensures { (result ≡ spare_of structure) × (result ≤ most_spare) }
 {
     match structure {
-        1 => 1,
-        2 => 1,
-        3 => 1,
+        1..=3 => 1,
         _ => 2,
     }
 }

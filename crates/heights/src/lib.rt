@@ -27,12 +27,6 @@ const LEAST: [u16; 23] = [
 pub fn shape_exists(entries: u16, height: u8) -> bool
     ensures { result ≡ shaped entries height }
 {
-    let h = height as usize;
-    if h >= LEAST.len() {
-        return false;
-    }
-    if entries < LEAST[h] {
-        return false;
-    }
-    (entries as u32) < 1u32 << h
+    let h = usize::from(height);
+    h < LEAST.len() && LEAST[h] <= entries && u32::from(entries) < 1 << h
 }

@@ -1,20 +1,17 @@
 -- The state that bytes are read as is one that bytes say all of, whatever they are.
-use Rattle.std.specs.Prelude.{◌≡◌, refl, Bool, true, false, ◌&&◌, List, [], ◌∷◌, ℕ, zero, suc, ◌+◌, ◌-◌, ◌*◌, ◌^◌, ◌≤◌, ◌<◌, eqb, take, drop}
+use Rattle.std.specs.Prelude.{◌≡◌, refl, Bool, true, false, List, [], ◌∷◌, ℕ, zero, suc, ◌*◌, ◌^◌, ◌≤◌, ◌<◌, take, drop}
 use Rattle.std.proofs.Common.{◌∙◌, arith, length-take-le}
-use Rattle.std.proofs.Math.Bool.{and-eq-true_iff}
 use Rattle.std.proofs.Math.ListN.{length, length-drop}
-use borrow.Author.Tests.{eqb-true, eq-eqb, ne_eqb, leb-true}
+use borrow.Author.Tests.{eq-eqb, ne_eqb, leb-true}
 use Rattle.list_spec.specs.Choice.{pick}
 use Rattle.slot_spec.specs.LittleEndian.{Bytes}
 use Rattle.slot_spec.specs.Layout.{fields, total, Fit}
 use Rattle.slot_spec.specs.Tree.{slot_length}
-use Rattle.slot_spec.specs.Slot.{Fields, widths, numbers, fields_in, fields_of, node_of, Ranged}
+use Rattle.slot_spec.specs.Slot.{widths, fields_in, fields_of, node_of, Ranged}
 use Rattle.slot_laws.specs.LittleEndianLaws.{value-below, bytes_take, bytes_drop}
-use Rattle.state_spec.specs.declared.Place.{Place}
 use Rattle.state_spec.specs.Fit.{places, no_place}
 use Rattle.state_spec.specs.Ticket.{last_key}
-use Rattle.lent_bytes_spec.specs.declared.StateHead.{StateHead}
-use Rattle.lent_bytes_spec.specs.StateBytes.{head_widths, head_length, state_length, head_in, holds_node, place_in, places_in, state_with, state_in, next_key, key_fits}
+use Rattle.lent_bytes_spec.specs.StateBytes.{head_widths, head_length, state_length, head_in, holds_node, place_in, places_in, state_in, next_key, key_fits}
 use Rattle.lent_bytes_laws.specs.HeadLaws.{HeadRanged}
 use Rattle.lent_bytes_laws.specs.PlaceLaws.{PlaceKept, full, none, AllKept, places-length}
 use Rattle.lent_bytes_laws.specs.StateLaws.{StateKept, head-for}

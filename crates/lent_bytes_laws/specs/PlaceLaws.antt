@@ -1,7 +1,7 @@
 -- Waiting places as slots: there and back, and what a slot that is read for the root's bucket says of its place.
 use Rattle.std.proofs.Math.Path.{◌≡◌, refl, sym}
-use Rattle.std.proofs.Common.{◌∙◌, ap, ap₂, append_assoc, suc-add, arith, length-append, length-take, length-drop, take-append-drop, drop-drop, take_at, drop_at, length-take-le, eqb-true}
-use Rattle.std.specs.Prelude.{Bool, ◌&&◌, ◌||◌, List, [], ◌∷◌, ◌++◌, ℕ, zero, suc, ◌+◌, ◌-◌, ◌*◌, ◌≤◌, ◌<◌, length, get_or, take, drop, replicate}
+use Rattle.std.proofs.Common.{◌∙◌, ap, ap₂, append_assoc, suc-add, arith, length-append, length-drop, take-append-drop, drop-drop, take_at, drop_at, length-take-le, eqb-true}
+use Rattle.std.specs.Prelude.{Bool, ◌&&◌, ◌||◌, List, [], ◌∷◌, ◌++◌, ℕ, zero, suc, ◌+◌, ◌*◌, ◌≤◌, ◌<◌, length, get_or, take, drop, replicate}
 use Rattle.std.proofs.Math.Bool.{true, false, and-false, and_assoc, and-eq-true_iff}
 use Rattle.std.proofs.Math.Dec.{eqb}
 use Rattle.std.proofs.lemmas.Bool.{eqb-false}
@@ -12,7 +12,7 @@ use Rattle.slot_spec.specs.Tree.{slot_length, passes}
 use Rattle.slot_spec.specs.Slot.{widths, fields_in, fields_of, node_of, encode, all_zero, well_formed, read_slot, Ranged}
 use Rattle.slot_spec.specs.declared.Node.{Node}
 use Rattle.slot_spec.specs.declared.Reading.TheVariants.{Full, Empty, Bad}
-use Rattle.slot_laws.specs.LittleEndianLaws.{bytes_take, bytes_drop, bytes-append, bytes-are}
+use Rattle.slot_laws.specs.LittleEndianLaws.{bytes_take, bytes_drop, bytes-append}
 use Rattle.slot_laws.specs.LayoutLaws.{length-pack, pack-bytes}
 use Rattle.slot_laws.specs.SlotLaws.{fields-encoded, node-fields, all-zero-append, all-zero-replicate}
 use Rattle.slot_laws.specs.ReadLaws.{read-full, read-flagless, all-zero-read, node-encoding, well-formed-tag}

@@ -1,6 +1,6 @@
 -- States as bytes: a kept state is read back as written; bytes with sound slots are what their state is written as; so no two fit byte states
 -- are read as one state.
-use Rattle.std.specs.Prelude.{◌≡◌, refl, Bool, false, ◌&&◌, List, ◌++◌, ℕ, ◌+◌, ◌-◌, ◌*◌, ◌≤◌, eqb, length, drop}
+use Rattle.std.specs.Prelude.{◌≡◌, refl, Bool, false, ◌&&◌, List, ◌++◌, ℕ, ◌+◌, ◌*◌, ◌≤◌, eqb, length, drop}
 use Rattle.std.proofs.Common.{sym, ◌∙◌, arith, length-drop, take-append-drop}
 use Rattle.std.proofs.Math.Path.{ap, ap₂}
 use Rattle.std.proofs.Math.Bool.{true, and-eq-true_iff}

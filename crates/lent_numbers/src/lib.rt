@@ -12,14 +12,9 @@ pub fn read_numbers(bytes: &[u8], numbers: &mut [u16])
     requires { number_length * length numbers.old ≤ length bytes.now }
     ensures { numbers.new ≡ numbers_in (length numbers.old) bytes.now }
 {
-    let mut at = 0;
-    let mut i = 0;
-    while i < numbers.len() {
-        let low = bytes[at];
-        let high = bytes[at + 1];
-        numbers[i] = low as u16 + 256 * (high as u16);
-        at += NUMBER_LENGTH;
-        i += 1;
+    for (i, number) in numbers.iter_mut().enumerate() {
+        let at = NUMBER_LENGTH * i;
+        *number = u16::from_le_bytes([bytes[at], bytes[at + 1]]);
     }
 }
 
@@ -28,13 +23,8 @@ pub fn write_numbers(bytes: &mut [u8], numbers: &[u16])
     requires { number_length * length numbers.now ≤ length bytes.old }
     ensures { bytes.new ≡ sets bytes.old 0 (numbers_bytes numbers.now) }
 {
-    let mut at = 0;
-    let mut i = 0;
-    while i < numbers.len() {
-        let number = numbers[i];
-        bytes[at] = (number % 256) as u8;
-        bytes[at + 1] = (number / 256) as u8;
-        at += NUMBER_LENGTH;
-        i += 1;
+    for (i, number) in numbers.iter().enumerate() {
+        let at = NUMBER_LENGTH * i;
+        bytes[at..at + NUMBER_LENGTH].copy_from_slice(&number.to_le_bytes());
     }
 }

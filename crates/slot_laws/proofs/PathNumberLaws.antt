@@ -64,6 +64,14 @@ module _ (k t b : ℕ) (leaf : t < 2 ^ k) (some : 0 < b) (word : b < 2 ^ 64) whe
       let e : s.0 ≡ depth_of b = (let v = s.1 in omega arith) in
       (rw e at s.2, (let v : b < 2 ^ suc (depth_of b) = rw e at s.3 in omega arith))
 
+  -- The number's length is the one power of two that it is at least and half of.
+  pub depth-is : (d : ℕ) → 2 ^ d ≤ b → b < 2 * 2 ^ d → d ≡ depth_of b
+  depth-is d low high =
+      let l = lengthened in
+      let not-less : d < depth_of b → ⊥ = λ h. let m : 2 ^ suc d ≤ 2 ^ depth_of b = pow_mono {i = suc d} {j = depth_of b} h in omega arith in
+      let not-more : depth_of b < d → ⊥ = λ h. let m : 2 ^ suc (depth_of b) ≤ 2 ^ d = pow_mono {i = suc (depth_of b)} {j = d} h in omega arith in
+      omega (arith, not-less, not-more)
+
   -- None passes a bucket that is further from the root than the leaves.
   pub passes-beyond : k < depth_of b → passes k t b ≡ false
   passes-beyond h =

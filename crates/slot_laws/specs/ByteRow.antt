@@ -1,5 +1,5 @@
 -- A row of slots in bytes, slot_length to a slot: the slots that it holds, one read, one written, and that no other bytes hold them.
-use Rattle.std.specs.Prelude.{◌≡◌, refl, ℕ, zero, suc, ◌+◌, ◌*◌, ◌^◌, ◌≤◌, ◌<◌, List, [], ◌∷◌, ◌++◌, length, take, drop, get_or, set, replicate}
+use Rattle.std.specs.Prelude.{◌≡◌, refl, ℕ, zero, suc, ◌+◌, ◌*◌, ◌≤◌, ◌<◌, List, [], ◌∷◌, ◌++◌, length, take, drop, get_or, set, replicate}
 use Rattle.std.proofs.Common.{sym, ◌∙◌, ap, ap₂, add_assoc, suc-add, arith, append_assoc, length-drop, take-append-drop, take_all, take_at, take-add, drop_at, drop-drop, length-take-le}
 use Rattle.std.proofs.lemmas.List.{replicate-append-replicate}
 use Rattle.std.proofs.lemmas.List.Edits.{sets, sets-eq}

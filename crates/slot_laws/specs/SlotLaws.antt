@@ -8,7 +8,7 @@ use native.Mathlib.Omega.{arith}
 use Rattle.std.specs.Int.Bits.{bit_or, bit_and, or_zero_l, or_add_and}
 use Rattle.std.proofs.lemmas.Nat.{and_le_r}
 use Rattle.std.proofs.lemmas.Bool.{eqb-false}
-use Rattle.slot_spec.specs.LittleEndian.{value, bytes, Bytes}
+use Rattle.slot_spec.specs.LittleEndian.{bytes, Bytes}
 use Rattle.slot_laws.specs.LittleEndianLaws.{length-bytes, bytes-are, bytes-append}
 use Rattle.slot_spec.specs.Layout.{fields, pack, total, Fit}
 use Rattle.slot_laws.specs.LayoutLaws.{fields-none, fields-part, fields-whole, fields-pack, pack-fields}

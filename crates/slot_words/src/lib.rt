@@ -9,39 +9,19 @@ ghost use Rattle.slot_spec.specs.Slot.{slot_bytes};
 
 use slot_spec::Slot;
 
-fn wide(x: u8) -> u64
-    ensures { (result ≡ x) × (result < 256) }
-{
-    x as u64
-}
-
-// The word at a byte, as one flat sum: it is compiled to one load.
+// The word at a byte.
 pub fn word(s: &[u8], at: usize) -> u64
     requires { at + 8 ≤ length s.now }
     ensures { result ≡ value (take 8 (drop at s.now)) }
 {
-    wide(s[at])
-        + wide(s[at + 1]) * 256
-        + wide(s[at + 2]) * 65536
-        + wide(s[at + 3]) * 16777216
-        + wide(s[at + 4]) * 4294967296
-        + wide(s[at + 5]) * 1099511627776
-        + wide(s[at + 6]) * 281474976710656
-        + wide(s[at + 7]) * 72057594037927936
+    u64::from_le_bytes(<[u8; 8]>::try_from(&s[at..at + 8]).unwrap())
 }
 
 pub fn put_word(s: &mut [u8], at: usize, v: u64)
     requires { at + 8 ≤ length s.old }
     ensures { s.new ≡ sets s.old at (bytes 8 v) }
 {
-    s[at] = (v % 256) as u8;
-    s[at + 1] = (v / 256 % 256) as u8;
-    s[at + 2] = (v / 65536 % 256) as u8;
-    s[at + 3] = (v / 16777216 % 256) as u8;
-    s[at + 4] = (v / 4294967296 % 256) as u8;
-    s[at + 5] = (v / 1099511627776 % 256) as u8;
-    s[at + 6] = (v / 281474976710656 % 256) as u8;
-    s[at + 7] = (v / 72057594037927936 % 256) as u8;
+    s[at..at + 8].copy_from_slice(&v.to_le_bytes());
 }
 
 // The slot that starts at a byte.

@@ -14,12 +14,9 @@ fn link_good(size: usize, link: Link) -> bool
     ensures { result ≡ slot_link_good size link }
 {
     if link.height == 0 {
-        if link.key != 0 {
-            return false;
-        }
-        return link.tag == 0;
+        return link.key == 0 && link.tag == 0;
     }
-    (link.tag as usize) < leaves(size)
+    usize::from(link.tag) < leaves(size)
 }
 
 // A node that no slot is bad for, its bucket not asked about.
@@ -27,15 +24,7 @@ pub fn well_formed(size: usize, n: Node) -> bool
     requires { size ≤ 16 }
     ensures { result ≡ well_formed size n }
 {
-    let left = n.left;
-    let right = n.right;
-    if (n.tag as usize) >= leaves(size) {
-        return false;
-    }
-    if !link_good(size, left) {
-        return false;
-    }
-    link_good(size, right)
+    usize::from(n.tag) < leaves(size) && link_good(size, n.left) && link_good(size, n.right)
 }
 
 // What the slot is read as in a bucket of a tree of that size.
@@ -46,20 +35,11 @@ pub fn reading(x: Slot, size: usize, bucket: usize) -> Reading
     if is_zero(x) {
         return Reading::Empty;
     }
-    if x.a % 256 != 1 {
-        return Reading::Bad;
-    }
-    if x.a / 16777216 % 256 != 0 {
-        return Reading::Bad;
-    }
-    if x.c / 281474976710656 != 0 {
+    if x.a % 256 != 1 || x.a / 16777216 % 256 != 0 || x.c / 281474976710656 != 0 {
         return Reading::Bad;
     }
     let n = node_of(x);
-    if !well_formed(size, n) {
-        return Reading::Bad;
-    }
-    if !passes_bucket(size, n.tag as usize, bucket) {
+    if !well_formed(size, n) || !passes_bucket(size, usize::from(n.tag), bucket) {
         return Reading::Bad;
     }
     Reading::Full(n)

@@ -4,7 +4,6 @@
 ghost use Rattle.std.specs.Prelude.{◌≡◌, ◌≤◌};
 ghost use Rattle.state_spec.specs.Fit.{no_place, zero_place, place_good};
 
-use slot_fields::no_node;
 use slots::well_formed;
 use state_spec::Place;
 
@@ -12,21 +11,14 @@ use state_spec::Place;
 pub fn no_place() -> Place
     ensures { result ≡ no_place }
 {
-    let node = no_node();
-    Place { full: false, node }
+    Place::default()
 }
 
-// A place that is all zero: one test of its numbers together.
+// A place that is all zero.
 pub fn zero_place(p: Place) -> bool
     ensures { result ≡ zero_place p }
 {
-    if p.full {
-        return false;
-    }
-    let own = p.node.key as u64 | p.node.value | p.node.tag as u64;
-    let left = p.node.left.height as u64 | p.node.left.key as u64 | p.node.left.tag as u64;
-    let right = p.node.right.height as u64 | p.node.right.key as u64 | p.node.right.tag as u64;
-    own | left | right == 0
+    p == Place::default()
 }
 
 // A place that holds a node which no slot is bad for.
@@ -34,9 +26,5 @@ pub fn place_good(size: usize, p: Place) -> bool
     requires { size ≤ 16 }
     ensures { result ≡ place_good size p }
 {
-    let n = p.node;
-    if !p.full {
-        return false;
-    }
-    well_formed(size, n)
+    p.full && well_formed(size, p.node)
 }

@@ -39,11 +39,8 @@ pub fn passes_bucket(size: usize, tag: usize, bucket: usize) -> bool
     if bucket == 0 {
         return false;
     }
-    let depth = (63 - u64::leading_zeros(bucket as u64)) as usize;
-    if size < depth {
-        return false;
-    }
-    bucket == path_bucket(size, tag, size - depth)
+    let depth = bucket.ilog2() as usize;
+    depth <= size && bucket == path_bucket(size, tag, size - depth)
 }
 
 // The byte where a bucket starts.

@@ -44,10 +44,7 @@ pub fn uses(kind: u8) -> Uses
 fn is_stray(used: bool, field: u64) -> bool
     ensures { result ≡ stray used field }
 {
-    if used {
-        return false;
-    }
-    field != 0
+    !used && field != 0
 }
 
 // Whether a field that a ticket's kind does not use is not zero.
@@ -56,7 +53,7 @@ pub fn has_stray(ticket: &[u8]) -> bool
     ensures { result ≡ stray_fields ticket.now }
 {
     let used = uses(ticket[0]);
-    let key = key_in(ticket) as u64;
+    let key = u64::from(key_in(ticket));
     let value = value_in(ticket);
     is_stray(used.key, key) || is_stray(used.value, value)
 }

@@ -1,37 +1,36 @@
 -- `call_draws::rounds_of` meets its contract: for the map by the greatest height, for the heap by the size, for stack and queue 1.
-use mathlib.Core.Path.{◌≡◌}
-use Prim.Native.Nat.{◌*◌}
+use mathlib.Core.Path.{◌≡◌, refl}
+use mathlib.Core.Bool.{Bool, true, false}
+use Prim.Native.Nat.{ℕ, ◌*◌}
 use native.Mathlib.Omega.{arith}
-use borrow.Author.Tests.{eq-eqb, ne_eqb}
+use lib.Dec.{eqb}
+use borrow.Author.Tests.{ne_eqb}
 use Rattle.state_laws.specs.FetchingLaws.{rounds-most, rounds-map, rounds-stack, rounds-heap, rounds-queue}
 use Rattle.state_spec.specs.Fetching.{rounds_of}
 use Rattle.state_spec.specs.Ticket.{structure_of}
-use Rattle.method_spec.specs.Answer.{map, stack, heap, queue}
-use Rattle.balance_spec.specs.Greatest.{greatest}
+use Rattle.method_spec.specs.Answer.{map, heap}
 use Rattle.call_draws.proofs.rounds_of.Goals as goal
 
-pub returns-then-structure-eq1 : goal.returns-then-structure-eq1
-returns-then-structure-eq1 c =
+pub returns-in-1 : goal.returns-in-1
+returns-in-1 c =
     let a = c.args in
-    let e : c.greatest_height.result ≡ greatest a.size = c.greatest_height.ensures in
-    let m : structure_of a.structure ≡ map = rw (eq-eqb a.structure 1 c.if-structure-eq1.true) in
-    let r : 3 * c.greatest_height.result ≡ rounds_of a.structure a.size = rw (e, m, rounds-map a.size) in
+    let m : structure_of a.structure ≡ map = rw c.in-1.is in
+    let r : 3 * c.from-in-1.result ≡ rounds_of a.structure a.size = rw (c.from-in-1.ensures, c.greatest_height.ensures, c.from.ensures, m, rounds-map a.size) in
     (r, omega (arith, r, rounds-most (structure_of a.structure) a.size c.requires.1))
 
-pub returns-then-structure-eq2 : goal.returns-then-structure-eq2
-returns-then-structure-eq2 c =
+pub returns-in-3 : goal.returns-in-3
+returns-in-3 c =
     let a = c.args in
-    let m : structure_of a.structure ≡ stack = rw (ne_eqb a.structure 1 c.if-structure-eq1.false, eq-eqb a.structure 2 c.if-structure-eq2.true) in
-    (rw (m, rounds-stack a.size), omega arith)
+    let m : structure_of a.structure ≡ heap = rw c.in-3.is in
+    (rw (m, rounds-heap a.size, c.from-in-3.ensures), omega arith)
 
-pub returns-then-structure-eq3 : goal.returns-then-structure-eq3
-returns-then-structure-eq3 c =
-    let a = c.args in
-    let m : structure_of a.structure ≡ heap = rw (ne_eqb a.structure 1 c.if-structure-eq1.false, ne_eqb a.structure 2 c.if-structure-eq2.false, eq-eqb a.structure 3 c.if-structure-eq3.true) in
-    (rw (m, rounds-heap a.size), omega arith)
+-- A number that is not a map's or a heap's.
+rounds_one : (n size : ℕ) → (n ≡ 1 → ⊥) → (n ≡ 3 → ⊥) → 1 ≡ rounds_of n size
+rounds_one n size x y = go (eqb n 2) refl
+  where
+    go : (b : Bool) → eqb n 2 ≡ b → 1 ≡ rounds_of n size
+    go true e = rw (ne_eqb n 1 x, e, rounds-stack size)
+    go false e = rw (ne_eqb n 1 x, e, ne_eqb n 3 y, rounds-queue size)
 
-pub returns : goal.returns
-returns c =
-    let a = c.args in
-    let m : structure_of a.structure ≡ queue = rw (ne_eqb a.structure 1 c.if-structure-eq1.false, ne_eqb a.structure 2 c.if-structure-eq2.false, ne_eqb a.structure 3 c.if-structure-eq3.false) in
-    (rw (m, rounds-queue a.size), omega arith)
+pub returns-in_default : goal.returns-in_default
+returns-in_default c = (rounds_one c.args.structure c.args.size (λ e. omega arith) (λ e. omega arith), omega arith)

@@ -1,5 +1,5 @@
 -- The one fetch round of a stack or a queue.
-use Rattle.std.specs.Prelude.{◌≡◌, refl, Bool, true, false, List, [], ◌∷◌, ℕ, max, ◌+◌, ◌-◌, ◌^◌, ◌≤◌, ◌<◌, eqb, length, set, None}
+use Rattle.std.specs.Prelude.{◌≡◌, refl, Bool, true, false, List, [], ◌∷◌, ℕ, max, ◌+◌, ◌-◌, ◌^◌, ◌≤◌, ◌<◌, eqb, length, set, None, Some}
 use Rattle.std.proofs.Common.{sym, ◌∙◌, ap, arith}
 use Rattle.std.proofs.Math.Option.{Option, none, some}
 use Rattle.std.proofs.Math.Decide.{ℕ_discrete}
@@ -26,7 +26,9 @@ use Rattle.one_round.specs.declared.Took.{Took}
 use Rattle.one_round.specs.OneRound.{RoundReady, taken_as, Wanted, took, node_taken}
 use Rattle.idle_rounds.specs.declared.idle.Idle.{Idle}
 use Rattle.idle_rounds.specs.Idle.{Between, IdledAll}
-use Rattle.round_close.specs.Fault.{mark_of}
+use Rattle.round_close.specs.Fault.{mark_of, fault-marks}
+use Rattle.round_close.specs.declared.Fault.{Fault}
+use Rattle.std.specs.Prelude as prelude
 use Rattle.want_rounds.specs.declared.Job.{Job}
 use Rattle.want_rounds.specs.Wanting.{structure_in, program_of, Begins, Walked, FetchedAs}
 use Rattle.want_rounds.specs.WantingLaws.{after_none, walked-begins, walked-between, want-ready, walked-shut, walked_on}
@@ -54,6 +56,11 @@ from-root (Push v) s limit entries l one e = no-want (push-wants-none v s.first 
 from-root Pop s limit entries l one e = starts (eqb l.height 0) _ l _ (sym (ap wanted_in (program-pop Pop s limit entries l refl)) ∙ e)
 from-root (Enqueue v) s limit entries l one e = no-want (enqueue-wants-none v _ _ entries limit _ l ∙ sym (ap wanted_in (program-enqueue (Enqueue v) s limit entries l refl)) ∙ e)
 from-root Dequeue s limit entries l one e = starts (eqb entries 0) _ l _ (sym (ap wanted_in (program-dequeue Dequeue s limit entries l refl)) ∙ e)
+
+-- No mark is no fault.
+unmarked : (f : prelude.Option Fault) → mark_of f ≡ 0 → f ≡ None
+unmarked None e = refl
+unmarked (Some f) e = absurd (fault-marks (Some f) refl e)
 
 module _ (j : Job) (draw : ℕ → ℕ) (is_IsLeaf : (d : ℕ) → draw d < 2 ^ j.size) {n : ℕ} {row tree : List ℕ} (b : Begins j draw n row tree)
     (trace : List ℕ) (one : one_fetch (structure_in j) ≡ true) where
@@ -120,4 +127,4 @@ module _ (j : Job) (draw : ℕ → ℕ) (is_IsLeaf : (d : ℕ) → draw d < 2 ^ 
                 → FetchedAs j draw n row tree trace (taken_as want (draw 0) (to_node (node_taken r)) ∷ []) row' tree' trace' (record { count = 1; waiting = r.waiting; fault = r.fault; leaves = 1; peak = r.count })
             go (no marked) = walked-shut j draw is_IsLeaf b trace inv want asked-now fewer round raised room true taken marked {count = 1} refl
             go (yes e) =
-                rw e (all-walked j draw is_IsLeaf b trace (walked_on j draw is_IsLeaf b trace inv want asked-now fewer round raised room taken e) {count = 1} refl (sym rounds-one) {leaves = 1} (sym rounds-one))
+                rw (unmarked r.fault e) (all-walked j draw is_IsLeaf b trace (walked_on j draw is_IsLeaf b trace inv want asked-now fewer round raised room taken e) {count = 1} refl (sym rounds-one) {leaves = 1} (sym rounds-one))

@@ -1,7 +1,7 @@
 // Slots and buckets in the lent tree.
 #![tactic(auto)]
 
-ghost use Rattle.std.specs.Prelude.{◌≡◌, map, ◌+◌, ◌*◌, ◌≤◌, ◌<◌, length, take, drop, get_or, replicate};
+ghost use Rattle.std.specs.Prelude.{◌≡◌, map, ◌+◌, ◌*◌, ◌≤◌, ◌<◌, length, take, drop};
 ghost use Rattle.std.proofs.lemmas.List.Edits.{sets};
 ghost use Rattle.slot_spec.specs.Tree.{slot_length, bucket_length};
 ghost use Rattle.slot_spec.specs.Slot.{slot_bytes, encode, read_slot, bucket_bytes};
@@ -27,31 +27,14 @@ pub fn write_slot(tree: &mut [u8], at: usize, n: Node)
     store(tree, at, slot_of(n));
 }
 
-// The slot number j of a bucket that holds the first count slots.
-fn slot_or_zero(slots: [Slot; 4], count: usize, j: usize) -> Slot
-    requires { (count ≤ 4) × (j < 4) }
-    ensures { slot_bytes result ≡ get_or (map slot_bytes (take count slots)) j (replicate slot_length 0) }
+// The bucket writer: the four-slot part of a lent tree gets the slots, at most four, and zero bytes in the others.
+pub fn write_bucket(part: &mut [u8], slots: &[Slot])
+    requires { (length part.old ≡ bucket_length) × (length slots.now ≤ 4) }
+    ensures { part.new ≡ bucket_bytes (map slot_bytes slots.now) }
 {
-    if j < count {
-        return slots[j];
-    }
-    Slot {
-        a: 0,
-        b: 0,
-        c: 0,
-        d: 0,
-    }
-}
-
-// The bucket writer: the four-slot part of a lent tree gets the first count slots, and zero bytes in the others.
-pub fn write_bucket(part: &mut [u8], slots: [Slot; 4], count: usize)
-    requires { (length part.old ≡ bucket_length) × (count ≤ 4) }
-    ensures { part.new ≡ bucket_bytes (map slot_bytes (take count slots)) }
-{
-    let mut j = 0;
-    while j < 4 {
-        store(part, SLOT_LENGTH * j, slot_or_zero(slots, count, j));
-        j += 1;
+    part.fill(0);
+    for (j, slot) in slots.iter().enumerate() {
+        store(part, SLOT_LENGTH * j, *slot);
     }
 }
 

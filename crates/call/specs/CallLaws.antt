@@ -5,7 +5,7 @@ use Rattle.state_spec.specs.declared.State.{State}
 use Rattle.state_spec.specs.Fit.{fits, places_fit, head_fits}
 use Rattle.state_laws.specs.FitLaws.{fits-parts}
 use Rattle.call_spec.specs.declared.Called.{Called}
-use Rattle.call_spec.specs.declared.Reply.TheVariants.{Refused}
+use Rattle.call_spec.specs.Reply.{Refused}
 use Rattle.call_spec.specs.Store.{refusing, called, call_ended_as}
 use Rattle.stash.specs.Stash.{Loaded, saved}
 use Rattle.stash_laws.specs.Waiting.{waiting_in}

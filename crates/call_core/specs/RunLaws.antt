@@ -1,6 +1,7 @@
 -- The rounds and the step of a call, together: what the code leaves is what the definition leaves.
-use Rattle.std.specs.Prelude.{◌≡◌, List, [], take}
-use Rattle.std.proofs.Common.{sym, ◌∙◌}
+use Rattle.std.specs.Prelude.{◌≡◌, refl, Option, Some, None, List, [], take}
+use Rattle.std.proofs.Common.{sym, ◌∙◌, inl, inr}
+use Rattle.std.proofs.Math.Decide.{ℕ_discrete}
 use Rattle.std.proofs.Math.Path.{ap, ap₂}
 use Prim.Native.Nat.{ℕ, max, ◌+◌, ◌-◌, ◌^◌, ◌≤◌, ◌<◌}
 use native.Mathlib.Omega.{arith}
@@ -28,7 +29,11 @@ use Rattle.operation_spec.specs.declared.Op.{Op}
 use Rattle.operation_spec.specs.Method.{to_op, outcome_in}
 use Rattle.node_rows.specs.Held.{Held, nodes_of}
 use Rattle.node_rows.specs.Heights.{Lows}
+use Rattle.call_spec.specs.declared.Refusal.{Refusal}
+use Rattle.call_spec.specs.declared.Refusal.TheVariants.{Closed, Unfit, TreeLength, TicketLength, UnknownKind, ShortTape, ShortTrace, Damage, Overflow, Full, NoKeyLeft, StrayField}
+use Rattle.call_spec.specs.Reply.{number_of}
 use Rattle.call_spec.specs.Store.{Ended}
+use Rattle.replies.specs.Answered.{IsMark, mark_of}
 use Rattle.stash_laws.specs.WaitingLaws.{waiting-length}
 use Rattle.one_round.specs.OneRound.{going}
 use Rattle.want_rounds.specs.declared.Job.{Job}
@@ -46,6 +51,30 @@ use Rattle.call_ending.specs.EndingLaws.{joined_length, numbers-first}
 ending-on : (structure size : ℕ) (trace trace' : List ℕ) (l : CallLeft) (peak : ℕ) → drop (length l.leaves) trace' ≡ drop (length l.leaves) trace
     → ending_with structure size trace' l peak ≡ ending_with structure size trace l peak
 ending-on structure size trace trace' l peak e = rw e
+
+-- ---- the cause for which a round closed the store
+number-some : (r : Refusal) → number_of r ≡ 0 → ⊥
+number-some Closed e = omega (arith, e)
+number-some Unfit e = omega (arith, e)
+number-some TreeLength e = omega (arith, e)
+number-some TicketLength e = omega (arith, e)
+number-some UnknownKind e = omega (arith, e)
+number-some ShortTape e = omega (arith, e)
+number-some ShortTrace e = omega (arith, e)
+number-some Damage e = omega (arith, e)
+number-some Overflow e = omega (arith, e)
+number-some Full e = omega (arith, e)
+number-some NoKeyLeft e = omega (arith, e)
+number-some StrayField e = omega (arith, e)
+
+pub marked : {found : Option Refusal} {cause : Refusal} {mark : ℕ} → found ≡ Some cause → mark_of found ≡ mark → (mark ≡ 0 → ⊥) × (number_of cause ≡ mark)
+marked {cause = cause} is e =
+    let met : number_of cause ≡ _ = sym (ap mark_of is) ∙ e in
+    (λ z. number-some cause (met ∙ z), met)
+
+pub went_on : {found : Option Refusal} {mark : ℕ} → ((cause : Refusal) → found ≡ Some cause → ⊥) → mark_of found ≡ mark → mark ≡ 0
+went_on {found = None} none e = sym e
+went_on {found = Some cause} none e = absurd (none cause refl)
 
 -- The job, by its parts.
 pub same-job : (structure size entries : ℕ) (root : Link) (ahead : Ahead) (op : Op) (F : ℕ) (tape : List ℕ) {limit first second puts : ℕ}
@@ -149,21 +178,35 @@ module _ {j : Job} {n : ℕ} {row tree tape trace : List ℕ} (ok : Runs j n row
             room = omega (arith, room, a, b, waiting-length came.rests.holds, begins.small, came.counted);
           }
 
-      pub run-ends-shut : {r : Ran} {row'' : List ℕ} → ShutAs j f hs row' row'' r → RanAs j n row tree tape trace row'' tree' trace' r
+      -- Its mark is one that a round ends with.
+      shut-mark : IsMark f.mark
+      shut-mark =
+          let c = fetch-closing k begins.some_size small op begins.op_fits draw is_leaf store begins.fit begins.key_left f.mark mid (rw (← begins.rounds-are) closed-by) in
+          inr (rw c.0 at c.1.mark)
+
+      pub run-ends-shut : {cause : Refusal} → number_of cause ≡ f.mark → {r : Ran} {row'' : List ℕ} → ShutAs j f cause hs row' row'' r → RanAs j n row tree tape trace row'' tree' trace' r
       unfolding closing
-      run-ends-shut e =
+      run-ends-shut {cause} met {r} e =
           let fits : f.leaves ≤ length trace' = omega (arith, came.no_more, came.trace-sized, long) in
           let l = closing f.mark j.entries (to_link j.root) (to_ahead j.spares.ahead) mid in
           let rest : drop (length (take f.leaves trace')) trace' ≡ drop (length (take f.leaves trace')) trace =
           rw (numbers-first f.leaves trace' fits) came.untouched in
           record {
-            ran = e.ran;
             holds = e.holds;
             ends =
                 e.ends tree' trace' fits
+                ∙ ap (λ (m : ℕ). ending_with j.structure k trace' (closing m j.entries (to_link j.root) (to_ahead j.spares.ahead) mid) f.peak) met
                 ∙ ending-on j.structure k trace trace' l f.peak rest
                 ∙ ap₂ (ending_with j.structure k trace) (sym left_is) (sym peak-shut);
           }
+
+    -- The mark of the fetch rounds.
+    pub fetched-mark : IsMark f.mark
+    fetched-mark = go (ℕ_discrete f.mark 0)
+      where
+        go : Dec (f.mark ≡ 0) → IsMark f.mark
+        go (yes e) = inl e
+        go (no d) = shut-mark d
 
     -- ---- all fetch rounds went on
     module _ (went : f.mark ≡ 0) where
@@ -220,7 +263,6 @@ module _ {j : Job} {n : ℕ} {row tree tape trace : List ℕ} (ok : Runs j n row
           let at-fetched : drop F trace' ≡ drop F trace = rw (← came.all_shown went) came.untouched in
           let all : length l.leaves ≡ F + (length l.leaves - F) = omega (arith, e.enough) in
           record {
-            ran = e.ran;
             holds = e.holds;
             ends =
                 e.ends

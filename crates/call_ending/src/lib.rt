@@ -10,17 +10,17 @@ ghost use Rattle.node_rows.specs.Held.{held_in, nodes_of};
 ghost use Rattle.short_outcomes.specs.OneFetch.{one_fetch};
 ghost use Rattle.structures.specs.Operation.{LowHeld};
 ghost use Rattle.want_rounds.specs.Wanting.{held_by};
-ghost use Rattle.call_spec.specs.declared.Reply.TheVariants.{Refused};
+ghost use Rattle.call_spec.specs.Reply.{number_of};
 ghost use Rattle.call_ending.specs.Ending.{Shuts, HeldRows, ShutAs, outcome_of, stepped_by, PutLent, Finishes, FinishedAs, EndsPuts};
 
-use call_spec::Reply;
+use call_spec::Refusal;
 use held_keys::MOST_HELD;
 use idle_rounds::idle::Idle;
 use node_rows::{FETCHES, ROW};
 use operation_spec::{Answer, Full, Outcome};
 use path_slots::PATH_SLOTS;
 use put_rounds::put_rounds;
-use replies::reply_after;
+use replies::{cause_of, reply_after};
 use round_close::greater;
 use slot_spec::{Ahead, Link};
 use stash::join::join_nodes;
@@ -30,56 +30,55 @@ use want_rounds::{Fetched, Job};
 
 pub mod short;
 
-// What a call leaves beside the row of the waiting nodes: whether it made its rounds or was refused, the mark, the entries, the
-// root link, what is known ahead, how many nodes wait, the reply, how many leaves were revealed, and the largest count at a round's close.
+// What a call that made its rounds leaves beside the row of the waiting nodes: the mark, the entries, the root link, what is known
+// ahead, how many nodes wait, the reply, how many leaves were revealed, and the largest count at a round's close.
 #[derive(Clone, Copy)]
 pub struct Ran {
-    pub ran: bool,
     pub mark: u8,
     pub entries: u16,
     pub root: Link,
     pub ahead: Ahead,
     pub waiting: usize,
-    pub reply: Reply,
+    pub reply: Result<Answer, Refusal>,
     pub leaves: usize,
     pub peak: usize,
 }
 
-// What is left of a store that a fetch round closed, with that root link and so many nodes waiting. What is known ahead is as before the
-// call.
-pub fn closed(job: Job, f: Fetched, root: Link, waiting: usize) -> Ran
-    ensures { result ≡ record { ran = true; mark = f.mark; entries = job.entries; root = root; ahead = job.spares.ahead; waiting = waiting; reply = Refused f.mark; leaves = f.leaves; peak = f.peak } }
+// What is left of a store that a fetch round closed for that cause, with that root link and so many nodes waiting. What is known ahead
+// is as before the call.
+pub fn closed(job: Job, f: Fetched, cause: Refusal, root: Link, waiting: usize) -> Ran
+    ensures { result ≡ record { mark = number_of cause; entries = job.entries; root = root; ahead = job.spares.ahead; waiting = waiting; reply = Err cause; leaves = f.leaves; peak = f.peak } }
 {
     let spares = job.spares;
     let ahead = spares.ahead;
     Ran {
-        ran: true,
-        mark: f.mark,
+        mark: cause as u8,
         entries: job.entries,
         root,
         ahead,
         waiting,
-        reply: Reply::Refused(f.mark),
+        reply: Err(cause),
         leaves: f.leaves,
         peak: f.peak,
     }
 }
 
-// A fetch round closed the store: the held nodes join those waiting, as they were fetched, with only tags moved.
+// A fetch round closed the store for that cause: the held nodes join those waiting, as they were fetched, with only tags moved.
 pub fn shut(
     job: Job,
     f: Fetched,
+    cause: Refusal,
     w: &mut [u8],
     held: &mut [u64; ROW],
     froms: &[u64; FETCHES],
 ) -> Ran
     requires { Shuts f w.old × HeldRows f held.old froms.now }
-    ensures { ShutAs job f (held_by (held_in held.old f.count) froms.now) w.old w.new result }
+    ensures { ShutAs job f cause (held_by (held_in held.old f.count) froms.now) w.old w.new result }
 {
     let old = job.root;
     let root = move_tags(held, f.count, froms, old);
     let waiting = join_nodes(w, f.waiting, held, f.count);
-    closed(job, f, root, waiting)
+    closed(job, f, cause, root, waiting)
 }
 
 // What is left by a call whose step came to that root link, those entries and that answer, after its put rounds; the fetch rounds had
@@ -98,11 +97,10 @@ pub fn finished(
     let op = job.op;
     let spares = job.spares;
     let ahead = ahead_after(op, job.limit, job.entries, spares);
-    let reply = reply_after(puts.mark, answer);
+    let reply = reply_after(cause_of(puts.mark), answer);
     let leaves = job.rounds + puts.shown;
     let most = greater(peak, puts.peak);
     Ran {
-        ran: true,
         mark: puts.mark,
         entries,
         root,

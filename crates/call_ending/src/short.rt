@@ -13,6 +13,7 @@ ghost use Rattle.want_rounds.specs.Wanting.{held_one, nodes_held, program_of};
 ghost use Rattle.call_ending.specs.Ending.{Shuts, ShutAs, outcome_of, stepped_by, PutLent, Finishes, FinishedAs};
 
 use super::{Ran, closed, finished};
+use call_spec::Refusal;
 use held_keys::MOST_HELD;
 use path_slots::PATH_SLOTS;
 use put_rounds::put_rounds;
@@ -44,20 +45,20 @@ fn join_made(w: &mut [u8], n: usize, o: OneMade) -> usize
     join_node(w, n, node)
 }
 
-// The fetch round closed the store: the node, if it is held, joins those waiting, and the root link has its new tag.
-pub fn shut_short(job: Job, r: FetchedOne, w: &mut [u8]) -> Ran
+// The fetch round closed the store for that cause: the node, if it is held, joins those waiting, and the root link has its new tag.
+pub fn shut_short(job: Job, r: FetchedOne, cause: Refusal, w: &mut [u8]) -> Ran
     requires { Shuts r.fetched w.old }
-    ensures { ShutAs job r.fetched (held_one r) w.old w.new result }
+    ensures { ShutAs job r.fetched cause (held_one r) w.old w.new result }
 {
     let f = r.fetched;
     let mut root = job.root;
     if f.count == 0 {
-        return closed(job, f, root, f.waiting);
+        return closed(job, f, cause, root, f.waiting);
     }
     let node = r.node;
     root.tag = node.tag;
     let waiting = join_node(w, f.waiting, node);
-    closed(job, f, root, waiting)
+    closed(job, f, cause, root, waiting)
 }
 
 // The fetch round went on: the step, and the put rounds.

@@ -7,8 +7,9 @@ use super::lines;
 use super::rows::{byte, number};
 use super::trees::{checksum, filled, put_slot};
 use call_draws::MOST_LEAVES;
-use call_spec::Reply;
+use call_spec::Refusal;
 use opening::open;
+use operation_spec::Answer;
 
 // The descriptor of the standard output.
 const STDOUT_FILENO: i32 = 1;
@@ -44,10 +45,10 @@ fn with_trace(sum: u64, trace: &[u16]) -> u64 {
     sum
 }
 
-fn number_of(reply: Reply) -> u16 {
+fn number_of(reply: Result<Answer, Refusal>) -> u16 {
     match reply {
-        Reply::Answered(_) => 0,
-        Reply::Refused(number) => number as u16,
+        Ok(_) => 0,
+        Err(refusal) => refusal as u16,
     }
 }
 

@@ -10,7 +10,8 @@ ghost use Rattle.walk_spec.specs.Walk.{call_in};
 ghost use Rattle.call_spec.specs.Store.{call_ended_as};
 
 use call_draws::{MOST_DRAWS, draws_of, rounds_of};
-use call_spec::{Called, Reply};
+use call_spec::{Called, Refusal};
+use operation_spec::Answer;
 use state_spec::State;
 use tickets::TICKET_LENGTH;
 use walk_input::{LONGEST_RECORD, arrived, read_tape, record_length};
@@ -53,7 +54,7 @@ pub fn call_in(state: State, tree: &mut [u8], input: &[u8], trace: &mut [u16]) -
 pub struct Next {
     pub came: Arrived,
     pub state: State,
-    pub reply: Reply,
+    pub reply: Option<Result<Answer, Refusal>>,
     pub leaves: usize,
     pub peak: usize,
 }
@@ -69,7 +70,7 @@ pub fn next_call(state: State, tree: &mut [u8], trace: &mut [u16]) -> Next
         Arrived::Whole => {
             let made = call_in(state, tree, &input, trace);
             let left = made.state;
-            let reply = made.reply;
+            let reply = Some(made.reply);
             Next {
                 came,
                 state: left,
@@ -81,7 +82,7 @@ pub fn next_call(state: State, tree: &mut [u8], trace: &mut [u16]) -> Next
         Arrived::End | Arrived::Short => Next {
             came,
             state,
-            reply: Reply::Refused(0),
+            reply: None,
             leaves: 0,
             peak: 0,
         },

@@ -6,12 +6,11 @@ ghost use Rattle.std.specs.Prelude.{◌≡◌, ◌≤◌, length};
 ghost use Rattle.state_spec.specs.Fit.{largest_size};
 ghost use Rattle.walk_spec.specs.Input.{largest_tree};
 
-use call_spec::Reply;
 use opening::open;
 use state_spec::State;
 use text_writer::LONGEST_LINE;
 use walk_input::{HEAD_LENGTH, tree_lent};
-use walk_lines::{line, short_line};
+use walk_lines::{refused_line, short_line};
 
 // The descriptors of the standard input and output.
 const STDIN_FILENO: i32 = 0;
@@ -26,9 +25,8 @@ pub fn print_short() {
 }
 
 fn print_refused(mark: u8) {
-    let none = [0u16; 1];
     let mut out = [0u8; LONGEST_LINE];
-    let length = line(Reply::Refused(mark), 0, &none, &mut out);
+    let length = refused_line(mark, &mut out);
     io::write_all(STDOUT_FILENO, &out[..length]);
 }
 

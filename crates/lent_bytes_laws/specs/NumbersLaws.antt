@@ -1,5 +1,5 @@
 -- Numbers of two bytes each: read one by one, read back as written, and cut.
-use Rattle.std.specs.Prelude.{◌≡◌, refl, List, [], ◌∷◌, ◌++◌, ℕ, zero, suc, ◌+◌, ◌-◌, ◌*◌, ◌/◌, ◌≤◌, ◌<◌, length, get_or, take, drop, set}
+use Rattle.std.specs.Prelude.{◌≡◌, refl, List, [], ◌∷◌, ◌++◌, ℕ, zero, suc, ◌+◌, ◌-◌, ◌*◌, ◌/◌, ◌%◌, ◌≤◌, ◌<◌, length, get_or, take, drop, set}
 use Rattle.std.proofs.Common.{sym, ◌∙◌, ap, ap₂, append_assoc, append-nil, suc-add, add-one, arith, length-append, length-drop, length-take, take-append-drop, take-suc, drop-cons, drop-drop, take-suc-set, take_at, drop_at, length-take-le}
 use mathlib.Core.List.Memᴰ
 use Rattle.std.specs.Int.{w16, to_le_bytes}
@@ -9,7 +9,7 @@ use Rattle.list_spec.specs.Distinct.{All}
 use Rattle.list_laws.specs.DistinctLaws.{all_nil, all_cons}
 use Rattle.slot_spec.specs.LittleEndian.{value, bytes, Bytes}
 use Rattle.slot_laws.specs.LittleEndianLaws.{length-bytes, bytes-value, value_read, value-below, bytes_take, bytes_drop}
-use Rattle.slot_laws.specs.WordLaws.{copied-sets, sets-append}
+use Rattle.slot_laws.specs.WordLaws.{sets-append, copied-sets}
 use Rattle.lent_bytes_spec.specs.Numbers.{number_length, numbers_in, numbers_of, numbers_bytes}
 
 -- ---- reading, one number after another
@@ -26,10 +26,10 @@ numbers_more (suc n) bs =
     let e : 2 * suc n ≡ 2 + 2 * n = omega arith in
     rw (e, ← drop-drop (2 * n) 2 bs) (ap (λ (l : List ℕ). value (take 2 bs) ∷ l) (numbers_more n (drop 2 bs)))
 
-pub numbers-next : (bs numbers : List ℕ) (i at n : ℕ) → take i numbers ≡ numbers_in i bs → i < length numbers → at ≡ 2 * i → at + 2 ≤ length bs
-    → n ≡ get_or bs at 0 + 256 * get_or bs (at + 1) 0 → take (i + 1) (set numbers i n) ≡ numbers_in (i + 1) bs
-numbers-next bs numbers i at n done before here room e =
-    rw (add-one i, take-suc-set numbers i n before, done, numbers_more i bs, ← here, value-two bs at room, e)
+pub numbers-next : (bs numbers : List ℕ) (i at : ℕ) → take i numbers ≡ numbers_in i bs → i < length numbers → at ≡ 2 * i → at + 2 ≤ length bs
+    → take (i + 1) (set numbers i (get_or bs at 0 + 256 * get_or bs (at + 1) 0)) ≡ numbers_in (i + 1) bs
+numbers-next bs numbers i at done before here room =
+    rw (add-one i, take-suc-set numbers i (get_or bs at 0 + 256 * get_or bs (at + 1) 0) before, done, numbers_more i bs, ← here, value-two bs at room)
 
 pub numbers-none : (bs numbers : List ℕ) → take 0 numbers ≡ numbers_in 0 bs
 unfolding numbers_in
@@ -97,20 +97,42 @@ one_number : (n : ℕ) → numbers_bytes (n ∷ []) ≡ bytes 2 n
 unfolding numbers_bytes
 one_number n = append-nil (bytes 2 n)
 
-pub number_put : (bs : List ℕ) (at k n : ℕ) → at + 2 ≤ length bs → k ≡ 2 → take at bs ++ (to_le_bytes w16 n ++ drop k (drop at bs)) ≡ sets bs at (bytes 2 n)
+pub number_put : (bs : List ℕ) (at n : ℕ) → n < 65536 → set (set bs at (n % 256)) (at + 1) (n / 256) ≡ sets bs at (bytes 2 n)
 unfolding bytes
-number_put bs at k n room e = copied-sets bs at k (to_le_bytes w16 n) (omega arith) e
+number_put bs at n low =
+    let e : at + 1 ≡ suc at = omega arith in
+    let d : n / 256 ≡ n / 256 % 256 = omega (arith, low) in
+    rw (e, ← d)
 
-pub numbers-put : (before bs numbers : List ℕ) (i at k : ℕ) → bs ≡ sets before 0 (numbers_bytes (take i numbers)) → i < length numbers → at ≡ 2 * i
-    → at + 2 ≤ length bs → k ≡ 2
-    → take at bs ++ (to_le_bytes w16 (get_or numbers i 0) ++ drop k (drop at bs)) ≡ sets before 0 (numbers_bytes (take (i + 1) numbers))
-numbers-put before bs numbers i at k done more here room e =
+pub numbers-put : (before bs numbers : List ℕ) (i at : ℕ) → bs ≡ sets before 0 (numbers_bytes (take i numbers)) → i < length numbers → at ≡ 2 * i
+    → ((j : ℕ) → get_or numbers j 0 < 65536)
+    → set (set bs at (get_or numbers i 0 % 256)) (at + 1) (get_or numbers i 0 / 256) ≡ sets before 0 (numbers_bytes (take (i + 1) numbers))
+numbers-put before bs numbers i at done more here low =
     let n = get_or numbers i 0 in
     let l : length (numbers_bytes (take i numbers)) ≡ at = numbers-bytes-length (take i numbers) ∙ omega (arith, length-take-le i numbers (omega (arith, more)), here) in
     let end : 0 + length (numbers_bytes (take i numbers)) ≡ at = omega (arith, l) in
     let next : numbers_bytes (take (i + 1) numbers) ≡ numbers_bytes (take i numbers) ++ bytes 2 n =
     rw (add-one i, take-suc numbers i 0 more, numbers-bytes-append (take i numbers) (n ∷ []), one_number n) in
-    number_put bs at k n room e
+    number_put bs at n (low i)
+    ∙ ap (λ (x : List ℕ). sets x at (bytes 2 n)) done
+    ∙ sym (ap (sets before 0) next ∙ sets-append before 0 (numbers_bytes (take i numbers)) (bytes 2 n)
+    ∙ ap (λ (m : ℕ). sets (sets before 0 (numbers_bytes (take i numbers))) m (bytes 2 n)) end)
+
+-- The same where std copies a number's two bytes.
+pub number-copied : (bs : List ℕ) (at k n : ℕ) → at + 2 ≤ length bs → k ≡ 2 → take at bs ++ (to_le_bytes w16 n ++ drop k (drop at bs)) ≡ sets bs at (bytes 2 n)
+unfolding bytes
+number-copied bs at k n room e = copied-sets bs at k (to_le_bytes w16 n) (omega arith) e
+
+pub numbers-copied : (before bs numbers : List ℕ) (i at k : ℕ) → bs ≡ sets before 0 (numbers_bytes (take i numbers)) → i < length numbers → at ≡ 2 * i
+    → at + 2 ≤ length bs → k ≡ 2
+    → take at bs ++ (to_le_bytes w16 (get_or numbers i 0) ++ drop k (drop at bs)) ≡ sets before 0 (numbers_bytes (take (i + 1) numbers))
+numbers-copied before bs numbers i at k done more here room e =
+    let n = get_or numbers i 0 in
+    let l : length (numbers_bytes (take i numbers)) ≡ at = numbers-bytes-length (take i numbers) ∙ omega (arith, length-take-le i numbers (omega (arith, more)), here) in
+    let end : 0 + length (numbers_bytes (take i numbers)) ≡ at = omega (arith, l) in
+    let next : numbers_bytes (take (i + 1) numbers) ≡ numbers_bytes (take i numbers) ++ bytes 2 n =
+    rw (add-one i, take-suc numbers i 0 more, numbers-bytes-append (take i numbers) (n ∷ []), one_number n) in
+    number-copied bs at k n room e
     ∙ ap (λ (x : List ℕ). sets x at (bytes 2 n)) done
     ∙ sym (ap (sets before 0) next ∙ sets-append before 0 (numbers_bytes (take i numbers)) (bytes 2 n)
     ∙ ap (λ (m : ℕ). sets (sets before 0 (numbers_bytes (take i numbers))) m (bytes 2 n)) end)

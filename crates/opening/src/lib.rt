@@ -8,7 +8,7 @@ ghost use Rattle.state_spec.specs.Opening.{empty, opened};
 use bucket_writer::write_bucket;
 use fitness::{LARGEST_SIZE, LARGEST_STRUCTURE, in_range};
 use slot_fields::no_link;
-use slot_spec::{Ahead, BUCKET_LENGTH, Slot};
+use slot_spec::{Ahead, BUCKET_LENGTH};
 use state_places::no_place;
 use state_spec::State;
 use tree_paths::tree_length;
@@ -38,16 +38,10 @@ pub fn clear(tree: &mut [u8])
     requires { (length tree.old < 2 ^ 32) × (length tree.old % bucket_length ≡ 0) }
     ensures { tree.new ≡ replicate (length tree.old) 0 }
 {
-    let none = [Slot {
-        a: 0,
-        b: 0,
-        c: 0,
-        d: 0,
-    }; 4];
     let mut a = 0;
     while a < tree.len() {
         let e = a + BUCKET_LENGTH;
-        write_bucket(&mut tree[a..e], none, 0);
+        write_bucket(&mut tree[a..e], &[]);
         a = e;
     }
 }

@@ -22,11 +22,8 @@ struct Sums {
 fn join_test(sum: u64, size: usize, leaf: usize, bucket: usize) -> u64
     requires { (size ≤ 16) × (leaf < 2 ^ size) }
 {
-    let mut n = (bucket as u64) << 1;
-    if passes_bucket(size, leaf, bucket) {
-        n = n | 1;
-    }
-    join(sum, n)
+    let passes = u64::from(passes_bucket(size, leaf, bucket));
+    join(sum, (bucket as u64) << 1 | passes)
 }
 
 // The path's bucket at a level joins, and the tests of it, of the bucket beside it and of the two below it.
@@ -47,10 +44,8 @@ fn join_path(sums: Sums, size: usize, leaf: usize) -> Sums
     requires { (size ≤ 16) × (leaf < 2 ^ size) }
 {
     let mut joined = sums;
-    let mut level = 0;
-    while level <= size {
+    for level in 0..=size {
         joined = join_level(joined, size, leaf, level);
-        level += 1;
     }
     joined
 }
@@ -62,11 +57,8 @@ fn sums_of(size: usize) -> Sums
         numbers: 1,
         tests: 1,
     };
-    let count = leaves(size);
-    let mut leaf = 0;
-    while leaf < count {
+    for leaf in 0..leaves(size) {
         sums = join_path(sums, size, leaf);
-        leaf += 1;
     }
     sums
 }
@@ -84,9 +76,7 @@ fn print_sums(size: usize, sums: Sums) {
 }
 
 fn main() {
-    let mut size = 1;
-    while size <= LARGEST_SIZE {
+    for size in 1..=LARGEST_SIZE {
         print_sums(size, sums_of(size));
-        size += 1;
     }
 }

@@ -1,30 +1,32 @@
-// What a call replies.
+// What a call that made its rounds replies.
 #![tactic(auto)]
 
 ghost use Rattle.std.specs.Prelude.{◌≡◌};
 ghost use Rattle.operation_spec.specs.Method.{to_step_answer};
-ghost use Rattle.call_spec.specs.Store.{reply_of};
-ghost use Rattle.replies.specs.Answered.{answered};
+ghost use Rattle.call_spec.specs.Reply.{to_reply};
+ghost use Rattle.replies.specs.Answered.{answered, mark_of, IsMark};
 
-use call_spec::Reply;
+use call_spec::Refusal;
 use operation_spec::{Answer, Full};
 
-// The paper's answer, or for a full store its number.
-fn reply_of(answer: Result<Answer, Full>) -> Reply
-    ensures { result ≡ reply_of (to_step_answer answer) }
+// The cause for which a round closed the store with that mark, if it did: 8 damage, 9 overflow.
+pub fn cause_of(mark: u8) -> Option<Refusal>
+    ensures { IsMark mark → mark_of result ≡ mark }
 {
-    match answer {
-        Ok(told) => Reply::Answered(told),
-        Err(Full) => Reply::Refused(10),
+    match mark {
+        0 => None,
+        8 => Some(Refusal::Damage),
+        _ => Some(Refusal::Overflow),
     }
 }
 
-// The answer, unless a put round closed the store.
-pub fn reply_after(mark: u8, answer: Result<Answer, Full>) -> Reply
-    ensures { result ≡ answered mark (to_step_answer answer) }
+// The paper's answer, or for a full store a refusal, unless a put round closed the store for a cause.
+#[tactic(auto, using(crate::specs::AnsweredLaws::answer_replied, crate::specs::AnsweredLaws::cause_told), unfolding(call_spec::specs::Store::reply_of))]
+pub fn reply_after(cause: Option<Refusal>, answer: Result<Answer, Full>) -> Result<Answer, Refusal>
+    ensures { to_reply result ≡ answered (mark_of cause) (to_step_answer answer) }
 {
-    if mark != 0 {
-        return Reply::Refused(mark);
+    if let Some(met) = cause {
+        return Err(met);
     }
-    reply_of(answer)
+    answer.map_err(|_| Refusal::Full)
 }

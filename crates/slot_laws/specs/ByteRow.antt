@@ -59,7 +59,7 @@ bytes-of-slot bs b sized =
 
 -- ---- a place of the row
 -- Stores behind the first m elements leave these.
-sets_behind : {A : Type 0} (m i : ℕ) (l vs : List A) → m ≤ length l → m + i + length vs ≤ length l → sets l (m + i) vs ≡ take m l ++ sets (drop m l) i vs
+pub sets_behind : {A : Type 0} (m i : ℕ) (l vs : List A) → m ≤ length l → m + i + length vs ≤ length l → sets l (m + i) vs ≡ take m l ++ sets (drop m l) i vs
 sets_behind {A} m i l vs h long =
     let n = length-drop m l in
     let rest : drop (m + i + length vs) l ≡ drop (i + length vs) (drop m l) = ap (λ (j : ℕ). drop j l) (add_assoc m i (length vs)) ∙ sym (drop-drop (i + length vs) m l) in

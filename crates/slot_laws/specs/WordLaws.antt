@@ -1,8 +1,7 @@
 -- Eight bytes of a list as one number, and their stores: what code over words reads and leaves.
-use Rattle.std.specs.Prelude.{◌≡◌, ℕ, suc, ◌+◌, ◌/◌, ◌≤◌, ◌<◌, List, [], ◌∷◌, ◌++◌, length, get_or, take, drop, set}
-use Rattle.std.proofs.Common.{sym, ◌∙◌, ap, add_assoc, add-zero, add-suc, suc-add, arith, length-take, length-drop, drop-cons, take-add, drop-drop, append_assoc}
+use Rattle.std.specs.Prelude.{◌≡◌, ℕ, suc, ◌+◌, ◌*◌, ◌/◌, ◌%◌, ◌≤◌, ◌<◌, List, [], ◌∷◌, ◌++◌, length, get_or, take, drop, set}
+use Rattle.std.proofs.Common.{sym, ◌∙◌, ap, add_assoc, add-zero, add-suc, suc-add, arith, length-take, length-drop, drop-cons, take-add, drop-drop, append_assoc, take_all}
 use Rattle.std.specs.Int.{w64, from_le_bytes, to_le_bytes}
-use Rattle.std.proofs.lemmas.List.{drop_all}
 use Rattle.std.proofs.lemmas.List.Edits.{sets, sets-eq}
 use Rattle.slot_spec.specs.LittleEndian.{value, bytes, Bytes}
 use Rattle.slot_laws.specs.LittleEndianLaws.{length-bytes, bytes-value, bytes_take, bytes_drop}
@@ -12,24 +11,46 @@ use Rattle.slot_spec.specs.declared.Slot.{Slot}
 drop-next : (s : List ℕ) (i j : ℕ) → i < length s → suc i ≡ j → drop i s ≡ get_or s i 0 ∷ drop j s
 drop-next s i j h e = drop-cons s i 0 h ∙ rw e
 
+pub word_read : (s : List ℕ) (at : ℕ) → at + 8 ≤ length s
+    → get_or s at 0 + get_or s (at + 1) 0 * 256 + get_or s (at + 2) 0 * 65536 + get_or s (at + 3) 0 * 16777216 + get_or s (at + 4) 0 * 4294967296 + get_or s (at + 5) 0 * 1099511627776 + get_or s (at + 6) 0 * 281474976710656 + get_or s (at + 7) 0 * 72057594037927936
+    ≡ value (take 8 (drop at s))
+unfolding value
+word_read s at h =
+    rw (
+      drop-next s at (at + 1) (omega arith) (omega arith),
+      drop-next s (at + 1) (at + 2) (omega arith) (omega arith),
+      drop-next s (at + 2) (at + 3) (omega arith) (omega arith),
+      drop-next s (at + 3) (at + 4) (omega arith) (omega arith),
+      drop-next s (at + 4) (at + 5) (omega arith) (omega arith),
+      drop-next s (at + 5) (at + 6) (omega arith) (omega arith),
+      drop-next s (at + 6) (at + 7) (omega arith) (omega arith),
+      drop-next s (at + 7) (at + 8) (omega arith) (omega arith),
+    )
+    (omega arith)
+
+pub word-stored : (s : List ℕ) (at v : ℕ)
+    → set (set (set (set (set (set (set (set s at (v % 256)) (at + 1) (v / 256 % 256)) (at + 2) (v / 65536 % 256)) (at + 3) (v / 16777216 % 256)) (at + 4) (v / 4294967296 % 256)) (at + 5) (v / 1099511627776 % 256)) (at + 6) (v / 281474976710656 % 256)) (at + 7) (v / 72057594037927936 % 256)
+    ≡ sets s at (bytes 8 v)
+unfolding bytes
+word-stored s at v =
+    let e1 : at + 1 ≡ suc at = omega arith in
+    let e2 : at + 2 ≡ suc (suc at) = omega arith in
+    let e3 : at + 3 ≡ suc (suc (suc at)) = omega arith in
+    let e4 : at + 4 ≡ suc (suc (suc (suc at))) = omega arith in
+    let e5 : at + 5 ≡ suc (suc (suc (suc (suc at)))) = omega arith in
+    let e6 : at + 6 ≡ suc (suc (suc (suc (suc (suc at))))) = omega arith in
+    let e7 : at + 7 ≡ suc (suc (suc (suc (suc (suc (suc at)))))) = omega arith in
+    let d2 : v / 65536 ≡ v / 256 / 256 = omega arith in
+    let d3 : v / 16777216 ≡ v / 256 / 256 / 256 = omega arith in
+    let d4 : v / 4294967296 ≡ v / 256 / 256 / 256 / 256 = omega arith in
+    let d5 : v / 1099511627776 ≡ v / 256 / 256 / 256 / 256 / 256 = omega arith in
+    let d6 : v / 281474976710656 ≡ v / 256 / 256 / 256 / 256 / 256 / 256 = omega arith in
+    let d7 : v / 72057594037927936 ≡ v / 256 / 256 / 256 / 256 / 256 / 256 / 256 = omega arith in
+    rw (e1, e2, e3, e4, e5, e6, e7, d2, d3, d4, d5, d6, d7)
+
 -- Eight bytes, and the eight bytes of a number, in std's words.
 pub value-le : (bs : List ℕ) → length bs ≡ 8 → from_le_bytes w64 bs ≡ value bs
-unfolding value
-value-le bs e =
-    let last : drop 8 bs ≡ [] = drop_all 8 bs (omega arith) in
-    let eight : bs ≡ get_or bs 0 0 ∷ get_or bs 1 0 ∷ get_or bs 2 0 ∷ get_or bs 3 0 ∷ get_or bs 4 0 ∷ get_or bs 5 0 ∷ get_or bs 6 0 ∷ get_or bs 7 0 ∷ [] =
-    drop-next bs 0 1 (omega arith) (omega arith)
-    ∙ rw (
-      drop-next bs 1 2 (omega arith) (omega arith),
-      drop-next bs 2 3 (omega arith) (omega arith),
-      drop-next bs 3 4 (omega arith) (omega arith),
-      drop-next bs 4 5 (omega arith) (omega arith),
-      drop-next bs 5 6 (omega arith) (omega arith),
-      drop-next bs 6 7 (omega arith) (omega arith),
-      drop-next bs 7 8 (omega arith) (omega arith),
-      last,
-    ) in
-    let sum = ap value eight in omega (arith, sum)
+value-le bs e = word_read bs 0 (omega arith) ∙ ap value (take_all 8 bs (omega arith))
 
 pub bytes-le : (n : ℕ) → to_le_bytes w64 n ≡ bytes 8 n
 unfolding bytes
@@ -43,8 +64,8 @@ bytes-le n =
     rw (d2, d3, d4, d5, d6, d7)
 
 -- The word at a byte.
-pub word_read : (s : List ℕ) (at k : ℕ) → at + 8 ≤ length s → k ≡ 8 → from_le_bytes w64 (take k (drop at s)) ≡ value (take 8 (drop at s))
-word_read s at k h e = rw e (value-le (take 8 (drop at s)) (simp (length-take, length-drop) (omega arith)))
+pub word-le : (s : List ℕ) (at k : ℕ) → at + 8 ≤ length s → k ≡ 8 → from_le_bytes w64 (take k (drop at s)) ≡ value (take 8 (drop at s))
+word-le s at k h e = rw e (value-le (take 8 (drop at s)) (simp (length-take, length-drop) (omega arith)))
 
 -- Numbers that are copied into the place from there on, and a word.
 pub copied-sets : (s : List ℕ) (at k : ℕ) (vs : List ℕ) → at + k ≤ length s → k ≡ length vs → take at s ++ (vs ++ drop k (drop at s)) ≡ sets s at vs
@@ -52,9 +73,9 @@ copied-sets s at k vs h e =
     rw drop-drop
     (sym (sets-eq vs s at (omega (arith, e)) ∙ append_assoc (take at s) vs (drop (at + length vs) s) ∙ ap (λ (n : ℕ). take at s ++ (vs ++ drop (at + n) s)) (sym e)))
 
-pub word-put : (s : List ℕ) (at k v : ℕ) → at + 8 ≤ length s → k ≡ 8
+pub word-copied : (s : List ℕ) (at k v : ℕ) → at + 8 ≤ length s → k ≡ 8
     → take at s ++ (to_le_bytes w64 v ++ drop k (drop at s)) ≡ sets s at (bytes 8 v)
-word-put s at k v h e = copied-sets s at k (to_le_bytes w64 v) (omega arith) e ∙ ap (sets s at) (bytes-le v)
+word-copied s at k v h e = copied-sets s at k (to_le_bytes w64 v) (omega arith) e ∙ ap (sets s at) (bytes-le v)
 
 pub sets-append : (s : List ℕ) (at : ℕ) (xs ys : List ℕ) → sets s at (xs ++ ys) ≡ sets (sets s at xs) (at + length xs) ys
 sets-append s at [] ys = rw add-zero

@@ -1,7 +1,6 @@
 // Writes a node to a slot of a small tree, prints the slot's bytes, and reads the node back.
 #![tactic(auto)]
 
-use slot_fields::no_link;
 use slot_spec::{Node, Reading};
 
 // The descriptor of the standard output.
@@ -15,13 +14,11 @@ fn line(label: &[u8], n: u64) {
 }
 
 fn print_slot(slot: &[u8]) {
-    let mut i = 0;
-    while i < slot.len() {
+    for (i, byte) in slot.iter().enumerate() {
         if i > 0 {
             io::write_all(STDOUT_FILENO, b" ");
         }
-        io::print_decimal(STDOUT_FILENO, slot[i] as u64);
-        i += 1;
+        io::print_decimal(STDOUT_FILENO, u64::from(*byte));
     }
     io::write_all(STDOUT_FILENO, b"\n");
 }
@@ -29,9 +26,9 @@ fn print_slot(slot: &[u8]) {
 fn print_reading(r: Reading) {
     match r {
         Reading::Full(n) => {
-            line(b"key", n.key as u64);
+            line(b"key", u64::from(n.key));
             line(b"value", n.value);
-            line(b"tag", n.tag as u64);
+            line(b"tag", u64::from(n.tag));
         }
         Reading::Empty => {
             io::write_all(STDOUT_FILENO, b"empty\n");
@@ -44,13 +41,11 @@ fn print_reading(r: Reading) {
 
 // The node of document 01's worked push, in bucket 3 of a tree of size 2.
 fn main() {
-    let none = no_link();
     let node = Node {
         key: 1,
         value: 50,
         tag: 2,
-        left: none,
-        right: none,
+        ..Node::default()
     };
     let mut tree = [0u8; 896];
     bucket_writer::write_slot(&mut tree, 256, node);

@@ -10,7 +10,7 @@ use native.Mathlib.Omega.{arith}
 use Rattle.state_spec.specs.declared.State.{State}
 use Rattle.state_spec.specs.Fit.{places_fit, head_fits}
 use Rattle.fitness.specs.Refusal.{head_refusal}
-use Rattle.call_spec.specs.declared.Reply.TheVariants.{Refused}
+use Rattle.call_spec.specs.Reply.{Refused}
 use Rattle.call_spec.specs.Store.{called, call_ended_as}
 use Rattle.state_laws.specs.FitLaws.{head-true}
 use Rattle.stash.specs.Stash.{PlaceLoaded}

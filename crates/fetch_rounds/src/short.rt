@@ -7,6 +7,7 @@ use idle_rounds::idle::{draw_at, idle_rounds};
 use one_round::want_round;
 use path_slots::PATH_SLOTS;
 use short_steps::{short_test, short_wanted};
+use slot_spec::Node;
 use want_rounds::{FetchedOne, Job, came_to};
 
 // If it wants a node it reveals the tag in the root link, and the node is held from then on under the round's draw; else it reveals its
@@ -28,7 +29,7 @@ pub fn short_fetch(
         let r = idle_rounds(w, n, tree, job.size, &[], tape, 0, 1, trace, 0, from);
         return FetchedOne {
             fetched: came_to(0, r.waiting, r.fault, r.shown, r.peak),
-            node: None,
+            node: Node::default(),
         };
     };
     trace[0] = want.link.tag;
@@ -37,12 +38,12 @@ pub fn short_fetch(
     let Some(mut node) = r.node else {
         return FetchedOne {
             fetched: came_to(0, r.waiting, r.fault, 1, r.count),
-            node: None,
+            node: Node::default(),
         };
     };
     node.tag = draw_at(tape, 0, job.size) as u16;
     FetchedOne {
         fetched: came_to(1, r.waiting, r.fault, 1, r.count),
-        node: Some(node),
+        node,
     }
 }

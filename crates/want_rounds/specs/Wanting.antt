@@ -1,7 +1,7 @@
 -- The fetch rounds of a call in code: what they need, and what they came to.
-use Rattle.std.specs.Prelude.{◌≡◌, false, List, [], ◌∷◌, map, ℕ, max, ◌+◌, ◌-◌, ◌*◌, ◌≤◌, eqb, length, take, drop, Option, Some, None}
+use Rattle.std.specs.Prelude.{◌≡◌, false, List, [], ◌∷◌, map, ℕ, max, ◌+◌, ◌-◌, ◌*◌, ◌≤◌, eqb, length, take, drop}
 use Rattle.std.proofs.Math.Option.{none}
-use Rattle.slot_spec.specs.declared.Node as node
+use Rattle.list_spec.specs.Choice.{pick}
 use Rattle.method_spec.specs.Node.{Node}
 use Rattle.method_spec.specs.Prog.{root, Prog, after}
 use Rattle.method_spec.specs.Answer.{Structure}
@@ -35,12 +35,8 @@ use Rattle.idle_rounds.specs.Idle.{keys_held}
 abbrev pub held_by : Held → List ℕ → List fetch.Held
 held_by h froms = held_of (froms_in h.count froms) (nodes_of h)
 
-abbrev pub held_if : Option node.Node → List fetch.Held
-held_if None = []
-held_if (Some n) = record { from = root; node = to_node n } ∷ []
-
 abbrev pub held_one : FetchedOne → List fetch.Held
-held_one f = held_if f.node
+held_one f = pick (eqb f.fetched.count 0) [] (record { from = root; node = to_node f.node } ∷ [])
 
 abbrev pub nodes_held : List fetch.Held → List (Node ℕ)
 nodes_held hs = map (λ (h : fetch.Held). h.node) hs

@@ -43,11 +43,12 @@ pub struct Fetched {
     pub peak: usize,
 }
 
-// What the one fetch round of a stack or a queue came to, and the node that is held under the round's draw, if one is.
+// What the one fetch round of a stack or a queue came to, and the node that is held under the round's draw, if one is. No Option says so
+// again: the count is 1 then, and what ends the call asks no more than the count.
 #[derive(Clone, Copy)]
 pub struct FetchedOne {
     pub fetched: Fetched,
-    pub node: Option<Node>,
+    pub node: Node,
 }
 
 pub fn came_to(count: usize, waiting: usize, fault: Option<Fault>, leaves: usize, peak: usize) -> Fetched

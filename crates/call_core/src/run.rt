@@ -66,9 +66,7 @@ pub fn run(
     if let Some(cause) = cause_of(f.fault) {
         return shut(job, f, cause, w, &mut held, &froms);
     }
-    finish(
-        job, f, w, tree, &held, &mut made, tape, trace, &mut from,
-    )
+    finish(job, f, w, tree, &held, &mut made, tape, trace, &mut from)
 }
 
 // The rounds and the step of a stack or a queue: its one node is held by value.

@@ -109,7 +109,14 @@ fn step_of(job: Job, held: &[u64; ROW], count: usize, made: &mut [u64; ROW]) -> 
     ensures { (to_outcome result (nodes_of (held_in made.new result.made)) ≡ outcome_of job (nodes_of (held_in held.now count))) × ((result.made ≤ places) × (length made.new ≡ rowWords)) }
 {
     step(
-        job.op, job.limit, job.entries, job.root, job.spares, held, count, made,
+        job.op,
+        job.limit,
+        job.entries,
+        job.root,
+        job.spares,
+        held,
+        count,
+        made,
     )
 }
 

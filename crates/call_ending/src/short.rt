@@ -69,9 +69,7 @@ pub fn finish_short(
     ensures { FinishedAs job (draw_of job.size tape.now) r.fetched.peak (outcome_of job (nodes_held (held_one r))) (stepped_by job (nodes_held (held_one r)) r.fetched w.old tree.old trace.old) trace.old w.new tree.new trace.new result }
 {
     let f = r.fetched;
-    let o = short_step(
-        job.op, job.limit, job.entries, job.root, job.spares, r.node,
-    );
+    let o = short_step(job.op, job.limit, job.entries, job.root, job.spares, r.node);
     let m = join_made(w, f.waiting, o);
     let puts = put_rounds(
         w, m, tree, job.size, job.rounds, job.puts, tape, trace, from,

@@ -35,6 +35,16 @@ pub fn put_rounds(
         };
     }
     idle_rounds(
-        w, n, tree, size, &[], tape, first, rounds, trace, rounds, from,
+        w,
+        n,
+        tree,
+        size,
+        &[],
+        tape,
+        first,
+        rounds,
+        trace,
+        rounds,
+        from,
     )
 }

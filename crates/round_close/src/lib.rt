@@ -31,7 +31,11 @@ pub fn fault_at_close(waiting: usize, held: usize) -> Option<Fault>
     requires { waiting + held < 2 ^ 64 }
     ensures { result ≡ overflow_if (exceeds_limit waiting held) }
 {
-    if LIMIT < waiting + held { Some(Fault::Overflow) } else { None }
+    if LIMIT < waiting + held {
+        Some(Fault::Overflow)
+    } else {
+        None
+    }
 }
 
 // A round's close: how many nodes wait and are held then, and the fault if those are too many.

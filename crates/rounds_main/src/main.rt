@@ -148,13 +148,7 @@ fn stopped(n: usize) -> Closed
 }
 
 // One step of the script; after an overflow the next one cannot be made.
-fn make(
-    step: Step,
-    w: &mut [u8],
-    n: usize,
-    tree: &mut [u8],
-    from: &mut [u32; PATH_SLOTS],
-) -> Closed
+fn make(step: Step, w: &mut [u8], n: usize, tree: &mut [u8], from: &mut [u32; PATH_SLOTS]) -> Closed
     requires { Resting 2 n w.old tree.old }
     ensures { Rests 2 w.new tree.new result }
 {

@@ -51,7 +51,13 @@ pub struct FetchedOne {
     pub node: Node,
 }
 
-pub fn came_to(count: usize, waiting: usize, fault: Option<Fault>, leaves: usize, peak: usize) -> Fetched
+pub fn came_to(
+    count: usize,
+    waiting: usize,
+    fault: Option<Fault>,
+    leaves: usize,
+    peak: usize,
+) -> Fetched
     ensures { result ≡ record { count = count; waiting = waiting; fault = fault; leaves = leaves; peak = peak } }
 {
     Fetched {
@@ -86,7 +92,14 @@ pub fn want_rounds(
     let mut peak = 0;
     for i in 0..job.rounds {
         let next = wanted(
-            job.op, job.limit, job.entries, job.root, job.spares, held, i, made,
+            job.op,
+            job.limit,
+            job.entries,
+            job.root,
+            job.spares,
+            held,
+            i,
+            made,
         );
         let Some(want) = next else {
             return came_to(i, waiting, None, i, peak);

@@ -37,8 +37,7 @@ idle_rounds-r-requires c =
     let no-mark : mark_of f.fault ≡ 0 = no-fault f.fault (sym c.is_some.ensures ∙ c.if-is_some.false) in
     let inv : Walked job draw c.args.n c.args.w.now c.args.tree.now c.args.trace.now (held_by (held_in new.held f.count) new.froms) f.waiting f.peak new.w new.tree new.trace × InRows (held_in new.held f.count) new.froms new.keys =
     c.want_rounds-f.ensures.goes no-mark in
-    let upto : f.count ≤ job.rounds = omega (arith, inv.0.upto, inv.1.counted) in
-    (
+    let upto : f.count ≤ job.rounds = omega (arith, inv.0.upto, inv.1.counted) in (
       rows-between job draw is_leaf c.requires.begins c.args.trace.now inv.0 inv.1,
       (omega (arith, upto, c.requires.long.0), omega (arith, upto, inv.0.trace-sized, c.requires.long.1)),
     )

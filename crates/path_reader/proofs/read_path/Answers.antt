@@ -41,10 +41,12 @@ undo-requires c =
     let l = c.loop-i in
     let p = c.requires in
     let g = c.gather_path-full in
-    let h = first-within a.size a.held.now a.tree.now g.new.from a.n a.s.now l.s l.i l.count l.invariant in
-    (search rules, were-joined a.size a.held.now (take a.n (slots_in a.s.now)) a.tree.now (take l.i g.new.from) l.count c.join_reading.new.s
-    (first-joined a.size a.leaf a.tree.now p.is_leaf p.tree-sized g.new.from g.result g.ensures a.held.now a.n a.s.now l.s c.join_reading.new.s l.i l.count
-    (omega (arith, c.loop-i-test.true)) (omega (arith, h, g.ensures.fewer, p.room, c.loop-i-test.true)) l.invariant c.in_default.ensures.same))
+    let h = first-within a.size a.held.now a.tree.now g.new.from a.n a.s.now l.s l.i l.count l.invariant in (
+      search rules,
+      were-joined a.size a.held.now (take a.n (slots_in a.s.now)) a.tree.now (take l.i g.new.from) l.count c.join_reading.new.s
+          (first-joined a.size a.leaf a.tree.now p.is_leaf p.tree-sized g.new.from g.result g.ensures a.held.now a.n a.s.now l.s c.join_reading.new.s l.i l.count
+          (omega (arith, c.loop-i-test.true)) (omega (arith, h, g.ensures.fewer, p.room, c.loop-i-test.true)) l.invariant c.in_default.ensures.same),
+    )
 
 pub returns-in_default : goal.returns-in_default
 returns-in_default c =

@@ -54,7 +54,7 @@ ending-on : (structure size : ℕ) (trace trace' : List ℕ) (l : CallLeft) (pea
 ending-on structure size trace trace' l peak e = rw e
 
 -- ---- the cause for which a round closed the store
-number-some : (r : Refusal) → number_of r ≡ 0 → ⊥
+pub number-some : (r : Refusal) → number_of r ≡ 0 → ⊥
 number-some Closed e = omega (arith, e)
 number-some Unfit e = omega (arith, e)
 number-some TreeLength e = omega (arith, e)

@@ -25,12 +25,12 @@ const STDERR_FILENO: i32 = 2;
 // The input is read in blocks.
 const BLOCK: usize = 65536;
 
-// The calls of a block: the state that they leave, the checksum so far, and how many bytes they have.
+// The calls of a block: the state that they leave, the checksum so far, and how many bytes follow them, of a call that is not whole.
 #[derive(Clone, Copy)]
 struct Made {
     state: State,
     sum: u64,
-    bytes: usize,
+    left: usize,
 }
 
 fn join_answer(sum: u64, answer: Answer) -> u64 {
@@ -58,39 +58,28 @@ fn join_reply(sum: u64, reply: Result<Answer, Refusal>) -> u64 {
     }
 }
 
-fn wide(x: u16) -> u64 {
-    x as u64
-}
-
 // The first n numbers of a trace buffer, one after the other.
 fn join_leaves(sum: u64, trace: &[u16], n: usize) -> u64 {
-    let mut joined = sum;
-    let mut i = 0;
-    while i < n {
-        if trace.len() <= i {
-            return joined;
-        }
-        joined = join(joined, wide(trace[i]));
-        i += 1;
-    }
-    joined
+    trace
+        .iter()
+        .take(n)
+        .fold(sum, |joined, leaf| join(joined, u64::from(*leaf)))
 }
 
-// Makes the calls that stand whole in the first `held` bytes of a block, one after the other. What a call
-// leaves holds the state for the next one, so that it is not copied between them.
+// Makes the calls that stand whole at a block's start, one after the other. What a call leaves holds the state for the next one, so
+// that it is not copied between them.
 fn make_calls(
     opened: State,
     before: u64,
     tree: &mut [u8],
     block: &[u8],
-    held: usize,
     tape: &mut [u16],
     trace: &mut [u16],
 ) -> Made
-    requires { held ≤ length block.now }
-    ensures { result.bytes ≤ held }
+    ensures { result.left ≤ length block.now }
 {
-    let wanted = TICKET_LENGTH + 2 * tape.len();
+    let calls = block.chunks_exact(TICKET_LENGTH + 2 * tape.len());
+    let left = calls.remainder().len();
     let mut made = Called {
         state: opened,
         // No call yet: only the state is read.
@@ -99,22 +88,16 @@ fn make_calls(
         peak: 0,
     };
     let mut sum = before;
-    let mut at = 0;
-    while wanted <= held - at {
-        let end = at + wanted;
-        read_tape(&block[at..end], tape);
-        let ticket = at + TICKET_LENGTH;
-        made = call::call(made.state, tree, &block[at..ticket], tape, trace);
-        let reply = made.reply;
-        let revealed = join_leaves(join_reply(sum, reply), trace, made.leaves);
+    for bytes in calls {
+        read_tape(bytes, tape);
+        made = call::call(made.state, tree, &bytes[..TICKET_LENGTH], tape, trace);
+        let revealed = join_leaves(join_reply(sum, made.reply), trace, made.leaves);
         sum = join(revealed, made.peak as u64);
-        at = end;
     }
-    let state = made.state;
     Made {
-        state,
+        state: made.state,
         sum,
-        bytes: at,
+        left,
     }
 }
 
@@ -126,48 +109,31 @@ fn refill(block: &mut [u8], held: usize) -> usize
     held + io::read_full(STDIN_FILENO, &mut block[held..])
 }
 
-// The bytes of a block from `from` up to `to` move to its start; how many they are.
-fn move_down(block: &mut [u8], from: usize, to: usize) -> usize
-    requires { (from ≤ to) × (to ≤ length block.old) }
-    ensures { result ≤ length block.new }
-{
-    let count = to - from;
-    let mut i = 0;
-    while i < count {
-        block[i] = block[from + i];
-        i += 1;
-    }
-    count
-}
-
 // What is printed at the input's end, where so many bytes are left that are no whole call.
 fn print_end(left: usize, sum: u64) {
     if left != 0 {
         io::write_all(STDERR_FILENO, b"the input ends within a call\n");
-        return;
+    } else {
+        io::print_decimal(STDOUT_FILENO, sum);
+        io::write_all(STDOUT_FILENO, b"\n");
     }
-    io::print_decimal(STDOUT_FILENO, sum);
-    io::write_all(STDOUT_FILENO, b"\n");
 }
 
-// Block by block up to the input's end. A proved loop has to end, and nothing says that an input does: the loop counts its
-// turns down from a number that no run uses up.
+// Block by block up to the input's end. A proved loop has to end, and nothing says that an input does: no run uses up the turns.
 fn run(opened: State, tree: &mut [u8], block: &mut [u8], tape: &mut [u16], trace: &mut [u16]) {
     let mut state = opened;
     let mut sum = 1;
     let mut held = 0;
-    let mut turns = u64::MAX;
-    while turns > 0 {
+    for _ in 0..u64::MAX {
         let filled = refill(block, held);
         if filled == held {
-            print_end(held, sum);
-            return;
+            return print_end(held, sum);
         }
-        let made = make_calls(state, sum, tree, block, filled, tape, trace);
+        let made = make_calls(state, sum, tree, &block[..filled], tape, trace);
         state = made.state;
         sum = made.sum;
-        held = move_down(block, made.bytes, filled);
-        turns -= 1;
+        held = made.left;
+        block.copy_within(filled - held..filled, 0);
     }
 }
 
@@ -198,19 +164,15 @@ fn print_bad_opening() {
 
 fn main() {
     let mut head = [0u8; HEAD_LENGTH];
-    let got = io::read_full(STDIN_FILENO, &mut head);
-    if got < HEAD_LENGTH {
-        print_bad_opening();
-        return;
+    if io::read_full(STDIN_FILENO, &mut head) < HEAD_LENGTH {
+        return print_bad_opening();
     }
-    let size = head[1];
+    let [structure, size] = head;
     let mut space = [0u8; LARGEST_TREE];
-    let length = tree_lent(size);
-    let tree: &mut [u8] = &mut space[..length];
-    let opened = open(head[0], size, tree);
+    let tree: &mut [u8] = &mut space[..tree_lent(size)];
+    let opened = open(structure, size, tree);
     if opened.mark != 0 {
-        print_bad_opening();
-        return;
+        return print_bad_opening();
     }
     run_opened(opened, tree);
 }

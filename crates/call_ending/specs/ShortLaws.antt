@@ -1,11 +1,10 @@
 -- The end of a call whose one node is held by value.
-use Rattle.std.specs.Prelude.{◌≡◌, Err, Bool, true, false, ℕ, ◌+◌, ◌<◌, length, take, drop}
+use Rattle.std.specs.Prelude.{◌≡◌, Err, true, false, ℕ, ◌+◌, ◌<◌, length, take, drop, Option, Some, None, option_to_list}
 use Rattle.std.proofs.Math.Path.{refl}
 use Rattle.std.proofs.Common.{sym, ◌∙◌, ap, arith, eq-eqb, ne_eqb}
 use mathlib.Core.List.{List, [], ◌∷◌, map}
 use Rattle.std.proofs.Math.Option.{none}
 use Rattle.std.proofs.Math.Decide.{ℕ_discrete}
-use Rattle.list_spec.specs.Choice.{pick}
 use Rattle.method_spec.specs.Node.{Node}
 use Rattle.method_spec.specs.Prog.{root, done, after}
 use Rattle.round_spec.specs.Round.{insert, join}
@@ -40,13 +39,13 @@ node-joined n x {row} {row'} h room ranged sized put rest =
     joined-more n 0 n (x ∷ []) x row row row' (joined-none n (x ∷ []) row h) (omega arith) room ranged sized put rest
 
 -- The nodes that joined are those of the step.
-pub made-joined : (n : ℕ) (o : OneMade) {row row' : List ℕ} {m : ℕ} → NodesJoined n (o.node ∷ []) (pick o.made 1 0) row row' m
+pub made-joined : (n : ℕ) (o : OneMade) {row row' : List ℕ} {m : ℕ} → NodesJoined n (option_to_list o.node) (length (option_to_list o.node)) row row' m
     → waiting_in m row' ≡ join leaf_format (to_one_outcome o).nodes (waiting_in n row)
-made-joined n o {row} j = j.waiting ∙ ap (λ (ns : List (Node ℕ)). join leaf_format ns (waiting_in n row)) (go o.made)
+made-joined n o {row} j = j.waiting ∙ ap (λ (ns : List (Node ℕ)). join leaf_format ns (waiting_in n row)) (go o.node)
   where
-    go : (b : Bool) → map to_node (take (pick b 1 0) (o.node ∷ [])) ≡ pick b (to_node o.node ∷ []) []
-    go true = refl
-    go false = refl
+    go : (x : Option node.Node) → map to_node (take (length (option_to_list x)) (option_to_list x)) ≡ map to_node (option_to_list x)
+    go None = refl
+    go (Some x) = refl
 
 -- ---- the node, if it is held
 module _ (r : FetchedOne) where

@@ -1,7 +1,6 @@
 // The end of a call of a stack or a queue, whose one node is held by value.
-ghost use Rattle.std.specs.Prelude.{◌≡◌, true, [], ◌∷◌, ◌<◌};
+ghost use Rattle.std.specs.Prelude.{◌≡◌, true, [], ◌∷◌, ◌<◌, length, option_to_list};
 ghost use Rattle.std.proofs.Math.Option.{none};
-ghost use Rattle.list_spec.specs.Choice.{pick};
 ghost use Rattle.method_spec.specs.Prog.{after};
 ghost use Rattle.bucket_call_spec.specs.Call.{draw_of};
 ghost use Rattle.operation_spec.specs.Method.{structure_asked, wanted_in};
@@ -35,9 +34,12 @@ fn join_node(w: &mut [u8], n: usize, node: Node) -> usize
 // The node that a step made, if it made one, joins the first n.
 fn join_made(w: &mut [u8], n: usize, o: OneMade) -> usize
     requires { Holds n w.old × (n < places) }
-    ensures { NodesJoined n (o.node ∷ []) (pick o.made 1 0) w.old w.new result }
+    ensures { NodesJoined n (option_to_list o.node) (length (option_to_list o.node)) w.old w.new result }
 {
-    if o.made { join_node(w, n, o.node) } else { n }
+    match o.node {
+        None => n,
+        Some(node) => join_node(w, n, node),
+    }
 }
 
 // The fetch round closed the store for that cause: the node, if it is held, joins those waiting, and the root link has its new tag.

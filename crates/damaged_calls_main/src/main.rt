@@ -3,146 +3,80 @@
 // modulo 256. Prints the walk program's line for each call, and then that of the program `peaks`.
 #![tactic(auto)]
 
-ghost use Rattle.std.specs.Prelude.{◌≡◌, ◌≤◌, ◌<◌, length};
-ghost use Rattle.state_spec.specs.Fit.{largest_size};
+ghost use Rattle.std.specs.Prelude.{◌≤◌, length};
 ghost use Rattle.walk_spec.specs.Input.{record_length};
 
 use call_draws::MOST_LEAVES;
 use input_calls::{call_in, read_record};
-use input_opening::{open_input, print_short};
+use input_opening::{Store, open_input, print, print_short, whole};
 use peak_lines::peak_line;
-use round_close::greater;
-use state_spec::State;
 use text_writer::LONGEST_LINE;
-use walk_input::{LARGEST_TREE, LONGEST_RECORD, tree_lent};
+use walk_input::{LARGEST_TREE, LONGEST_RECORD, read_part, tree_lent};
 use walk_lines::line;
-use walk_spec::Arrived;
-
-// The descriptors of the standard input and output.
-const STDIN_FILENO: i32 = 0;
-
-const STDOUT_FILENO: i32 = 1;
 
 // The bytes of a place and an amount.
 const DAMAGE_LENGTH: usize = 5;
 
-fn wide(x: u8) -> usize
-    ensures { result < 256 }
-{
-    x as usize
-}
-
-// The place that the first four bytes say.
-fn place_in(bytes: &[u8; DAMAGE_LENGTH]) -> usize {
-    let low = wide(bytes[0]) + 256 * wide(bytes[1]);
-    let high = wide(bytes[2]) + 256 * wide(bytes[3]);
-    low + 65536 * high
-}
-
-// A byte of the tree grows by an amount.
-fn damage(tree: &mut [u8], bytes: &[u8; DAMAGE_LENGTH]) {
-    let length = tree.len();
-    if length == 0 {
+// A byte of the tree grows by an amount. The first four bytes say its place.
+fn damage(tree: &mut [u8], bytes: [u8; DAMAGE_LENGTH]) {
+    if tree.is_empty() {
         return;
     }
-    let at = place_in(bytes) % length;
-    tree[at] = ((wide(tree[at]) + wide(bytes[4])) % 256) as u8;
+    let [a, b, c, d, amount] = bytes;
+    let at = u32::from_le_bytes([a, b, c, d]) as usize % tree.len();
+    tree[at] = tree[at].wrapping_add(amount);
 }
 
-// The state after one more call of the input, the largest peak so far, and whether to read on.
-#[derive(Clone, Copy)]
-struct Read {
-    state: State,
-    largest: usize,
-    more: bool,
-}
-
-// Makes the call that stands in `input`, on a store of a size that stores have, and prints its lines.
-fn damaged_call(state: State, tree: &mut [u8], input: &[u8], before: usize) -> Read
-    requires { ((1 ≤ state.size) × (state.size ≤ largest_size)) × (record_length state.structure state.size ≤ length input.now) }
-    ensures { result.state.size ≡ state.size }
+// Makes the call that stands in `input` and prints its lines. The store that it leaves and the largest peak so far, if more is to
+// be read.
+fn damaged_call(
+    store: Store,
+    before: usize,
+    tree: &mut [u8],
+    input: &[u8],
+) -> Option<(Store, usize)>
+    requires { record_length store.state.structure store.state.size ≤ length input.now }
 {
     let mut trace = [0u16; MOST_LEAVES];
-    let made = call_in(state, tree, input, &mut trace);
-    let reply = made.reply;
-    let left = made.state;
-    let largest = greater(before, made.peak);
+    let made = call_in(store.state, tree, input, &mut trace);
+    let largest = before.max(made.peak);
     let mut out = [0u8; LONGEST_LINE];
-    let length = line(reply, made.leaves, &trace, &mut out);
-    let mut more = io::write_all(STDOUT_FILENO, &out[..length]);
-    let peaked = peak_line(made.peak, largest, &mut out);
-    if more {
-        more = io::write_all(STDOUT_FILENO, &out[..peaked]);
-    }
-    Read {
-        state: left,
-        largest,
-        more,
+    let length = line(made.reply, made.leaves, &trace, &mut out);
+    let written = print(&out[..length]);
+    let length = peak_line(made.peak, largest, &mut out);
+    if written && print(&out[..length]) {
+        Some((Store { state: made.state }, largest))
+    } else {
+        None
     }
 }
 
 // Reads a call and its damage, makes both and prints the call's lines.
-fn read_call(state: State, tree: &mut [u8], largest: usize) -> Read
-    requires { (1 ≤ state.size) × (state.size ≤ largest_size) }
-    ensures { result.state.size ≡ state.size }
-{
+fn read_call(store: Store, before: usize, tree: &mut [u8]) -> Option<(Store, usize)> {
+    let state = store.state;
     let mut input = [0u8; LONGEST_RECORD];
+    whole(read_record(state.structure, state.size, &mut input))?;
     let mut bytes = [0u8; DAMAGE_LENGTH];
-    let mut came = read_record(state.structure, state.size, &mut input);
-    match came {
-        Arrived::End | Arrived::Short => {}
-        Arrived::Whole => {
-            if io::read_full(STDIN_FILENO, &mut bytes) < DAMAGE_LENGTH {
-                came = Arrived::Short;
-            }
-        }
+    if read_part(&mut bytes).is_err() {
+        print_short();
+        return None;
     }
-    match came {
-        Arrived::End => Read {
-            state,
-            largest,
-            more: false,
-        },
-        Arrived::Short => {
-            print_short();
-            Read {
-                state,
-                largest,
-                more: false,
-            }
-        }
-        Arrived::Whole => {
-            damage(tree, &bytes);
-            damaged_call(state, tree, &input, largest)
-        }
-    }
+    damage(tree, bytes);
+    damaged_call(store, before, tree, &input)
 }
 
-// The calls up to the input's end. A proved loop has to end, and nothing says that an input does: the loop counts its
-// turns down from a number that no run uses up.
-fn read_calls(opened: State, tree: &mut [u8])
-    requires { (1 ≤ opened.size) × (opened.size ≤ largest_size) }
-{
-    let mut state = opened;
-    let mut largest = 0;
-    let mut turns = u64::MAX;
-    while turns > 0 {
-        let read = read_call(state, tree, largest);
-        if !read.more {
-            return;
-        }
-        state = read.state;
-        largest = read.largest;
-        turns -= 1;
-    }
+// The calls up to the input's end. A proved loop has to end, and nothing says that an input does: no run uses up the turns.
+fn read_calls(opened: Store, tree: &mut [u8]) {
+    let _ = (0..u64::MAX).try_fold(
+        (opened, 0),
+        |(store, largest), _| read_call(store, largest, tree),
+    );
 }
 
 fn main() {
     let mut space = [0u8; LARGEST_TREE];
-    let state = open_input(&mut space);
-    if state.mark != 0 {
-        return;
+    if let Some(opened) = open_input(&mut space) {
+        let length = tree_lent(opened.state.size);
+        read_calls(opened, &mut space[..length]);
     }
-    let length = tree_lent(state.size);
-    read_calls(state, &mut space[..length]);
 }

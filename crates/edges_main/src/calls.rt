@@ -50,17 +50,12 @@ fn made(row: &[usize; 128], state: State, tree: &mut [u8], trace: &mut [u16]) ->
 
 // The state after the calls that are made before, with a trace buffer of their own.
 fn earlier(row: &[usize; 128], tree: &mut [u8]) -> State {
-    let n = number(row, b'N');
-    let mask = byte(row, b'M');
     let mut trace = [0u16; MOST_LEAVES];
     let mut state = state_of(row);
-    let mut i = 0;
-    while i < n {
-        let left = made(row, state, tree, &mut trace);
-        state = left.state;
-        i += 1;
+    for _ in 0..number(row, b'N') {
+        state = made(row, state, tree, &mut trace).state;
     }
-    state.mark = state.mark & mask;
+    state.mark &= byte(row, b'M');
     state
 }
 
@@ -69,13 +64,11 @@ pub fn calls(row: &[usize; 128], tree: &mut [u8], trace: &mut [u16]) -> Shown {
     let state = earlier(row, tree);
     let sum = checksum(tree);
     let last = made(row, state, tree, trace);
-    let reply = last.reply;
-    let left = last.state;
     Shown {
-        reply,
+        reply: last.reply,
         leaves: last.leaves,
         peak: last.peak,
-        waiting: left.count,
+        waiting: last.state.count,
         sum,
     }
 }

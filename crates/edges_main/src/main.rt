@@ -10,14 +10,14 @@ mod states;
 mod trees;
 
 use cases::case;
-use rows::{end_of, row_of};
+use rows::row_of;
 
 // The descriptor of the standard input.
 const STDIN_FILENO: i32 = 0;
 
 // A line with a label is a case. One without gives numbers that the lines after it leave out.
 fn line(usual: [usize; 128], text: &[u8]) -> [usize; 128] {
-    let colon = end_of(text, 0, b':');
+    let colon = text.iter().position(|b| *b == b':').unwrap_or(text.len());
     let row = row_of(usual, &text[colon..]);
     if colon == 0 {
         return row;
@@ -26,14 +26,12 @@ fn line(usual: [usize; 128], text: &[u8]) -> [usize; 128] {
     usual
 }
 
+// What stands after the last newline is a line too; an empty one gives no numbers.
 fn all(text: &[u8]) {
-    let mut usual = [0usize; 128];
-    let mut at = 0;
-    while at < text.len() {
-        let end = end_of(text, at, b'\n');
-        let next = line(usual, &text[at..end]);
+    let mut usual = [0; 128];
+    for row in text.split(|b| *b == b'\n') {
+        let next = line(usual, row);
         usual = next;
-        at = end + 1;
     }
 }
 

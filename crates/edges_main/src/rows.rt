@@ -9,52 +9,30 @@
 //   number;
 //   N how many such calls are made before it, M the bits that are kept of the mark that they leave.
 // X: what is printed, as cases.rt says.
-ghost use Rattle.std.specs.Prelude.{◌≡◌, ◌≤◌, ◌<◌, ◌%◌, length};
+ghost use Rattle.std.specs.Prelude.{◌≡◌, ◌<◌, ◌%◌, IfSome};
 ghost use Rattle.edges_main.specs.Rows.{number_for};
 
-// The first place from `from` on where a byte stands, or the text's end.
-pub fn end_of(text: &[u8], from: usize, byte: u8) -> usize
-    requires { from ≤ length text.now }
-    ensures { (from ≤ result) × (result ≤ length text.now) }
+fn digit(b: u8) -> Option<usize>
+    ensures { IfSome result (λ d. d < 10) }
 {
-    let mut i = from;
-    while i < text.len() {
-        if text[i] == byte {
-            return i;
-        }
-        i += 1;
+    match b {
+        b'0'..=b'9' => Some(usize::from(b - b'0')),
+        _ => None,
     }
-    i
-}
-
-// A digit's value, or 10.
-fn digit(b: u8) -> usize
-    ensures { result ≤ 10 }
-{
-    if b < b'0' {
-        return 10;
-    }
-    if b'9' < b {
-        return 10;
-    }
-    (b - b'0') as usize
 }
 
 // The numbers of a text, and the usual ones for the letters that it does not have.
 pub fn row_of(usual: [usize; 128], text: &[u8]) -> [usize; 128] {
     let mut row = usual;
     let mut letter = 0;
-    let mut i = 0;
-    while i < text.len() {
-        let b = text[i];
-        let d = digit(b);
-        if d < 10 {
-            row[letter] = row[letter] % 4294967296 * 10 + d;
-        } else {
-            letter = (b % 128) as usize;
-            row[letter] = 0;
+    for b in text {
+        match digit(*b) {
+            Some(d) => row[letter] = row[letter] % 4294967296 * 10 + d,
+            None => {
+                letter = usize::from(*b % 128);
+                row[letter] = 0;
+            }
         }
-        i += 1;
     }
     row
 }
@@ -63,8 +41,7 @@ pub fn row_of(usual: [usize; 128], text: &[u8]) -> [usize; 128] {
 pub fn number(row: &[usize; 128], letter: u8) -> usize
     ensures { (result ≡ number_for row.now letter % 65536) × (result < 65536) }
 {
-    let at = (letter % 128) as usize;
-    row[at] % 65536
+    row[usize::from(letter % 128)] % 65536
 }
 
 pub fn byte(row: &[usize; 128], letter: u8) -> u8
@@ -82,6 +59,5 @@ pub fn short(row: &[usize; 128], letter: u8) -> u16
 pub fn key(row: &[usize; 128], letter: u8) -> u32
     ensures { result ≡ number_for row.now letter % 4294967296 }
 {
-    let at = (letter % 128) as usize;
-    (row[at] % 4294967296) as u32
+    (row[usize::from(letter % 128)] % 4294967296) as u32
 }

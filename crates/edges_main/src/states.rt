@@ -1,48 +1,38 @@
 // The state of a case.
-ghost use Rattle.std.specs.Prelude.{◌≡◌};
-
 use super::rows::{byte, key, number, short};
 use slot_spec::{Ahead, Link, Node};
-use state_places::no_place;
 use state_spec::{Place, State};
 
 // A link under tag 0.
-pub fn link(height: u8, key: u32) -> Link
-    ensures { result ≡ record { height = height; key = key; tag = 0 } }
-{
+fn link(height: u8, key: u32) -> Link {
     Link {
         height,
         key,
-        tag: 0,
-    }
-}
-
-pub fn node(key: u32, tag: u16, left: Link, right: Link) -> Node
-    ensures { result ≡ record { key = key; value = 0; tag = tag; left = left; right = right } }
-{
-    Node {
-        key,
-        value: 0,
-        tag,
-        left,
-        right,
+        ..Link::default()
     }
 }
 
 fn places_of(row: &[usize; 128]) -> [Place; 101] {
-    let left = link(byte(row, b'a'), key(row, b'l'));
-    let right = link(byte(row, b'b'), key(row, b'r'));
-    let first = node(key(row, b'n'), short(row, b'g'), left, right);
-    let full = number(row, b'f') == 1;
-    let second_key = key(row, b'q');
-    let second = node(second_key, 0, link(0, 0), link(0, 0));
-    let at = number(row, b'p') % 101;
-    let mut places = [no_place(); 101];
+    let first = Node {
+        key: key(row, b'n'),
+        tag: short(row, b'g'),
+        left: link(byte(row, b'a'), key(row, b'l')),
+        right: link(byte(row, b'b'), key(row, b'r')),
+        ..Node::default()
+    };
+    let second = Node {
+        key: key(row, b'q'),
+        ..Node::default()
+    };
+    let mut places = [Place::default(); 101];
     places[1] = Place {
-        full: second_key != 0,
+        full: second.key != 0,
         node: second,
     };
-    places[at] = Place { full, node: first };
+    places[number(row, b'p') % 101] = Place {
+        full: number(row, b'f') == 1,
+        node: first,
+    };
     places
 }
 
@@ -56,7 +46,6 @@ pub fn state_of(row: &[usize; 128]) -> State {
         key: key(row, b'u'),
         tag: short(row, b'd'),
     };
-    let places = places_of(row);
     State {
         mark: byte(row, b'm'),
         structure: byte(row, b's'),
@@ -65,6 +54,6 @@ pub fn state_of(row: &[usize; 128]) -> State {
         root,
         ahead,
         count: short(row, b'w'),
-        places,
+        places: places_of(row),
     }
 }

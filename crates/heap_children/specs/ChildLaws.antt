@@ -1,6 +1,5 @@
 -- The children of a node, case by case.
-use Rattle.std.specs.Prelude.{ℕ, suc, ◌+◌, ◌≤◌, ◌<◌, ◌≡◌, refl, Bool, true, false, not, length, drop, None, Some}
-use Rattle.std.specs.Prelude as code
+use Rattle.std.specs.Prelude.{ℕ, suc, ◌+◌, ◌≤◌, ◌<◌, ◌≡◌, refl, Bool, true, false, not, length, drop}
 use native.Mathlib.Omega.{arith}
 use Rattle.std.proofs.Common.{add-one, sym, ◌∙◌, ap, eq-eqb, ne_eqb, le-leb}
 use mathlib.Core.List.{List, [], ◌∷◌}
@@ -15,7 +14,7 @@ use Rattle.slot_spec.specs.declared.Node as node
 use Rattle.leaf_spec.specs.Convert.{to_link}
 use Rattle.operation_spec.specs.declared.Want as want
 use Rattle.operation_spec.specs.Method.{to_want}
-use Rattle.operations.specs.Resume.{Resumed, missing, finished, resume, resumed_as, unless_missing, follow}
+use Rattle.operations.specs.Resume.{missing, finished, resume, follow, Misses}
 use Rattle.operations.specs.ResumeLaws.{resume-done, resume-want, resume-missing, resume-bind}
 use Rattle.node_rows.specs.Held.{Held, nodes_of, held_at}
 use Rattle.node_rows.specs.HeldLaws.{held_next, held_none}
@@ -23,7 +22,7 @@ use Rattle.heap_spans.specs.declared.Span.{Span}
 use Rattle.heap_children.specs.declared.Child.{Child}
 use Rattle.heap_spans.specs.Spans.{no_span, fetched, passes_from, passes_of}
 use Rattle.heap_spans.specs.SpanLaws.{node-off, node-link, node-value, passes_none, passes-next, passes-length}
-use Rattle.heap_children.specs.Children.{Onward, ChildTo, ChildrenTo, lower_from, LowerOf}
+use Rattle.heap_children.specs.Children.{Onward, ChildTo, ChildWaits, ChildrenTo, ChildrenWait, lower_from, LowerOf}
 
 -- ---- the method's child on the nodes at hand
 
@@ -58,7 +57,7 @@ bare-span below e h way = passes_none h.nodes way below.length below.at e
 -- ---- one child, as the code has it
 
 module _ {n : Node ℕ} {left : Bool} {below : Span} {count next : ℕ} (inside : below.at + below.length ≤ count) (within : next ≤ count) where
-  pub child-at-hand : 0 < below.length → ChildTo n left below count next (record { wanted = None; span = below; next = next })
+  pub child-at-hand : 0 < below.length → ChildTo n left below count next (record { span = below; next = next })
   child-at-hand k =
       record {
         resumes = λ h way e on.
@@ -71,7 +70,7 @@ module _ {n : Node ℕ} {left : Bool} {below : Span} {count next : ℕ} (inside 
       }
 
   module _ (bare : below.length ≡ 0) {l : link.Link} (is : to_link l ≡ child left n) where
-    pub child-none : l.height ≡ 0 → ChildTo n left below count next (record { wanted = None; span = below; next = next })
+    pub child-none : l.height ≡ 0 → ChildTo n left below count next (record { span = below; next = next })
     child-none z =
         record {
           resumes = λ h way e on. rw (bare-span below bare h way) (no-child (beneath n left) (drop next (nodes_of h)) (rw (← is) z));
@@ -83,19 +82,15 @@ module _ {n : Node ℕ} {left : Bool} {below : Span} {count next : ℕ} (inside 
 
     module _ (z : l.height ≡ 0 → ⊥) where
       pub child-waits : next ≡ count → {w : want.Want} → to_want w ≡ beneath n left
-          → ChildTo n left below count next (record { wanted = Some w; span = below; next = next })
+          → ChildWaits n left below count next w
       child-waits k f =
           record {
-            resumes = λ h way e on.
+            misses = λ h way e on.
                 rw (bare-span below bare h way, held_none h next (omega arith) on.room, f) (child-missing (beneath n left) (rw (← is) z));
-            onward = omega arith;
-            within = within;
-            inside = inside;
-            counted = refl;
           }
 
       pub child-next : (next ≡ count → ⊥)
-          → ChildTo n left below count next (record { wanted = None; span = record { at = next; length = 1 }; next = next + 1 })
+          → ChildTo n left below count next (record { span = record { at = next; length = 1 }; next = next + 1 })
       child-next k =
           record {
             resumes = λ h way e on.
@@ -118,11 +113,6 @@ module _ (nodes : List node.Node) (way : List Bool) (below : Span) where
   right_side true = sym (passes_none nodes way 0 0 refl)
   right_side false = refl
 
-follow-as : {A B : Type 0} (w : code.Option want.Want) (a : A) (ns : List (Node ℕ)) (f : A → List (Node ℕ) → Resumed ℕ B)
-    → follow (resumed_as w a ns) f ≡ unless_missing w (f a ns)
-follow-as None a ns f = refl
-follow-as (Some w) a ns f = refl
-
 -- What is at hand on one side only is as many nodes, and as well inside.
 pub side-inside : (t : Bool) (below : Span) (count : ℕ) → below.at + below.length ≤ count
     → (pick t below no_span).at + (pick t below no_span).length ≤ count
@@ -133,52 +123,59 @@ sides-counted : (t : Bool) (below : Span) → (pick t below no_span).length + (p
 sides-counted true below = omega arith
 sides-counted false below = omega arith
 
-module _ {n : Node ℕ} (turn : Bool) (below : Span) {count next : ℕ} {a : Child} (first : ChildTo n true (pick turn below no_span) count next a) where
-  module _ (h : Held) (way : List Bool) (e : h.count ≡ count) (on : Onward h way next) (f : (left right : List (Pass ℕ)) → Prog ℕ (List (Node ℕ))) where
-    after_first : resume
+-- The program of both children, by what comes of the first.
+module _ (n : Node ℕ) (turn : Bool) (below : Span) (next : ℕ) where
+  module _ (h : Held) (way : List Bool) (f : (left right : List (Pass ℕ)) → Prog ℕ (List (Node ℕ))) where
+    by_first : resume
         (bind (child_of (beneath n true) (pick turn (passes_of h.nodes way below) []))
         (λ x. bind (child_of (beneath n false) (pick turn [] (passes_of h.nodes way below))) (f x)))
         (drop next (nodes_of h))
-        ≡ unless_missing a.wanted
-        (resume (bind (child_of (beneath n false) (pick turn [] (passes_of h.nodes way below))) (f (passes_of h.nodes way a.span))) (drop a.next (nodes_of h)))
-    after_first =
+        ≡ follow (resume (child_of (beneath n true) (passes_of h.nodes way (pick turn below no_span))) (drop next (nodes_of h)))
+        (λ x rest. resume (bind (child_of (beneath n false) (pick turn [] (passes_of h.nodes way below))) (f x)) rest)
+    by_first =
         resume-bind (child_of (beneath n true) (pick turn (passes_of h.nodes way below) []))
         (λ x. bind (child_of (beneath n false) (pick turn [] (passes_of h.nodes way below))) (f x)) (drop next (nodes_of h))
-        ∙ ap (λ (r : Resumed ℕ (List (Pass ℕ))). follow r (λ x rest. resume (bind (child_of (beneath n false) (pick turn [] (passes_of h.nodes way below))) (f x)) rest))
-        (ap (λ (l : List (Pass ℕ)). resume (child_of (beneath n true) l) (drop next (nodes_of h))) (left-side h.nodes way below turn) ∙ first.resumes h way e on)
-        ∙ follow-as a.wanted (passes_of h.nodes way a.span) (drop a.next (nodes_of h))
-        (λ x rest. resume (bind (child_of (beneath n false) (pick turn [] (passes_of h.nodes way below))) (f x)) rest)
+        ∙ ap (λ (l : List (Pass ℕ)). follow (resume (child_of (beneath n true) l) (drop next (nodes_of h)))
+        (λ x rest. resume (bind (child_of (beneath n false) (pick turn [] (passes_of h.nodes way below))) (f x)) rest))
+        (left-side h.nodes way below turn)
 
-  pub children-missing : {w : want.Want} → a.wanted ≡ Some w
-      → ChildrenTo n turn below count next (record { wanted = Some w; left = a.span; right = a.span; next = a.next })
-  children-missing g =
-      record {
-        resumes = λ h way e on f. after_first h way e on f ∙ rw g;
-        onward = first.onward;
-        within = first.within;
-        left-inside = first.inside;
-        right-inside = first.inside;
-        counted = λ d. let z : ◌≡◌ {A = ℕ} 0 1 = cc in absurd (omega arith);
-      }
+module _ {n : Node ℕ} (turn : Bool) (below : Span) {count next : ℕ} where
+  pub children-missing : {w : want.Want} → ChildWaits n true (pick turn below no_span) count next w → ChildrenWait n turn below count next w
+  children-missing first = record { misses = λ h way e on f. by_first n turn below next h way f ∙ rw (first.misses h way e on) }
 
-  pub children-both : {b : Child} → a.wanted ≡ None → ChildTo n false (pick (not turn) below no_span) count a.next b
-      → ChildrenTo n turn below count next (record { wanted = b.wanted; left = a.span; right = b.span; next = b.next })
-  children-both {b} g second =
-      record {
-        resumes = λ h way e on f.
-            after_first h way e on f
-            ∙ rw g
-            (resume-bind (child_of (beneath n false) (pick turn [] (passes_of h.nodes way below))) (f (passes_of h.nodes way a.span)) (drop a.next (nodes_of h))
-            ∙ ap (λ (r : Resumed ℕ (List (Pass ℕ))). follow r (λ x rest. resume (f (passes_of h.nodes way a.span) x) rest))
-            (ap (λ (l : List (Pass ℕ)). resume (child_of (beneath n false) l) (drop a.next (nodes_of h))) (right_side h.nodes way below turn)
-            ∙ second.resumes h way e (record { room = on.room; past = omega (arith, on.past, first.onward) }))
-            ∙ follow-as b.wanted (passes_of h.nodes way b.span) (drop b.next (nodes_of h)) (λ x rest. resume (f (passes_of h.nodes way a.span) x) rest));
-        onward = omega (arith, first.onward, second.onward);
-        within = second.within;
-        left-inside = first.inside;
-        right-inside = second.inside;
-        counted = λ d. omega (arith, first.counted, second.counted, sides-counted turn below);
-      }
+  module _ {a : Child} (first : ChildTo n true (pick turn below no_span) count next a) where
+    module _ (h : Held) (way : List Bool) (e : h.count ≡ count) (on : Onward h way next) (f : (left right : List (Pass ℕ)) → Prog ℕ (List (Node ℕ))) where
+      by-second : resume
+          (bind (child_of (beneath n true) (pick turn (passes_of h.nodes way below) []))
+          (λ x. bind (child_of (beneath n false) (pick turn [] (passes_of h.nodes way below))) (f x)))
+          (drop next (nodes_of h))
+          ≡ follow (resume (child_of (beneath n false) (passes_of h.nodes way (pick (not turn) below no_span))) (drop a.next (nodes_of h)))
+          (λ x rest. resume (f (passes_of h.nodes way a.span) x) rest)
+      by-second =
+          by_first n turn below next h way f
+          ∙ rw (first.resumes h way e on)
+          (resume-bind (child_of (beneath n false) (pick turn [] (passes_of h.nodes way below))) (f (passes_of h.nodes way a.span)) (drop a.next (nodes_of h))
+          ∙ ap (λ (l : List (Pass ℕ)). follow (resume (child_of (beneath n false) l) (drop a.next (nodes_of h))) (λ x rest. resume (f (passes_of h.nodes way a.span) x) rest))
+          (right_side h.nodes way below turn))
+
+      onward-too : Onward h way a.next
+      onward-too = record { room = on.room; past = omega (arith, on.past, first.onward) }
+
+    pub children_waiting : {w : want.Want} → ChildWaits n false (pick (not turn) below no_span) count a.next w → ChildrenWait n turn below count next w
+    children_waiting second =
+        record { misses = λ h way e on f. by-second h way e on f ∙ rw (second.misses h way e (onward-too h way e on f)) }
+
+    pub children-both : {b : Child} → ChildTo n false (pick (not turn) below no_span) count a.next b
+        → ChildrenTo n turn below count next (record { left = a.span; right = b.span; next = b.next })
+    children-both {b} second =
+        record {
+          resumes = λ h way e on f. by-second h way e on f ∙ rw (second.resumes h way e (onward-too h way e on f));
+          onward = omega (arith, first.onward, second.onward);
+          within = second.within;
+          left-inside = first.inside;
+          right-inside = second.inside;
+          counted = omega (arith, first.counted, second.counted, sides-counted turn below);
+        }
 
 -- ---- the node above them
 

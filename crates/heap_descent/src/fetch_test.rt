@@ -11,25 +11,18 @@ use slot_spec::{Link, Node};
 fn link_good(entries: u16, position: u64, link: Link) -> bool
     ensures { result ≡ heap_link_good entries position (to_link link) }
 {
-    let end = (entries as u64) + 1;
+    let end = u64::from(entries) + 1;
     if position < end {
-        if link.height != 1 {
-            return false;
-        }
-        return link.key as u64 == position;
+        link.height == 1 && u64::from(link.key) == position
+    } else {
+        link.height == 0
     }
-    link.height == 0
 }
 
 // The heap's fetch test: its links lead to the positions 2i and 2i + 1, as far as there are entries.
 pub fn heap_test(entries: u16, want: Want, n: Node) -> bool
     ensures { result ≡ heap_test entries (to_want want) (to_node n) }
 {
-    let left = n.left;
-    let right = n.right;
-    let position = 2 * (n.key as u64);
-    if link_good(entries, position, left) {
-        return link_good(entries, position + 1, right);
-    }
-    false
+    let position = 2 * u64::from(n.key);
+    link_good(entries, position, n.left) && link_good(entries, position + 1, n.right)
 }

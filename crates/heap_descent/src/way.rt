@@ -1,10 +1,9 @@
 // The way from the root to a position, whose turns are the digits of its number, and the node that is wanted on it next.
-ghost use Rattle.std.specs.Prelude.{◌≡◌, ◌≤◌, length};
+ghost use Rattle.std.specs.Prelude.{◌≡◌, ◌≤◌};
 ghost use Rattle.method_spec.specs.Heap as heap;
 ghost use Rattle.method_spec.specs.Prog as prog;
 ghost use Rattle.leaf_spec.specs.Convert.{to_link};
 ghost use Rattle.operation_spec.specs.Method.{to_want};
-ghost use Rattle.node_rows.specs.Row.{words};
 ghost use Rattle.node_rows.specs.Held.{held_in};
 ghost use Rattle.heap_descent.specs.Way.{Leads, turn_at, want_at};
 
@@ -25,7 +24,7 @@ pub struct Way {
 pub fn way_to(position: u16) -> Way
     ensures { (result.position ≡ position) × Leads result }
 {
-    let zeros = u64::leading_zeros((position / 2) as u64);
+    let zeros = u64::from(position / 2).leading_zeros();
     Way {
         position,
         depth: (64 - zeros) as usize,
@@ -46,7 +45,7 @@ pub fn goes_left(way: Way, level: usize) -> bool
 
 // The node that is wanted next on the way, whose first nodes are held.
 pub fn next_on(way: Way, root: Link, held: &[u64; ROW], count: usize) -> Want
-    requires { (length held.now ≡ words) × Leads way × (count ≤ way.depth) }
+    requires { Leads way × (count ≤ way.depth) }
     ensures { to_want result ≡ want_at (held_in held.now count) (prog.start (to_link root)) (heap.way_to way.position) count }
 {
     if count == 0 {

@@ -65,19 +65,19 @@ module _ (h : Held) (way : List Bool) (n : Node ℕ) where
   rise-start ws depth e long = record { makes = rw e; root = rw e; long = long; counted = omega arith }
 
   module _ {ws : List ℕ} {dn : ℕ} {rising : Bool} {top : Node ℕ} {i : ℕ} (few : length way ≤ 15) (now : Rises h way n ws dn rising top i) where
-    pub rise-level : 0 < i → {p : node.Node} {left : Bool} {r : Lifted} {ws' : List ℕ} → to_node p ≡ held_at h (i - 1) → left ≡ turn_at way (i - 1)
-        → LiftsTo top (to_node p) left rising r → nodes_from ws' ≡ set (nodes_from ws) dn r.lower → length ws' ≡ words
-        → Rises h way n ws' (dn + 1) r.rising (to_node r.upper) (i - 1)
-    rise-level k {p} {left} {r} {ws'} e f lifts stored long =
-        let j = i - 1 in
-        let s : i ≡ suc j = omega arith in
+    pub rise-level : {j at more : ℕ} → i ≡ suc j → at ≡ dn → more ≡ dn + 1 → {p : node.Node} {left : Bool} {r : Lifted} {ws' : List ℕ}
+        → to_node p ≡ held_at h j → left ≡ turn_at way j
+        → LiftsTo top (to_node p) left rising r → nodes_from ws' ≡ set (nodes_from ws) at r.lower → length ws' ≡ words
+        → Rises h way n ws' more r.rising (to_node r.upper) j
+    rise-level {j} {at} s here then {p} {left} {r} {ws'} e f lifts placed long =
+        let stored : nodes_from ws' ≡ set (nodes_from ws) dn r.lower = rw here at placed in
         let pass : Pass ℕ = record { node = to_node p; way = left } in
         let next : trail h way i ≡ pass ∷ trail h way j = ap (trail h way) s ∙ trail-next h way j ∙ rw (e, f) in
         let before = nodes_of (held_in ws dn) in
         let rest = upward r.rising (to_node r.upper) (trail h way j) in
         record {
           makes =
-              rw (add-one dn, row_more ws now.long ws' dn r.lower (omega (arith, now.counted)) stored)
+              rw (then, add-one dn, row_more ws now.long ws' dn r.lower (omega (arith, now.counted)) stored)
               (append_assoc before (to_node r.lower ∷ []) rest
               ∙ ap (λ (l : List (Node ℕ)). before ++ l) (sym (lifts.makes (trail h way j)))
               ∙ ap (λ (l : List (Pass ℕ)). before ++ upward rising top l) (sym next)
@@ -91,8 +91,10 @@ module _ (h : Held) (way : List Bool) (n : Node ℕ) where
           counted = omega (arith, now.counted);
         }
 
-    pub rise-end : i ≡ 0 → {m : node.Node} {ws' : List ℕ} → to_node m ≡ top → nodes_from ws' ≡ set (nodes_from ws) dn m → length ws' ≡ words → RisesTo h way n ws' top
-    rise-end e {m} {ws'} f stored long =
+    pub rise-end : {at : ℕ} → i ≡ 0 → at ≡ dn → {m : node.Node} {ws' : List ℕ} → to_node m ≡ top → nodes_from ws' ≡ set (nodes_from ws) at m → length ws' ≡ words
+        → RisesTo h way n ws' top
+    rise-end e here {m} {ws'} f placed long =
+        let stored : nodes_from ws' ≡ set (nodes_from ws) dn m = rw here at placed in
         let d : suc (length way) ≡ suc dn = omega (arith, now.counted) in
         let none : trail h way i ≡ [] = ap (trail h way) e ∙ trail-none h way in
         let before = nodes_of (held_in ws dn) in

@@ -1,18 +1,18 @@
 // A number that rises from a new position of the heap: the nodes of the way to it, from there up to the root.
 #![tactic(auto)]
 
-ghost use Rattle.std.specs.Prelude.{◌≡◌, ℕ, length};
+ghost use Rattle.std.specs.Prelude.{◌≡◌, ℕ};
 ghost use Rattle.method_spec.specs.Heap.{way_to};
 ghost use Rattle.leaf_spec.specs.Convert.{to_node};
-ghost use Rattle.node_rows.specs.Row.{words};
 ghost use Rattle.node_rows.specs.Held.{held_in};
 ghost use Rattle.heap_descent.specs.Way.{Leads};
 ghost use Rattle.heap_rising.specs.Rising.{LiftsTo, RisesTo};
 
-use heap_descent::nodes::{link_one, with_value};
+use heap_descent::nodes::with_value;
 use heap_descent::way::{Way, goes_left};
 use map_nodes::sides::with_child;
 use node_rows::{ROW, node_at, set_node};
+use operations::link_one;
 use slot_spec::Node;
 
 // One level of the way up: the lower node, which is done with, the upper one with its link to it, and whether the number still
@@ -29,18 +29,11 @@ fn lift(n: Node, p: Node, left: bool, rising: bool) -> Lifted
     ensures { LiftsTo (to_node n) (to_node p) left rising result }
 {
     let upper = with_child(left, p, link_one(n));
-    if rising {
-        if n.value < p.value {
-            return Lifted {
-                lower: with_value(p.value, n),
-                upper: with_value(n.value, upper),
-                rising: true,
-            };
-        }
+    if rising && n.value < p.value {
         return Lifted {
-            lower: n,
-            upper,
-            rising: false,
+            lower: with_value(p.value, n),
+            upper: with_value(n.value, upper),
+            rising: true,
         };
     }
     Lifted {
@@ -52,22 +45,17 @@ fn lift(n: Node, p: Node, left: bool, rising: bool) -> Lifted
 
 // All levels of the way: the nodes go into the first places of a lent row, the lowest first. The root's is handed back too.
 pub fn rise(n: Node, way: Way, held: &[u64; ROW], made: &mut [u64; ROW]) -> Node
-    requires { (length held.now ≡ words) × (length made.old ≡ words) × Leads way }
+    requires { Leads way }
     ensures { (count : ℕ) → RisesTo (held_in held.now count) (way_to way.position) (to_node n) made.new (to_node result) }
 {
     let mut top = n;
     let mut rising = true;
-    let mut done: usize = 0;
-    let mut i = way.depth;
-    while i > 0 {
-        i -= 1;
+    for i in (0..way.depth).rev() {
         let r = lift(top, node_at(held, i), goes_left(way, i), rising);
-        let lower = r.lower;
-        set_node(made, done, lower);
+        set_node(made, way.depth - 1 - i, r.lower);
         top = r.upper;
         rising = r.rising;
-        done += 1;
     }
-    set_node(made, done, top);
+    set_node(made, way.depth, top);
     top
 }

@@ -2,7 +2,7 @@
 use Prim.Native.Nat.{ℕ, zero, suc, ◌+◌, ◌-◌, ◌≤◌, ◌<◌}
 use native.Mathlib.Omega.{arith}
 use Rattle.std.proofs.Common.{add-one, ◌∙◌, append_assoc, length-append}
-use Rattle.std.specs.Prelude.{◌≡◌, Bool, List, [], ◌∷◌, ◌++◌, ltb, length, drop, None, Some}
+use Rattle.std.specs.Prelude.{◌≡◌, Bool, List, [], ◌∷◌, ◌++◌, ltb, length, drop, Option, None, Some, IfSome}
 use Rattle.std.proofs.Math.Path.{refl, sym, ap}
 use Rattle.std.proofs.Math.Bool.{true, false}
 use Rattle.method_spec.specs.Node.{Node, with_value}
@@ -10,7 +10,8 @@ use Rattle.method_spec.specs.Prog.{Prog}
 use Rattle.method_spec.specs.Heap.{Pass, passed, smaller, above, sunk, sink}
 use Rattle.slot_spec.specs.declared.Node as node
 use Rattle.operation_spec.specs.declared.Want as want
-use Rattle.operations.specs.Resume.{Resumed, missing, finished, resume, unless_missing, follow}
+use Rattle.operation_spec.specs.Method.{to_want}
+use Rattle.operations.specs.Resume.{Resumed, missing, finished, resume, follow}
 use Rattle.operations.specs.ResumeLaws.{resume-done, resume-map}
 use Rattle.node_rows.specs.Row.{places, words}
 use Rattle.node_rows.specs.Held.{Held, held_in, nodes_of, Lists}
@@ -21,8 +22,8 @@ use Rattle.heap_children.specs.declared.Lower as code
 use Rattle.heap_sinking.specs.declared.Sinking.{Sinking}
 use Rattle.heap_spans.specs.Spans.{below_first, fetched, node_in, pass_in, passes_from, passes_of}
 use Rattle.heap_spans.specs.SpanLaws.{node-value, passes_none, passes-next, passed_length, first_counted}
-use Rattle.heap_children.specs.Children.{ChildrenTo, lower_from, LowerOf}
-use Rattle.heap_sinking.specs.Sinking.{sinks_in, Placed, sink_from, turned, PassTo, SinkReady, TurnTo, sink_all, SinksTo, Sinks}
+use Rattle.heap_children.specs.Children.{ChildrenTo, ChildrenWait, lower_from, LowerOf}
+use Rattle.heap_sinking.specs.Sinking.{sinks_in, Placed, sink_from, turned, GoesOn, PassTo, SinkReady, TurnTo, sink_all, SinksTo, Sinks}
 
 -- ---- whether it sinks
 module _ (nodes : List node.Node) (v : ℕ) (low : Span) (way : List Bool) where
@@ -83,7 +84,7 @@ module _ (nodes : List node.Node) (way : List Bool) (v : ℕ) (n : Node ℕ) (c 
   module _ {l : code.Lower} (chosen : LowerOf nodes c.left c.right l) {x : Node ℕ} {ws' : List ℕ} {k : ℕ} where
     pub pass_on : sinks_in v (passes_of nodes way l.low) ≡ true → {val : ℕ} → val ≡ (fetched nodes l.low.at).value → x ≡ with_value val (joined nodes way n c)
         → Lists ws count (x ∷ passed (passes_of nodes way l.others)) ws' k
-        → PassTo nodes way v n c ws count ws' (record { wanted = None; going = true; span = l.low; next = c.next; made = k })
+        → PassTo nodes way v n c ws count ws' (record { span = Some l.low; next = c.next; made = k })
     pass_on e d f lists =
         let low = l.low in
         let out₁ = passed (passes_of nodes way l.others) in
@@ -102,15 +103,13 @@ module _ (nodes : List node.Node) (way : List Bool) (v : ℕ) (n : Node ℕ) (c 
               (λ out. rw (lists.first, f, d, node-value nodes way low.at) (sym (append_assoc (nodes_of (held_in ws count)) (_ ∷ out₁) out))));
           long = lists.long;
           onward = refl;
-          inside = λ most p q. (chosen.inside most p q).0;
-          some = λ g. some;
-          counted = λ g. omega (arith, counted, chosen.counted);
+          goes = record { inside = λ most p q. (chosen.inside most p q).0; some = some; counted = omega (arith, counted, chosen.counted) };
           few = omega (arith, counted, chosen.counted);
         }
 
     pub pass-rests : sinks_in v (passes_of nodes way l.low) ≡ false → x ≡ with_value v (joined nodes way n c)
         → Lists ws count (x ∷ (passed (passes_of nodes way c.left) ++ passed (passes_of nodes way c.right))) ws' k
-        → PassTo nodes way v n c ws count ws' (record { wanted = None; going = false; span = l.low; next = c.next; made = k })
+        → PassTo nodes way v n c ws count ws' (record { span = None; next = c.next; made = k })
     pass-rests e f lists =
         record {
           resumes = λ fuel ns.
@@ -121,9 +120,7 @@ module _ (nodes : List node.Node) (way : List Bool) (v : ℕ) (n : Node ℕ) (c 
               (rests (sink fuel v) v (above true a (above false b n)) a b (passes_of nodes way l.low) (passes_of nodes way l.others) ns e));
           long = lists.long;
           onward = refl;
-          inside = λ most p q. (chosen.inside most p q).0;
-          some = λ g. let z : ◌≡◌ {A = ℕ} 0 1 = cc in absurd (omega arith);
-          counted = λ g. let z : ◌≡◌ {A = ℕ} 0 1 = cc in absurd (omega arith);
+          goes = tt;
           few = omega (arith, list_counted nodes way ws count c.left c.right lists);
         }
 
@@ -133,63 +130,67 @@ pub valued : (nodes : List node.Node) (way : List Bool) (n : Node ℕ) (c : Chil
 valued nodes way n c val e f g = e ∙ ap (with_value val) (f ∙ ap (above true (passes_of nodes way c.left)) g)
 
 -- ---- one turn
-module _ (h : Held) (way : List Bool) (v : ℕ) (span : Span) (next dn : ℕ) (ws : List ℕ) (fits : h.count ≤ length h.nodes) (most : h.count ≤ places)
-    (ready : SinkReady h.count (length way) span next dn) {c : Children}
-    (kids : ChildrenTo (node_in h.nodes way span.at) (turn_at way span.at) (below_first span) h.count next c) where
-  level : (fuel : ℕ)
-      → sink_from h.nodes way v (suc fuel) ws dn span (drop next (nodes_of h))
-      ≡ follow
-      (unless_missing c.wanted
-      (resume
-      (sunk (sink fuel v) v (joined h.nodes way (node_in h.nodes way span.at) c) (passes_of h.nodes way c.left) (passes_of h.nodes way c.right) (smaller (passes_of h.nodes way c.left) (passes_of h.nodes way c.right)))
-      (drop c.next (nodes_of h))))
-      (λ out rest. finished (nodes_of (held_in ws dn) ++ out) rest)
+module _ (h : Held) (way : List Bool) (v : ℕ) (span : Span) (next dn : ℕ) (ws : List ℕ) where
+  pub turn-missing : h.count ≤ length h.nodes → SinkReady h.count (length way) span next dn → {w : want.Want}
+      → ChildrenWait (node_in h.nodes way span.at) (turn_at way span.at) (below_first span) h.count next w
+      → (fuel : ℕ) → sink_from h.nodes way v (suc fuel) ws dn span (drop next (nodes_of h)) ≡ missing (to_want w)
   unfolding sink
-  level fuel =
+  turn-missing fits ready kids fuel =
       ap (λ (r : Resumed ℕ (List (Node ℕ))). follow r (λ out rest. finished (nodes_of (held_in ws dn) ++ out) rest))
-      (kids.resumes h way refl (record { room = fits; past = ready.past })
+      (kids.misses h way refl (record { room = fits; past = ready.past })
       (λ a b. sunk (sink fuel v) v (above true a (above false b (node_in h.nodes way span.at))) a b (smaller a b)))
 
-  pub turn-missing : {w : want.Want} → length ws ≡ words → c.wanted ≡ Some w
-      → TurnTo h way v span next dn ws ws (record { wanted = Some w; going = false; span = span; next = c.next; made = dn })
-  turn-missing long e =
-      record {
-        resumes = λ fuel. level fuel ∙ rw e;
-        long = long;
-        ready = λ g. let z : ◌≡◌ {A = ℕ} 0 1 = cc in absurd (omega arith);
-        few = omega (arith, ready.counted, ready.within);
-      }
+  module _ (fits : h.count ≤ length h.nodes) (most : h.count ≤ places)
+      (ready : SinkReady h.count (length way) span next dn) {c : Children}
+      (kids : ChildrenTo (node_in h.nodes way span.at) (turn_at way span.at) (below_first span) h.count next c) where
+    level : (fuel : ℕ)
+        → sink_from h.nodes way v (suc fuel) ws dn span (drop next (nodes_of h))
+        ≡ follow
+        (resume
+        (sunk (sink fuel v) v (joined h.nodes way (node_in h.nodes way span.at) c) (passes_of h.nodes way c.left) (passes_of h.nodes way c.right) (smaller (passes_of h.nodes way c.left) (passes_of h.nodes way c.right)))
+        (drop c.next (nodes_of h)))
+        (λ out rest. finished (nodes_of (held_in ws dn) ++ out) rest)
+    unfolding sink
+    level fuel =
+        ap (λ (r : Resumed ℕ (List (Node ℕ))). follow r (λ out rest. finished (nodes_of (held_in ws dn) ++ out) rest))
+        (kids.resumes h way refl (record { room = fits; past = ready.past })
+        (λ a b. sunk (sink fuel v) v (above true a (above false b (node_in h.nodes way span.at))) a b (smaller a b)))
 
-  module _ (e : c.wanted ≡ None) where
     pub turn-placed : Placed dn c
     turn-placed =
         record {
           left = omega (arith, kids.left-inside);
           right = omega (arith, kids.right-inside);
-          room = omega (arith, kids.counted e, kids.within, ready.counted, ready.some);
+          room = omega (arith, kids.counted, kids.within, ready.counted, ready.some);
+        }
+
+    goes-ready : (made to : ℕ) (low : Option Span) → to ≡ c.next → IfSome low (GoesOn h.nodes way v c dn made)
+        → IfSome low (λ s. SinkReady h.count (length way) s to made)
+    goes-ready made to None e g = tt
+    goes-ready made to (Some s) e g =
+        record {
+          some = g.some;
+          inside = g.inside h.count kids.left-inside kids.right-inside;
+          counted = omega (arith, g.counted, e, kids.counted, ready.counted, ready.some);
+          past = omega (arith, e, kids.onward, ready.past);
+          within = omega (arith, e, kids.within);
         }
 
     pub turn-passes : {ws' : List ℕ} {r : Sinking} → PassTo h.nodes way v (node_in h.nodes way span.at) c ws dn ws' r → TurnTo h way v span next dn ws ws' r
     turn-passes {ws'} {r} past =
         record {
-          resumes = λ fuel. level fuel ∙ rw (e, past.onward) (past.resumes fuel (drop c.next (nodes_of h)));
+          resumes = λ fuel. level fuel ∙ rw past.onward (past.resumes fuel (drop c.next (nodes_of h)));
           long = past.long;
-          ready = λ g.
-              record {
-                some = past.some g;
-                inside = past.inside h.count kids.left-inside kids.right-inside;
-                counted = omega (arith, past.counted g, past.onward, kids.counted e, ready.counted, ready.some);
-                past = omega (arith, past.onward, kids.onward, ready.past);
-                within = omega (arith, past.onward, kids.within);
-              };
-          few = omega (arith, past.few, kids.counted e, kids.within, ready.counted, ready.some);
+          ready = goes-ready r.made r.next r.span past.onward past.goes;
+          few = omega (arith, past.few, kids.counted, kids.within, ready.counted, ready.some);
         }
 
 -- ---- all turns
 module _ (h : Held) (way : List Bool) (v : ℕ) where
-  pub sink-start : (depth : ℕ) (ws : List ℕ) → depth ≡ length way → 0 < depth → depth < h.count → length ws ≡ words
-      → Sinks h way v depth (record { at = 0; length = depth }) (depth + 1) 0 ws
-  sink-start depth ws e some k long =
+  pub sink-start : (depth : ℕ) (ws : List ℕ) {left : ℕ} → left ≡ depth → depth ≡ length way → 0 < depth → depth < h.count → length ws ≡ words
+      → Sinks h way v left (record { at = 0; length = depth }) (depth + 1) 0 ws
+  sink-start depth ws l e some k long =
+      rw l
       record {
         resumes = rw (add-one depth, e) (follow-none (sink_all h way v));
         long = long;
@@ -197,22 +198,25 @@ module _ (h : Held) (way : List Bool) (v : ℕ) where
       }
 
   module _ {fuel : ℕ} {span : Span} {next dn : ℕ} {ws : List ℕ} (now : Sinks h way v fuel span next dn ws) where
-    module _ (more : 0 < fuel) {ws' : List ℕ} {r : Sinking} (turn : TurnTo h way v span next dn ws ws' r) where
-      turning : turned h.nodes way v (fuel - 1) ws' r (drop r.next (nodes_of h)) ≡ sink_all h way v
-      turning =
-          let m : suc (fuel - 1) ≡ fuel = omega arith in
-          sym (turn.resumes (fuel - 1)) ∙ rw m now.resumes
+    module _ (less : ℕ) (more : fuel ≡ suc less) where
+      pub sink-missing : (w : want.Want) → ((f : ℕ) → sink_from h.nodes way v (suc f) ws dn span (drop next (nodes_of h)) ≡ missing (to_want w))
+          → sink_all h way v ≡ missing (to_want w)
+      sink-missing w e = sym now.resumes ∙ rw more (e less)
 
-      pub sink-turn : r.going ≡ true → Sinks h way v (fuel - 1) r.span r.next r.made ws'
-      sink-turn g = record { resumes = rw g at turning; long = turn.long; ready = turn.ready g }
+      module _ {ws' : List ℕ} {r : Sinking} (turn : TurnTo h way v span next dn ws ws' r) where
+        turning : turned h.nodes way v less ws' r.made r.span (drop r.next (nodes_of h)) ≡ sink_all h way v
+        turning = sym (turn.resumes less) ∙ rw (← more) now.resumes
 
-      pub sink_ends : r.going ≡ false → SinksTo h way v ws' r
-      sink_ends g = record { resumes = sym (rw g at turning); long = turn.long; few = turn.few }
+        pub sink-turn : {low : Span} → r.span ≡ Some low → Sinks h way v less low r.next r.made ws'
+        sink-turn g = record { resumes = rw g at turning; long = turn.long; ready = rw g at turn.ready }
+
+        pub sink_ends : r.span ≡ None → SinksTo h way v ws' r
+        sink_ends g = record { resumes = sym (rw g at turning); long = turn.long; few = turn.few }
 
     -- No fuel is left.
     pub sink-last : fuel ≡ 0 → {x : Node ℕ} → x ≡ with_value v (node_in h.nodes way span.at) → {ws' : List ℕ} {k : ℕ}
         → Lists ws dn (x ∷ passed (passes_of h.nodes way (below_first span))) ws' k
-        → h.count ≤ places → SinksTo h way v ws' (record { wanted = None; going = false; span = span; next = next; made = k })
+        → h.count ≤ places → SinksTo h way v ws' (record { span = None; next = next; made = k })
     unfolding sink
     sink-last e f {ws'} {k} lists most =
         record {

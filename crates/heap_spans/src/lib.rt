@@ -2,24 +2,23 @@
 // end, whose node has left; another node is as it was fetched.
 #![tactic(auto)]
 
-ghost use Rattle.std.specs.Prelude.{◌≡◌, ◌∷◌, ◌++◌, ◌+◌, ◌≤◌, ◌<◌, length};
+ghost use Rattle.std.specs.Prelude.{◌≡◌, ◌∷◌, ◌++◌, ◌+◌, ◌≤◌, ◌<◌};
 ghost use Rattle.slot_spec.specs.Row.{nodes_from};
 ghost use Rattle.method_spec.specs.Heap.{way_to, passed};
 ghost use Rattle.leaf_spec.specs.Convert.{to_node};
-ghost use Rattle.node_rows.specs.Row.{places, words};
+ghost use Rattle.node_rows.specs.Row.{places};
 ghost use Rattle.node_rows.specs.Held.{Lists};
 ghost use Rattle.heap_descent.specs.Way.{Leads};
 ghost use Rattle.heap_spans.specs.Spans.{below_first, node_in, passes_of};
 
-use heap_descent::nodes::link_one;
 use heap_descent::way::{Way, goes_left};
 use map_nodes::sides::with_child;
 use node_rows::{ROW, node_at, set_node};
-use slot_fields::no_link;
-use slot_spec::Node;
+use operations::link_one;
+use slot_spec::{Link, Node};
 
 // So many nodes from a place on, each the parent of the next.
-#[derive(Clone, Copy)]
+#[derive(Clone, Copy, Default)]
 pub struct Span {
     pub at: usize,
     pub length: usize,
@@ -38,7 +37,7 @@ pub fn below_first(span: Span) -> Span
 
 // The node in a place.
 pub fn node_in(way: Way, held: &[u64; ROW], i: usize) -> Node
-    requires { (length held.now ≡ words) × Leads way × (i < places) }
+    requires { Leads way × (i < places) }
     ensures { to_node result ≡ node_in (nodes_from held.now) (way_to way.position) i }
 {
     let n = node_at(held, i);
@@ -47,20 +46,18 @@ pub fn node_in(way: Way, held: &[u64; ROW], i: usize) -> Node
     }
     let left = goes_left(way, i);
     if way.depth <= i + 1 {
-        return with_child(left, n, no_link());
+        return with_child(left, n, Link::default());
     }
     with_child(left, n, link_one(node_at(held, i + 1)))
 }
 
 // A span's nodes, in the next places of another row: how many there are then.
 fn list_span(way: Way, held: &[u64; ROW], span: Span, made: &mut [u64; ROW], count: usize) -> usize
-    requires { (length held.now ≡ words) × (length made.old ≡ words) × Leads way × (span.at + span.length ≤ places) × (count + span.length ≤ places) }
+    requires { Leads way × (span.at + span.length ≤ places) × (count + span.length ≤ places) }
     ensures { Lists made.old count (passed (passes_of (nodes_from held.now) (way_to way.position) span)) made.new result }
 {
-    let mut i: usize = 0;
-    while i < span.length {
+    for i in 0..span.length {
         set_node(made, count + i, node_in(way, held, span.at + i));
-        i += 1;
     }
     count + span.length
 }
@@ -74,7 +71,7 @@ pub fn list_first(
     made: &mut [u64; ROW],
     count: usize,
 ) -> usize
-    requires { (length held.now ≡ words) × (length made.old ≡ words) × Leads way × (below.at + below.length ≤ places) × (count + below.length < places) }
+    requires { Leads way × (below.at + below.length ≤ places) × (count + below.length < places) }
     ensures { Lists made.old count (to_node n ∷ passed (passes_of (nodes_from held.now) (way_to way.position) below)) made.new result }
 {
     set_node(made, count, n);
@@ -91,7 +88,7 @@ pub fn list_both(
     made: &mut [u64; ROW],
     count: usize,
 ) -> usize
-    requires { (length held.now ≡ words) × (length made.old ≡ words) × Leads way × (first.at + first.length ≤ places) × (second.at + second.length ≤ places) × (count + first.length + second.length < places) }
+    requires { Leads way × (first.at + first.length ≤ places) × (second.at + second.length ≤ places) × (count + first.length + second.length < places) }
     ensures { Lists made.old count (to_node n ∷ (passed (passes_of (nodes_from held.now) (way_to way.position) first) ++ passed (passes_of (nodes_from held.now) (way_to way.position) second))) made.new result }
 {
     let more = list_first(way, held, n, first, made, count);

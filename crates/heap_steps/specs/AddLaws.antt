@@ -76,7 +76,7 @@ module _ (value tag entries limit : ℕ) (root : link.Link) (ws : List ℕ) (cou
       → RisesTo (held_in ws count) (way_to way.position) (to_node n) ws' (to_node top) → {l : link.Link} → to_link l ≡ link_one (to_node top)
       → (to_outcome (record { made = way.depth + 1; root = l; entries = entries + 1; answer = Ok Added }) (nodes_of (held_in ws' (way.depth + 1)))
       ≡ outcome_of (to_link root) entries (resume (add_prog 0 value tag entries limit (to_link root)) (nodes_of (held_in ws count))))
-      × ((way.depth + 1 ≤ places) × (length ws' ≡ words))
+      × (way.depth + 1 ≤ places)
   add-makes m {n} {top} {ws'} e rises f =
       let up = rw (to-next, e) at rises in (
         rw (
@@ -87,5 +87,5 @@ module _ (value tag entries limit : ℕ) (root : link.Link) (ws : List ℕ) (cou
           up.makes,
           add-one entries,
         ),
-        (omega (arith, leads.few), rises.long),
+        omega (arith, leads.few),
       )

@@ -1,9 +1,9 @@
 -- The heap's take on the nodes at hand.
 use Prim.Native.Nat.{ℕ, suc, pred, ◌-◌, ◌≤◌, ◌<◌}
-use Rattle.std.specs.Prelude as code
+use Rattle.std.specs.Result.{result_err}
 use Rattle.std.proofs.Common.{arith, ◌∙◌, ap, eq-eqb, ne_eqb}
 use Rattle.std.proofs.Math.Decide.{dec_lt}
-use Rattle.std.specs.Prelude.{◌≡◌, refl, List, [], drop, get_or, None, Ok, Some}
+use Rattle.std.specs.Prelude.{◌≡◌, refl, List, [], drop, get_or, Result, Ok, Err}
 use Rattle.std.proofs.Math.ListN.{length}
 use Rattle.method_spec.specs.Node.{Link, Node, absent, link_one}
 use Rattle.method_spec.specs.Prog.{Prog, want, start}
@@ -12,13 +12,13 @@ use Rattle.method_spec.specs.Outcome.{Outcome}
 use Rattle.method_spec.specs.Heap.{Reached, way_to, descend, downward, sink, replace_root, take_prog}
 use Rattle.slot_spec.specs.declared.Link as link
 use Rattle.slot_spec.specs.declared.Node as node
-use Rattle.slot_spec.specs.Slot.{no_link, no_node}
+use Rattle.slot_spec.specs.Slot.{no_node}
 use Rattle.slot_spec.specs.Row.{nodes_from}
 use Rattle.leaf_spec.specs.Convert.{to_link, to_node}
 use Rattle.operation_spec.specs.declared.Want as want
 use Rattle.operation_spec.specs.declared.Answer.TheVariants.{Taken}
 use Rattle.operation_spec.specs.Method.{nothing, to_want, to_wanted, to_outcome}
-use Rattle.operations.specs.Resume.{Resumed, missing, finished, resume, resumed_as, follow, wanted_of, outcome_of}
+use Rattle.operations.specs.Resume.{Resumed, missing, finished, resume, follow, wanted_of, outcome_of}
 use Rattle.operations.specs.ResumeLaws.{resume-done, resume-want, resume-missing, resume-bind, resume-map}
 use Rattle.node_rows.specs.Row.{places, words}
 use Rattle.node_rows.specs.Held.{Held, held_in, nodes_of, held_at}
@@ -29,7 +29,7 @@ use Rattle.heap_descent.specs.WayLaws.{descend-missing, descend-end}
 use Rattle.heap_spans.specs.Spans.{pass_in, passes_from}
 use Rattle.heap_spans.specs.SpanLaws.{node-link, node-value, passes_none, passes-next, passes-length, downward-passes}
 use Rattle.heap_sinking.specs.declared.Sinking.{Sinking}
-use Rattle.heap_sinking.specs.Sinking.{sink_all, SinksTo}
+use Rattle.heap_sinking.specs.Sinking.{sink_all, SinksTo, SinksIfHeld}
 
 -- A take's outcome, with those nodes and that root link.
 abbrev pub shrunk : Link ℕ → (entries value : ℕ) → List (Node ℕ) → Outcome ℕ
@@ -110,37 +110,37 @@ module _ (entries : ℕ) (root : link.Link) (ws : List ℕ) (count : ℕ) (long 
     take_last e f =
         rw (f, e) (take-only entries (to_link root) (held_in ws count) (held-room ws long count most) k (omega (arith, deep)) (omega (arith, deep)))
 
-    pub take-clears : way.depth ≡ 0 → {z : node.Node} → z ≡ get_or (nodes_from ws) way.depth no_node → {l : link.Link} → l ≡ no_link → {fewer : ℕ} → fewer ≡ pred entries
+    pub take-clears : way.depth ≡ 0 → {z : node.Node} → z ≡ get_or (nodes_from ws) way.depth no_node → {l : link.Link} → to_link l ≡ absent 0 → {fewer : ℕ} → fewer ≡ pred entries
         → to_outcome (record { made = 0; root = l; entries = fewer; answer = Ok (Taken z.value) }) []
         ≡ outcome_of (to_link root) entries (resume (take_prog 0 entries (to_link root)) (nodes_of (held_in ws count)))
     take-clears e f g fewer = rw (take_last e f, g, fewer)
 
-    module _ (e : way.depth ≡ 0 → ⊥) {z : node.Node} (f : z ≡ get_or (nodes_from ws) way.depth no_node) {ws' : List ℕ} {r : Sinking}
-        (sinks : SinksTo (held_in ws count) (way_to way.position) z.value ws' r) where
+    module _ (e : way.depth ≡ 0 → ⊥) {z : node.Node} (f : z ≡ get_or (nodes_from ws) way.depth no_node) where
       by-sinking : resume (take_prog 0 entries (to_link root)) (nodes_of (held_in ws count))
-          ≡ follow (resumed_as r.wanted (nodes_of (held_in ws' r.made)) (drop r.next (nodes_of (held_in ws count))))
+          ≡ follow (sink_all (held_in ws count) (way_to way.position) z.value)
           (λ out rest. finished (shrunk (link_one (held_at (held_in ws count) 0)) entries (held_at (held_in ws count) 0).value out) rest)
       by-sinking =
           let v : z.value ≡ (held_at (held_in ws count) (length (way_to entries))).value = ap (λ (n : node.Node). n.value) (f ∙ ap (λ (i : ℕ). get_or (nodes_from ws) i no_node) deep) in
           take-sinks entries (to_link root) (held_in ws count) (held-room ws long count most) k (omega (arith, deep)) (λ d. e (deep ∙ d))
-          ∙ ap
-          (λ (x : Resumed ℕ (List (Node ℕ))). follow x (λ out rest. finished (shrunk (link_one (held_at (held_in ws count) 0)) entries (held_at (held_in ws count) 0).value out) rest))
-          (rw (to, v) at sinks).resumes
+          ∙ rw (to, v)
 
-      pub take-wants : wanted_of (resume (take_prog 0 entries (to_link root)) (nodes_of (held_in ws count))) ≡ to_wanted r.wanted
-      take-wants = rw by-sinking (go r.wanted)
-        where
-          go : (w : code.Option want.Want)
-              → wanted_of (follow (resumed_as w (nodes_of (held_in ws' r.made)) (drop r.next (nodes_of (held_in ws count))))
-              (λ out rest. finished (shrunk (link_one (held_at (held_in ws count) 0)) entries (held_at (held_in ws count) 0).value out) rest)) ≡ to_wanted w
-          go None = refl
-          go (Some w) = refl
+      pub take-misses : (w : want.Want) → sink_all (held_in ws count) (way_to way.position) z.value ≡ missing (to_want w)
+          → resume (take_prog 0 entries (to_link root)) (nodes_of (held_in ws count)) ≡ missing (to_want w)
+      take-misses w d = by-sinking ∙ rw d
 
-      pub take-misses : {w : want.Want} → r.wanted ≡ Some w → resume (take_prog 0 entries (to_link root)) (nodes_of (held_in ws count)) ≡ missing (to_want w)
-      take-misses d = by-sinking ∙ rw d
+      module _ {ws' : List ℕ} {r : Sinking} (sinks : SinksTo (held_in ws count) (way_to way.position) z.value ws' r) where
+        taken-all : resume (take_prog 0 entries (to_link root)) (nodes_of (held_in ws count))
+            ≡ finished (shrunk (link_one (held_at (held_in ws count) 0)) entries (held_at (held_in ws count) 0).value (nodes_of (held_in ws' r.made))) (drop r.next (nodes_of (held_in ws count)))
+        taken-all = by-sinking ∙ rw sinks.resumes
 
-      pub take-makes : r.wanted ≡ None → {top : node.Node} → top ≡ get_or (nodes_from ws) 0 no_node → {l : link.Link} → to_link l ≡ link_one (to_node top) → {fewer : ℕ} → fewer ≡ pred entries
-          → (to_outcome (record { made = r.made; root = l; entries = fewer; answer = Ok (Taken top.value) }) (nodes_of (held_in ws' r.made))
-          ≡ outcome_of (to_link root) entries (resume (take_prog 0 entries (to_link root)) (nodes_of (held_in ws count))))
-          × ((r.made ≤ places) × (length ws' ≡ words))
-      take-makes d t u fewer = (rw (by-sinking, d, u, fewer, t), (sinks.few, sinks.long))
+        pub take-makes : {top : node.Node} → top ≡ get_or (nodes_from ws) 0 no_node → {l : link.Link} → to_link l ≡ link_one (to_node top) → {fewer : ℕ} → fewer ≡ pred entries
+            → (to_outcome (record { made = r.made; root = l; entries = fewer; answer = Ok (Taken top.value) }) (nodes_of (held_in ws' r.made))
+            ≡ outcome_of (to_link root) entries (resume (take_prog 0 entries (to_link root)) (nodes_of (held_in ws count))))
+            × (r.made ≤ places)
+        take-makes t u fewer = (rw (taken-all, u, fewer, t), sinks.few)
+
+      -- The node that is missing where the number sinks is wanted.
+      pub take-wants : (ws' : List ℕ) (r : Result Sinking want.Want) → SinksIfHeld (held_in ws count) (way_to way.position) z.value ws' r
+          → to_wanted (result_err r) ≡ wanted_of (resume (take_prog 0 entries (to_link root)) (nodes_of (held_in ws count)))
+      take-wants ws' (Ok r) sinks = rw (taken-all sinks)
+      take-wants ws' (Err w) misses = rw (take-misses w misses)

@@ -1,27 +1,31 @@
 // The heap over the nodes that a call has fetched so far: which node is wanted next, and the step.
 #![tactic(auto)]
 
-ghost use Rattle.std.specs.Prelude.{◌≡◌, ℕ, ◌≤◌, length};
+ghost use Rattle.std.specs.Prelude.{◌≡◌, ℕ, ◌≤◌};
 ghost use Rattle.method_spec.specs.Heap.{add_prog, take_prog};
 ghost use Rattle.leaf_spec.specs.Convert.{to_link};
 ghost use Rattle.operation_spec.specs.Method.{to_outcome, to_wanted};
 ghost use Rattle.operations.specs.Resume.{resume, wanted_of, outcome_of};
-ghost use Rattle.node_rows.specs.Row.{places, words};
+ghost use Rattle.node_rows.specs.Row.{places};
 ghost use Rattle.node_rows.specs.Held.{held_in, nodes_of};
 
-use heap_descent::nodes::link_one;
 use heap_descent::way::{next_on, way_to};
 use heap_rising::rise;
 use heap_sinking::sink;
 use node_rows::{ROW, node_at};
 use operation_spec::{Answer, Full, Outcome, Want};
-use operations::{no_nodes, one_less};
-use slot_fields::no_link;
+use operations::{link_one, no_nodes, one_less};
 use slot_spec::{Link, Node};
 
 // An add wants the nodes of the way to the next position. A full heap's wants none.
-pub fn add_wanted(limit: u16, entries: u16, root: Link, held: &[u64; ROW], count: usize) -> Option<Want>
-    requires { (length held.now ≡ words) × (count ≤ places) }
+pub fn add_wanted(
+    limit: u16,
+    entries: u16,
+    root: Link,
+    held: &[u64; ROW],
+    count: usize,
+) -> Option<Want>
+    requires { count ≤ places }
     ensures { (value tag : ℕ) → to_wanted result ≡ wanted_of (resume (add_prog 0 value tag entries limit (to_link root)) (nodes_of (held_in held.now count))) }
 {
     if entries < limit {
@@ -44,8 +48,8 @@ pub fn add(
     count: usize,
     made: &mut [u64; ROW],
 ) -> Outcome
-    requires { (length held.now ≡ words) × (length made.old ≡ words) × (count ≤ places) }
-    ensures { (to_outcome result (nodes_of (held_in made.new result.made)) ≡ outcome_of (to_link root) entries (resume (add_prog 0 value tag entries limit (to_link root)) (nodes_of (held_in held.now count)))) × ((result.made ≤ places) × (length made.new ≡ words)) }
+    requires { count ≤ places }
+    ensures { (to_outcome result (nodes_of (held_in made.new result.made)) ≡ outcome_of (to_link root) entries (resume (add_prog 0 value tag entries limit (to_link root)) (nodes_of (held_in held.now count)))) × (result.made ≤ places) }
 {
     if entries >= limit {
         return no_nodes(root, entries, Err(Full));
@@ -55,13 +59,12 @@ pub fn add(
     if count < way.depth {
         return no_nodes(root, entries, Ok(Answer::Absent));
     }
-    let none = no_link();
     let n = Node {
-        key: more as u32,
+        key: u32::from(more),
         value,
         tag,
-        left: none,
-        right: none,
+        left: Link::default(),
+        right: Link::default(),
     };
     let top = link_one(rise(n, way, held, made));
     Outcome {
@@ -81,23 +84,21 @@ pub fn take_wanted(
     count: usize,
     made: &mut [u64; ROW],
 ) -> Option<Want>
-    requires { (length held.now ≡ words) × (length made.old ≡ words) × (count ≤ places) }
-    ensures { (to_wanted result ≡ wanted_of (resume (take_prog 0 entries (to_link root)) (nodes_of (held_in held.now count)))) × (length made.new ≡ words) }
+    requires { count ≤ places }
+    ensures { to_wanted result ≡ wanted_of (resume (take_prog 0 entries (to_link root)) (nodes_of (held_in held.now count))) }
 {
     if entries == 0 {
         return None;
     }
     let way = way_to(entries);
-    let last = way.depth;
-    if count <= last {
+    if count <= way.depth {
         return Some(next_on(way, root, held, count));
     }
-    if last == 0 {
+    if way.depth == 0 {
         return None;
     }
-    let z = node_at(held, last);
-    let r = sink(z.value, way, held, count, made);
-    r.wanted
+    let z = node_at(held, way.depth);
+    sink(z.value, way, held, count, made).err()
 }
 
 // The root's number is answered, and the last position's, whose node leaves, sinks from the root.
@@ -108,28 +109,24 @@ pub fn take(
     count: usize,
     made: &mut [u64; ROW],
 ) -> Outcome
-    requires { (length held.now ≡ words) × (length made.old ≡ words) × (count ≤ places) }
-    ensures { (to_outcome result (nodes_of (held_in made.new result.made)) ≡ outcome_of (to_link root) entries (resume (take_prog 0 entries (to_link root)) (nodes_of (held_in held.now count)))) × ((result.made ≤ places) × (length made.new ≡ words)) }
+    requires { count ≤ places }
+    ensures { (to_outcome result (nodes_of (held_in made.new result.made)) ≡ outcome_of (to_link root) entries (resume (take_prog 0 entries (to_link root)) (nodes_of (held_in held.now count)))) × (result.made ≤ places) }
 {
     if entries == 0 {
         return no_nodes(root, entries, Ok(Answer::Empty));
     }
     let way = way_to(entries);
-    let last = way.depth;
-    if count <= last {
+    if count <= way.depth {
         return no_nodes(root, entries, Ok(Answer::Absent));
     }
     let fewer = one_less(entries);
-    let z = node_at(held, last);
-    if last == 0 {
-        let none = no_link();
-        return no_nodes(none, fewer, Ok(Answer::Taken(z.value)));
+    let z = node_at(held, way.depth);
+    if way.depth == 0 {
+        return no_nodes(Link::default(), fewer, Ok(Answer::Taken(z.value)));
     }
-    let r = sink(z.value, way, held, count, made);
-    let wanted = r.wanted;
-    if let Some(_) = wanted {
+    let Ok(r) = sink(z.value, way, held, count, made) else {
         return no_nodes(root, entries, Ok(Answer::Absent));
-    }
+    };
     let top = node_at(held, 0);
     Outcome {
         made: r.made,

@@ -1,7 +1,7 @@
 // The calls of the walk program's input: each is read and made.
 #![tactic(auto)]
 
-ghost use Rattle.std.specs.Prelude.{◌≡◌, ◌*◌, ◌≤◌, length, take, replicate};
+ghost use Rattle.std.specs.Prelude.{◌≡◌, ◌*◌, ◌≤◌, length, take, replicate, IfOk};
 ghost use Rattle.state_spec.specs.Fetching.{rounds_of};
 ghost use Rattle.state_spec.specs.Fit.{largest_size};
 ghost use Rattle.walk_spec.specs.Lines.{most_leaves};
@@ -10,24 +10,18 @@ ghost use Rattle.walk_spec.specs.Walk.{call_in};
 ghost use Rattle.call_spec.specs.Store.{call_ended_as};
 
 use call_draws::{MOST_DRAWS, draws_of, rounds_of};
-use call_spec::{Called, Refusal};
-use operation_spec::Answer;
+use call_spec::Called;
 use state_spec::State;
 use tickets::TICKET_LENGTH;
-use walk_input::{LONGEST_RECORD, arrived, read_tape, record_length};
-use walk_spec::Arrived;
+use walk_input::{LONGEST_RECORD, read_part, read_tape, record_length};
+use walk_spec::Stop;
 
-// The descriptor of the standard input.
-const STDIN_FILENO: i32 = 0;
-
-// Reads the bytes of a call, in pieces of any length, to the start of `input`; how they came.
-pub fn read_record(structure: u8, size: u8, input: &mut [u8]) -> Arrived
+// Reads the bytes of a call to the start of `input`; how they came.
+pub fn read_record(structure: u8, size: u8, input: &mut [u8]) -> Result<(), Stop>
     requires { ((1 ≤ size) × (size ≤ largest_size)) × (longest_record ≤ length input.old) }
     ensures { record_length structure size ≤ length input.new }
 {
-    let wanted = record_length(structure, size);
-    let got = io::read_full(STDIN_FILENO, &mut input[..wanted]);
-    arrived(got, wanted)
+    read_part(&mut input[..record_length(structure, size)])
 }
 
 // Makes the call that stands first in `input`, on a store of a size that stores have, with the first 2F numbers of a fresh trace buffer.
@@ -48,43 +42,12 @@ pub fn call_in(state: State, tree: &mut [u8], input: &[u8], trace: &mut [u16]) -
     )
 }
 
-// How the next call of the input came, the state then and, where it came whole, its reply, how many leaves it revealed, which are
-// the first of the trace buffer, and its peak.
-#[derive(Clone, Copy)]
-pub struct Next {
-    pub came: Arrived,
-    pub state: State,
-    pub reply: Option<Result<Answer, Refusal>>,
-    pub leaves: usize,
-    pub peak: usize,
-}
-
-// Reads the next call and makes it.
-pub fn next_call(state: State, tree: &mut [u8], trace: &mut [u16]) -> Next
+// Reads the next call and makes it. The leaves that it revealed are the first of the trace buffer.
+pub fn next_call(state: State, tree: &mut [u8], trace: &mut [u16]) -> Result<Called, Stop>
     requires { ((1 ≤ state.size) × (state.size ≤ largest_size)) × (trace.old ≡ replicate most_leaves 0) }
-    ensures { (result.state.size ≡ state.size) × (result.leaves ≤ length trace.new) }
+    ensures { IfOk result (λ made. (made.state.size ≡ state.size) × (made.leaves ≤ length trace.new)) }
 {
     let mut input = [0u8; LONGEST_RECORD];
-    let came = read_record(state.structure, state.size, &mut input);
-    match came {
-        Arrived::Whole => {
-            let made = call_in(state, tree, &input, trace);
-            let left = made.state;
-            let reply = Some(made.reply);
-            Next {
-                came,
-                state: left,
-                reply,
-                leaves: made.leaves,
-                peak: made.peak,
-            }
-        }
-        Arrived::End | Arrived::Short => Next {
-            came,
-            state,
-            reply: None,
-            leaves: 0,
-            peak: 0,
-        },
-    }
+    read_record(state.structure, state.size, &mut input)?;
+    Ok(call_in(state, tree, &input, trace))
 }

@@ -1,10 +1,11 @@
 -- The way up, as the code goes it.
-use Rattle.std.specs.Prelude.{ℕ, suc, ◌+◌, ◌*◌, ◌-◌, ◌≤◌, ◌≡◌, List, length, drop}
+use Rattle.std.specs.Prelude.{ℕ, suc, ◌+◌, ◌*◌, ◌-◌, ◌≤◌, ◌≡◌, List, length, drop, Result, MatchResult}
 use Rattle.method_spec.specs.Prog.{start}
 use Rattle.method_spec.specs.Map.{Step, Built}
 use Rattle.slot_spec.specs.declared.Link as link
 use Rattle.leaf_spec.specs.Convert.{to_link}
-use Rattle.operations.specs.Resume.{resume, resumed_as}
+use Rattle.operation_spec.specs.declared.Want as want
+use Rattle.operations.specs.Resume.{resume, finished, Misses}
 use Rattle.node_rows.specs.Row.{places, words}
 use Rattle.node_rows.specs.Held.{Held, held_in, nodes_of}
 use Rattle.map_nodes.specs.declared.Sub as sub
@@ -27,10 +28,14 @@ module _ (key : ℕ) (root : link.Link) (h : Held) (b : Bottom) where
 
   -- What the climb gives: what the method's way up comes to on the held nodes, with room for the nodes at hand too.
   pub record ClimbsTo (ws : List ℕ) (r : Climbed) : Type 0 where
-    pub resumes : resume (way_up key root h b) (drop b.at (nodes_of h)) ≡ resumed_as r.wanted (climbed_in ws r) (drop r.next (nodes_of h))
+    pub resumes : resume (way_up key root h b) (drop b.at (nodes_of h)) ≡ finished (climbed_in ws r) (drop r.next (nodes_of h))
     pub long : length ws ≡ words
     pub room : r.count + weight (to_sub r.sub) ≤ places
     pub low : LowSub 250 (to_sub r.sub)
+
+  -- That, or the node that the way up misses.
+  abbrev pub ClimbsIfHeld : List ℕ → Result Climbed want.Want → Type 0
+  ClimbsIfHeld ws r = MatchResult r (ClimbsTo ws) (Misses (way_up key root h b) (drop b.at (nodes_of h)))
 
   -- With i steps of the path left to climb.
   pub record Climbing (ws : List ℕ) (count : ℕ) (s : sub.Sub) (next i : ℕ) : Type 0 where

@@ -13,7 +13,7 @@ use Rattle.slot_spec.specs.declared.Link as link
 use Rattle.slot_spec.specs.Row.{nodes_from}
 use Rattle.leaf_spec.specs.Convert.{to_link, to_node}
 use Rattle.operation_spec.specs.declared.Want as want
-use Rattle.operations.specs.Resume.{resume, finished, follow, Ends}
+use Rattle.operations.specs.Resume.{resume, finished, follow, Ends, Misses}
 use Rattle.operations.specs.ResumeLaws.{resume-bind}
 use Rattle.node_rows.specs.Row.{places, words}
 use Rattle.node_rows.specs.Heights.{Low, Lows}
@@ -96,7 +96,10 @@ module _ (key : ℕ) (root : link.Link) (h : Held) (b : Bottom) (walks : Walks r
         room = omega (arith, ready.bare, ready.passed);
       }
 
-  module _ {ws : List ℕ} {count : ℕ} {s : sub.Sub} {next i : ℕ} (now : Climbing key root h b ws count s next (suc i)) where
+  module _ {ws : List ℕ} {count : ℕ} {s : sub.Sub} {next i j : ℕ} (more : j ≡ suc i) (before : Climbing key root h b ws count s next j) where
+    now : Climbing key root h b ws count s next (suc i)
+    now = subst (λ (k : ℕ). Climbing key root h b ws count s next k) more before
+
     most : ℕ
     most = 100 + 2 * (b.length - suc i)
 
@@ -122,34 +125,25 @@ module _ (key : ℕ) (root : link.Link) (h : Held) (b : Bottom) (walks : Walks r
           sym now.resumes ∙ rw (path-more key h (start (to_link root)) b.found b.length i, ← at.0)
           (upward-step b.rotating (to_step p) (steps_to key root h b i) (to_sub s) (nodes_of (held_in ws count)) (drop next (nodes_of h)))
 
+      pub climb-missing : (w : want.Want) → Misses (level b.rotating (to_step p) (to_sub s)) (drop next (nodes_of h)) w
+          → Misses (way_up key root h b) (drop b.at (nodes_of h)) w
+      climb-missing w e = resumes-step ∙ rw e
+
       module _ {r : Raised} (raises : Raises (level b.rotating (to_step p) (to_sub s)) h next r) where
-        pub climb-missing : {w : want.Want} → r.wanted ≡ Some w
-            → ClimbsTo key root h b ws (record { wanted = Some w; sub = s; count = count; next = next })
-        climb-missing e =
-            record {
-              resumes = resumes-step ∙ rw (raises.resumes, e);
-              long = now.long;
-              room = omega (arith, now.room, now.within, walks.held.few);
-              low = low-now;
-            }
-
-        made : r.wanted ≡ None → resume (level b.rotating (to_step p) (to_sub s)) (drop next (nodes_of h)) ≡ finished (built_of r) (drop r.next (nodes_of h))
-        made e = raises.resumes ∙ rw e
-
-        kept : r.wanted ≡ None → LevelKept (2 + most) (suc (weight (to_sub s) + length (drop next (nodes_of h)))) (built_of r) (drop r.next (nodes_of h))
+        kept : LevelKept (2 + most) (suc (weight (to_sub s) + length (drop next (nodes_of h)))) (built_of r) (drop r.next (nodes_of h))
         unfolding most
-        kept e =
-            subst (Ends (LevelKept (2 + most) (suc (weight (to_sub s) + length (drop next (nodes_of h)))))) (made e)
+        kept =
+            subst (Ends (LevelKept (2 + most) (suc (weight (to_sub s) + length (drop next (nodes_of h)))))) raises.resumes
             (level-kept most b.rotating (to_step p) (to_sub s) (drop next (nodes_of h))
             (low-more (to_node p.node) at.1 (omega arith)) now.low
             (lows-drop most next (nodes_of h) (lows-more 100 most (omega arith) (nodes_of h) walks.held.low)))
 
         -- Room for the nodes that are done with.
-        pub climb-room : r.wanted ≡ None → count + length (built_of r).out ≤ places
-        climb-room e =
+        pub climb-room : count + length (built_of r).out ≤ places
+        climb-room =
             omega (
               arith,
-              (kept e).room,
+              kept.room,
               now.room,
               now.within,
               walks.held.few,
@@ -159,20 +153,20 @@ module _ (key : ℕ) (root : link.Link) (h : Held) (b : Bottom) (walks : Walks r
               held-length h few,
             )
 
-        pub climb-level : {ws' : List ℕ} {count' : ℕ} → r.wanted ≡ None → Lists ws count (built_of r).out ws' count'
+        pub climb-level : {ws' : List ℕ} {count' : ℕ} → Lists ws count (built_of r).out ws' count'
             → Climbing key root h b ws' count' r.sub r.next i
         unfolding most
-        climb-level e w =
+        climb-level w =
             record {
-              resumes = rw w.first (sym (resumes-step ∙ rw (made e)));
+              resumes = rw w.first (sym (resumes-step ∙ rw raises.resumes));
               long = w.long;
               levels = omega (arith, now.levels);
               within = raises.within;
-              low = low-sub-more (2 + most) (100 + 2 * (b.length - i)) (omega (arith, now.levels)) (to_sub r.sub) (kept e).low;
+              low = low-sub-more (2 + most) (100 + 2 * (b.length - i)) (omega (arith, now.levels)) (to_sub r.sub) kept.low;
               room =
                   omega (
                     arith,
-                    (kept e).room,
+                    kept.room,
                     now.room,
                     now.within,
                     raises.within,
@@ -183,9 +177,10 @@ module _ (key : ℕ) (root : link.Link) (h : Held) (b : Bottom) (walks : Walks r
                   );
             }
 
-  pub climb-end : {ws : List ℕ} {count : ℕ} {s : sub.Sub} {next : ℕ} → Climbing key root h b ws count s next 0
-      → ClimbsTo key root h b ws (record { wanted = None; sub = s; count = count; next = next })
-  climb-end {ws} {count} {s} {next} now =
+  pub climb-end : {ws : List ℕ} {count : ℕ} {s : sub.Sub} {next i : ℕ} → i ≡ 0 → Climbing key root h b ws count s next i
+      → ClimbsTo key root h b ws (record { sub = s; count = count; next = next })
+  climb-end {ws} {count} {s} {next} e last =
+      let now = subst (λ (k : ℕ). Climbing key root h b ws count s next k) e last in
       record {
         resumes = sym now.resumes ∙ rw path-none (upward-end b.rotating (to_sub s) (nodes_of (held_in ws count)) (drop next (nodes_of h)));
         long = now.long;

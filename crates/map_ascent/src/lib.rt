@@ -9,7 +9,7 @@ ghost use Rattle.map_nodes.specs.Method.{to_kid};
 ghost use Rattle.rotations.specs.Raise.{list_of};
 ghost use Rattle.map_descent.specs.Walk.{Walks};
 ghost use Rattle.map_changes.specs.Bottom.{BottomReady};
-ghost use Rattle.map_ascent.specs.Climb.{ClimbsTo};
+ghost use Rattle.map_ascent.specs.Climb.{ClimbsIfHeld};
 
 use map_changes::Bottom;
 use map_descent::path_steps::step_to;
@@ -38,26 +38,21 @@ fn list_level(made: &mut [u64; ROW], count: usize, aside: Option<Node>, others: 
     requires { (length made.old ≡ words) × (count + length (listed (to_kid aside) ++ list_of others) ≤ places) }
     ensures { Lists made.old count (listed (to_kid aside) ++ list_of others) made.new result }
 {
-    let left = others.left;
-    let right = others.right;
-    let top = others.top;
     let first = list_kid(made, count, aside);
-    let second = list_kid(made, first, left);
-    let third = list_kid(made, second, right);
-    list_kid(made, third, top)
+    let second = list_kid(made, first, others.left);
+    let third = list_kid(made, second, others.right);
+    list_kid(made, third, others.top)
 }
 
-// A climb: the subtree at hand at its end, how many nodes are done with, and how many fetched nodes are taken; or the node
-// that is missing.
+// A climb: the subtree at hand at its end, how many nodes are done with, and how many fetched nodes are taken.
 #[derive(Clone, Copy)]
 pub struct Climbed {
-    pub wanted: Option<Want>,
     pub sub: Sub,
     pub count: usize,
     pub next: usize,
 }
 
-// The climb over the path to the bottom, its lowest step first.
+// The climb over the path to the bottom, its lowest step first, unless a node is missing.
 pub fn climb(
     b: Bottom,
     key: u32,
@@ -65,37 +60,23 @@ pub fn climb(
     held: &[u64; ROW],
     count: usize,
     made: &mut [u64; ROW],
-) -> Climbed
-    requires { (length held.now ≡ words) × (length made.old ≡ words) × Walks root (held_in held.now count) × BottomReady key root (held_in held.now count) b }
-    ensures { ClimbsTo key root (held_in held.now count) b made.new result }
+) -> Result<Climbed, Want>
+    requires { Walks root (held_in held.now count) × BottomReady key root (held_in held.now count) b }
+    ensures { ClimbsIfHeld key root (held_in held.now count) b made.new result }
 {
-    let mut done: usize = 0;
+    let mut done = 0;
     let mut sub = b.sub;
     let mut next = b.at;
-    let mut i = b.length;
-    while i > 0 {
-        i -= 1;
+    for i in (0..b.length).rev() {
         let p = step_to(key, root, held, count, b.found, b.length, i);
-        let r = raise_or_rest(b.rotating, p, sub, held, count, next);
-        let wanted = r.wanted;
-        if let Some(w) = wanted {
-            return Climbed {
-                wanted: Some(w),
-                sub,
-                count: done,
-                next,
-            };
-        }
-        let aside = r.aside;
-        let others = r.others;
-        done = list_level(made, done, aside, others);
+        let r = raise_or_rest(b.rotating, p, sub, held, count, next)?;
+        done = list_level(made, done, r.aside, r.others);
         sub = r.sub;
         next = r.next;
     }
-    Climbed {
-        wanted: None,
+    Ok(Climbed {
         sub,
         count: done,
         next,
-    }
+    })
 }

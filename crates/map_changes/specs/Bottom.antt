@@ -1,6 +1,5 @@
 -- Where the way up starts, as the code says it.
-use Rattle.std.specs.Prelude.{ℕ, ◌+◌, ◌≤◌, ◌≡◌, [], Bool, true, false, get_or, drop, None, Ok, Some}
-use Rattle.std.specs.Prelude as code
+use Rattle.std.specs.Prelude.{ℕ, ◌+◌, ◌≤◌, ◌≡◌, [], Bool, true, get_or, drop, Result, Ok, MatchResult}
 use Rattle.method_spec.specs.Prog.{Prog, done, bind, start}
 use Rattle.method_spec.specs.Outcome.{Outcome}
 use Rattle.method_spec.specs.Map.{Built, finish}
@@ -8,12 +7,12 @@ use Rattle.slot_spec.specs.declared.Link as link
 use Rattle.slot_spec.specs.declared.Node as node
 use Rattle.operation_spec.specs.declared.Want as want
 use Rattle.map_nodes.specs.declared.Sub.TheVariants.{Stub}
-use Rattle.operation_spec.specs.declared.Answer.TheVariants.{Absent, Removed}
+use Rattle.operation_spec.specs.declared.Answer.TheVariants.{Removed}
 use Rattle.map_nodes.specs.declared.Sub as sub
 use Rattle.slot_spec.specs.Slot.{no_link, no_node}
 use Rattle.leaf_spec.specs.Convert.{to_link}
 use Rattle.operation_spec.specs.Method.{to_step_answer}
-use Rattle.operations.specs.Resume.{resume, unless_missing}
+use Rattle.operations.specs.Resume.{resume, Misses}
 use Rattle.node_rows.specs.Held.{Held, nodes_of}
 use Rattle.map_nodes.specs.Method.{to_sub}
 use Rattle.map_nodes.specs.Upward.{weight, upward}
@@ -23,25 +22,10 @@ use Rattle.map_descent.specs.PathTo.{path_to}
 use Rattle.operation_spec.specs.declared.Answer as answer
 use Rattle.operation_spec.specs.declared.Full.{Full}
 
--- The code's three forms: a node is missing; the path ends at the node with the key, or where it would be; the path goes
--- past that node.
-abbrev pub unfinished_at : want.Want → Bottom
-unfinished_at w =
-    record {
-      wanted = Some w;
-      rotating = false;
-      sub = Stub w.link;
-      found = 0;
-      length = 0;
-      at = 0;
-      entries = 0;
-      answer = Ok Absent;
-    }
-
-abbrev pub bottom_at : Bool → sub.Sub → (length at entries : ℕ) → code.Result answer.Answer Full → Bottom
+-- The code's two forms: the path ends at the node with the key, or where it would be; the path goes past that node.
+abbrev pub bottom_at : Bool → sub.Sub → (length at entries : ℕ) → Result answer.Answer Full → Bottom
 bottom_at rotating b length at entries a =
     record {
-      wanted = None;
       rotating = rotating;
       sub = b;
       found = length;
@@ -58,10 +42,9 @@ leaf_of key value tag = record { value = value; key = key; tag = tag; left = no_
 abbrev pub valued : ℕ → node.Node → node.Node
 valued value n = record { value = value; key = n.key; tag = n.tag; left = n.left; right = n.right }
 
-abbrev pub past_found : code.Option want.Want → (last found entries value : ℕ) → Held → Bottom
-past_found None last found entries value h =
+abbrev pub past_found : (last found entries value : ℕ) → Held → Bottom
+past_found last found entries value h =
     record {
-      wanted = None;
       rotating = true;
       sub = Stub (get_or h.nodes last no_node).right;
       found = found;
@@ -70,7 +53,6 @@ past_found None last found entries value h =
       entries = entries;
       answer = Ok (Removed value);
     }
-past_found (Some w) last found entries value h = unfinished_at w
 
 module _ (key : ℕ) (root : link.Link) (h : Held) where
   -- The way up from there, and what comes of it.
@@ -87,7 +69,11 @@ module _ (key : ℕ) (root : link.Link) (h : Held) where
     pub low : LowSub 100 (to_sub r.sub)
     pub bare : weight (to_sub r.sub) ≡ 1
 
-  -- The program, on the held nodes, misses that node, or goes up from there.
+  -- The program, on the held nodes, goes up from there.
   pub record StartsUp (p : Prog ℕ (Outcome ℕ)) (r : Bottom) : Type 0 where
-    pub resumes : resume p (nodes_of h) ≡ unless_missing r.wanted (resume (up_from r) (drop r.at (nodes_of h)))
-    pub ready : r.wanted ≡ None → BottomReady r
+    pub resumes : resume p (nodes_of h) ≡ resume (up_from r) (drop r.at (nodes_of h))
+    pub ready : BottomReady r
+
+  -- That, or the node that the program misses.
+  abbrev pub StartsIfHeld : Prog ℕ (Outcome ℕ) → Result Bottom want.Want → Type 0
+  StartsIfHeld p r = MatchResult r (StartsUp p) (Misses p (nodes_of h))

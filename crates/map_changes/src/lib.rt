@@ -1,23 +1,20 @@
 // Where an operation of the map changes it, and what it changes: the subtree there, and the answer.
 #![tactic(auto)]
 
-ghost use Rattle.std.specs.Prelude.{◌≡◌, true, false, ◌+◌, ◌<◌, length};
-ghost use Rattle.node_rows.specs.Row.{words, fetches};
-ghost use Rattle.node_rows.specs.Held.{held_in, HeldFrom};
-ghost use Rattle.map_changes.specs.Bottom.{unfinished_at, bottom_at, leaf_of, valued, past_found};
+ghost use Rattle.std.specs.Prelude.{◌≡◌, ℕ, true, false, ◌+◌, ◌<◌};
+ghost use Rattle.node_rows.specs.Row.{places, fetches};
+ghost use Rattle.node_rows.specs.Held.{held_in};
+ghost use Rattle.map_changes.specs.Bottom.{bottom_at, leaf_of, valued, past_found};
 
-use map_descent::descend::Lowest;
 use map_nodes::Sub;
 use node_rows::{ROW, node_at};
 use operation_spec::{Answer, Full, Want};
-use slot_fields::no_link;
 use slot_spec::{Link, Node};
 
 // Where the way up starts: the subtree there, the path to it over the first fetched nodes (see path_steps), how many
-// fetched nodes are taken so far, and what the step makes of the entries and answers; or the node that is missing.
+// fetched nodes are taken so far, and what the step makes of the entries and answers.
 #[derive(Clone, Copy)]
 pub struct Bottom {
-    pub wanted: Option<Want>,
     pub rotating: bool,
     pub sub: Sub,
     pub found: usize,
@@ -25,23 +22,6 @@ pub struct Bottom {
     pub at: usize,
     pub entries: u16,
     pub answer: Result<Answer, Full>,
-}
-
-// The node that is missing.
-pub fn unfinished(want: Want) -> Bottom
-    ensures { result ≡ unfinished_at want }
-{
-    let link = want.link;
-    Bottom {
-        wanted: Some(want),
-        rotating: false,
-        sub: Sub::Stub(link),
-        found: 0,
-        length: 0,
-        at: 0,
-        entries: 0,
-        answer: Ok(Answer::Absent),
-    }
 }
 
 // A subtree at the end of a path of that length.
@@ -56,7 +36,6 @@ fn bottom_at(
     ensures { result ≡ bottom_at rotating sub length at entries answer }
 {
     Bottom {
-        wanted: None,
         rotating,
         sub,
         found: length,
@@ -71,8 +50,7 @@ fn bottom_at(
 pub fn at_gap(want: Want, depth: usize, entries: u16, answer: Result<Answer, Full>) -> Bottom
     ensures { result ≡ bottom_at false (Sub.Stub want.link) depth depth entries answer }
 {
-    let link = want.link;
-    bottom_at(false, Sub::Stub(link), depth, depth, entries, answer)
+    bottom_at(false, Sub::Stub(want.link), depth, depth, entries, answer)
 }
 
 // The node with the key, as it is.
@@ -84,49 +62,32 @@ pub fn at_node(n: Node, depth: usize, entries: u16, answer: Result<Answer, Full>
     bottom_at(false, sub, depth, depth + 1, entries, answer)
 }
 
-// The place of the next larger key's node: its right link takes that, and its entry goes to the node `found`.
-pub fn past_found(
-    y: Lowest,
-    found: usize,
-    entries: u16,
-    value: u64,
-    held: &[u64; ROW],
-    count: usize,
-) -> Bottom
-    requires { (length held.now ≡ words) × HeldFrom 100 (held_in held.now count) 0 × (y.wanted ≡ None → y.last < count) }
-    ensures { result ≡ past_found y.wanted y.last found entries value (held_in held.now count) }
+// The place of the next larger key's node, number `last`: its right link takes that, and its entry goes to the node `found`.
+pub fn past_found(last: usize, found: usize, entries: u16, value: u64, held: &[u64; ROW]) -> Bottom
+    requires { last < places }
+    ensures { (count : ℕ) → result ≡ past_found last found entries value (held_in held.now count) }
 {
-    let wanted = y.wanted;
-    match wanted {
-        Some(w) => unfinished(w),
-        None => {
-            let last = y.last;
-            let m = node_at(held, last);
-            let right = m.right;
-            Bottom {
-                wanted: None,
-                rotating: true,
-                sub: Sub::Stub(right),
-                found,
-                length: last,
-                at: last + 1,
-                entries,
-                answer: Ok(Answer::Removed(value)),
-            }
-        }
+    let m = node_at(held, last);
+    Bottom {
+        rotating: true,
+        sub: Sub::Stub(m.right),
+        found,
+        length: last,
+        at: last + 1,
+        entries,
+        answer: Ok(Answer::Removed(value)),
     }
 }
 
 pub fn leaf(key: u32, value: u64, tag: u16) -> Node
     ensures { result ≡ leaf_of key value tag }
 {
-    let none = no_link();
     Node {
         value,
         key,
         tag,
-        left: none,
-        right: none,
+        left: Link::default(),
+        right: Link::default(),
     }
 }
 
@@ -137,14 +98,7 @@ pub fn added(key: u32, value: u64, tag: u16, depth: usize, entries: u16) -> Bott
 {
     let n = leaf(key, value, tag);
     let sub = Sub::Top(n, None, None);
-    bottom_at(
-        true,
-        sub,
-        depth,
-        depth,
-        entries + 1,
-        Ok(Answer::New),
-    )
+    bottom_at(true, sub, depth, depth, entries + 1, Ok(Answer::New))
 }
 
 // The node with the key, with the new value.

@@ -1,16 +1,19 @@
 -- The walk down, by the numbers of the fetched nodes.
-use Rattle.std.specs.Prelude.{ℕ, zero, suc, ◌≤◌, ◌<◌, ◌≡◌, Bool, true, List, [], ◌∷◌, ltb, drop, None}
+use Rattle.std.specs.Prelude.{ℕ, zero, suc, ◌≤◌, ◌<◌, ◌≡◌, Bool, true, List, [], ◌∷◌, ltb, drop, get_or, None, Some, MatchResult}
+use Rattle.std.specs.Prelude as code
 use Rattle.list_spec.specs.Choice.{pick}
-use Rattle.method_spec.specs.Prog.{Want, Prog, want}
+use Rattle.method_spec.specs.Prog.{Want, Prog}
+use Rattle.method_spec.specs.Prog as prog
 use Rattle.method_spec.specs.Map.{Step, Spot, gap, hit, Lowest, step_at, below, walk, lowest}
 use Rattle.slot_spec.specs.declared.Link as link
+use Rattle.slot_spec.specs.declared.Node as node
+use Rattle.slot_spec.specs.Slot.{no_node}
+use Rattle.leaf_spec.specs.Convert.{to_node}
+use Rattle.operation_spec.specs.declared.Want as want
 use Rattle.operation_spec.specs.Method.{to_want}
-use Rattle.operations.specs.Resume.{Resumed, missing, finished, resume, resumed_as}
+use Rattle.operations.specs.Resume.{Resumed, finished, resume, Misses}
 use Rattle.node_rows.specs.Held.{Held, nodes_of, held_at, HeldFrom}
-use Rattle.map_descent.specs.declared.descend.End.{End}
-use Rattle.map_descent.specs.declared.descend.End.TheVariants.{Missing, Gap, Hit}
 use Rattle.map_descent.specs.declared.descend.Descent.{Descent}
-use Rattle.map_descent.specs.declared.descend.Lowest as search
 
 -- What the walk asks of the root link and the held nodes.
 pub record Walks (root : link.Link) (h : Held) : Type 0 where
@@ -38,22 +41,30 @@ by_key key h i = ltb key (held_at h i).key
 
 module _ (key : ℕ) (h : Held) (w₀ : Want ℕ) where
   -- What a descent says of the method's walk.
-  abbrev pub spot_of : End → Want ℕ → ℕ → Resumed ℕ (Spot ℕ)
-  spot_of Missing w depth = missing w
-  spot_of Gap w depth = finished (gap w.link (trail h w₀ (by_key key h) depth)) (drop depth (nodes_of h))
-  spot_of Hit w depth = finished (hit w (held_at h depth) (trail h w₀ (by_key key h) depth)) (drop (suc depth) (nodes_of h))
+  abbrev pub spot_of : code.Option node.Node → Want ℕ → ℕ → Resumed ℕ (Spot ℕ)
+  spot_of None w depth = finished (gap w.link (trail h w₀ (by_key key h) depth)) (drop depth (nodes_of h))
+  spot_of (Some n) w depth = finished (hit w (to_node n) (trail h w₀ (by_key key h) depth)) (drop (suc depth) (nodes_of h))
 
-  abbrev pub Reached : End → ℕ → Type 0
-  Reached Missing depth = Unit
-  Reached Gap depth = depth ≤ h.count
-  Reached Hit depth = depth < h.count
+  abbrev pub Reached : code.Option node.Node → ℕ → Type 0
+  Reached None depth = depth ≤ h.count
+  Reached (Some n) depth = (depth < h.count) × (n ≡ get_or h.nodes depth no_node)
 
   -- The walk from w₀ comes to that end.
   pub record DescendsTo (fuel : ℕ) (r : Descent) : Type 0 where
-    pub resumes : resume (walk key fuel w₀ []) (nodes_of h) ≡ spot_of r.end (to_want r.want) r.depth
+    pub resumes : resume (walk key fuel w₀ []) (nodes_of h) ≡ spot_of r.node (to_want r.want) r.depth
     pub wanted : to_want r.want ≡ want_at h w₀ (by_key key h) r.depth
-    pub reached : Reached r.end r.depth
+    pub reached : Reached r.node r.depth
     pub low : (to_want r.want).link.height ≤ 100
+
+  -- The walk passes all held nodes, and misses the next.
+  pub record DescendsPast (fuel : ℕ) (w : want.Want) : Type 0 where
+    pub misses : Misses (walk key fuel w₀ []) (nodes_of h) w
+    pub wanted : to_want w ≡ want_at h w₀ (by_key key h) h.count
+    pub low : (to_want w).link.height ≤ 100
+
+  -- One or the other.
+  abbrev pub Descends : ℕ → code.Result Descent want.Want → Type 0
+  Descends fuel r = MatchResult r (DescendsTo fuel) (DescendsPast fuel)
 
   -- The walk after i nodes.
   pub record Descending (fuel₀ : ℕ) (w : Want ℕ) (fuel i : ℕ) : Type 0 where
@@ -77,15 +88,24 @@ module _ (h : Held) (w₀ : Want ℕ) (ways : ℕ → Bool) (found : ℕ) where
 
 -- The lowest node from w on.
 abbrev pub lowest_from : ℕ → Want ℕ → List (Step ℕ) → Prog ℕ (Lowest ℕ)
-lowest_from fuel w path = want w (λ m. lowest fuel w m path)
+lowest_from fuel w path = prog.want w (λ m. lowest fuel w m path)
 
 module _ (h : Held) (found : ℕ) (w : Want ℕ) (fuel : ℕ) where
-  -- The search from w after the node `found` comes to the node `last`, or misses one.
-  pub record LowersTo (r : search.Lowest) : Type 0 where
+  -- The search from w after the node `found` comes to the node `last`.
+  pub record LowersTo (last : ℕ) : Type 0 where
     pub resumes : (w₀ : Want ℕ) (ways : ℕ → Bool) → LeftFrom h w₀ ways found w
         → resume (lowest_from fuel w []) (drop (suc found) (nodes_of h))
-        ≡ resumed_as r.wanted (record { node = held_at h r.last; path = after h w₀ ways found r.last }) (drop (suc r.last) (nodes_of h))
-    pub reached : r.wanted ≡ None → (found < r.last) × (r.last < h.count)
+        ≡ finished (record { node = held_at h last; path = after h w₀ ways found last }) (drop (suc last) (nodes_of h))
+    pub past : found < last
+    pub within : last < h.count
+
+  -- It misses that node.
+  pub record LowersPast (v : want.Want) : Type 0 where
+    pub misses : (w₀ : Want ℕ) (ways : ℕ → Bool) → LeftFrom h w₀ ways found w → Misses (lowest_from fuel w []) (drop (suc found) (nodes_of h)) v
+
+  -- One or the other.
+  abbrev pub Lowers : code.Result ℕ want.Want → Type 0
+  Lowers r = MatchResult r LowersTo LowersPast
 
   -- The search with the node i to come.
   pub record Lowering (v : Want ℕ) (left i : ℕ) : Type 0 where

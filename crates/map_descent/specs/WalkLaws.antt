@@ -1,7 +1,7 @@
 -- The walk down turn by turn.
-use Prim.Native.Nat.{ℕ, zero, suc, ◌+◌, ◌-◌, ◌≤◌, ◌<◌}
+use Prim.Native.Nat.{ℕ, zero, suc, ◌+◌, ◌≤◌, ◌<◌}
 use Rattle.std.proofs.Common.{arith, add-one, ◌∙◌, subst, eq-eqb, ne_eqb}
-use Rattle.std.specs.Prelude.{◌≡◌, Bool, List, [], ◌∷◌, ltb, length, drop}
+use Rattle.std.specs.Prelude.{◌≡◌, Bool, List, [], ◌∷◌, ltb, length, drop, get_or, None, Some}
 use Rattle.std.proofs.Math.Path.{refl, sym, ap}
 use Rattle.method_spec.specs.Node.{Node}
 use Rattle.method_spec.specs.Prog.{Want}
@@ -13,9 +13,9 @@ use Rattle.operations.specs.ResumeLaws.{resume-done, resume-want, resume-missing
 use Rattle.node_rows.specs.Held.{Held, nodes_of, held_at, HeldFrom}
 use Rattle.node_rows.specs.HeldLaws.{held_next, held_none, held_low}
 use Rattle.map_nodes.specs.HeightLaws.{low-child}
-use Rattle.map_descent.specs.declared.descend.Descent.{Descent}
-use Rattle.map_descent.specs.declared.descend.End.TheVariants.{Missing, Gap, Hit}
-use Rattle.map_descent.specs.Walk.{want_at, passed, trail, by_key, DescendsTo, Descending}
+use Rattle.slot_spec.specs.declared.Node as node
+use Rattle.slot_spec.specs.Slot.{no_node}
+use Rattle.map_descent.specs.Walk.{want_at, passed, trail, by_key, DescendsTo, DescendsPast, Descending}
 
 -- ---- the method's walk on the nodes at hand
 
@@ -68,19 +68,18 @@ module _ (h : Held) (w₀ : Want ℕ) (ways : ℕ → Bool) where
 pub held_fits : {h : Held} → HeldFrom 100 h 0 → h.count ≤ length h.nodes
 held_fits from = omega (arith, from.places, from.few)
 
-pub descend-start : (key : ℕ) (h : Held) (w₀ : Want ℕ) (fuel₀ : ℕ) → w₀.link.height ≤ 100 → Descending key h w₀ fuel₀ w₀ fuel₀ 0
-descend-start key h w₀ fuel₀ l =
+pub descend-start : (key : ℕ) (h : Held) (w₀ : Want ℕ) (fuel₀ : ℕ) {v : Want ℕ} {left : ℕ} → v ≡ w₀ → left ≡ fuel₀ → w₀.link.height ≤ 100
+    → Descending key h w₀ fuel₀ v left 0
+descend-start key h w₀ fuel₀ e f l =
+    rw (e, f)
     record { resumes = rw (trail-none h w₀ (by_key key h)); wanted = sym (want-first h w₀ (by_key key h)); within = omega arith; low = l }
 
 module _ {key : ℕ} {h : Held} {w₀ : Want ℕ} {fuel₀ : ℕ} where
-  pub descends-from : {v : Want ℕ} {r : Descent} → w₀ ≡ v → DescendsTo key h w₀ fuel₀ r → DescendsTo key h v fuel₀ r
-  descends-from {r = r} e = subst (λ (u : Want ℕ). DescendsTo key h u fuel₀ r) e
-
   module _ (from : HeldFrom 100 h 0) (w : want.Want) {fuel i : ℕ} (now : Descending key h w₀ fuel₀ (to_want w) fuel i) where
     path : List (Step ℕ)
     path = trail h w₀ (by_key key h) i
 
-    pub descend-gap : w.link.height ≡ 0 → DescendsTo key h w₀ fuel₀ (record { want = w; depth = i; end = Gap })
+    pub descend-gap : w.link.height ≡ 0 → DescendsTo key h w₀ fuel₀ (record { want = w; depth = i; node = None })
     unfolding path
     descend-gap e =
         record {
@@ -90,9 +89,10 @@ module _ {key : ℕ} {h : Held} {w₀ : Want ℕ} {fuel₀ : ℕ} where
           low = now.low;
         }
 
-    pub descend-spent : fuel ≡ 0 → DescendsTo key h w₀ fuel₀ (record { want = w; depth = i; end = Gap })
+    pub descend-spent : {depth : ℕ} → fuel ≡ 0 → depth ≡ i → DescendsTo key h w₀ fuel₀ (record { want = w; depth = depth; node = None })
     unfolding path
-    descend-spent e =
+    descend-spent e d =
+        rw d
         record {
           resumes = sym now.resumes ∙ rw e (walk-spent key (to_want w) path (drop i (nodes_of h)));
           wanted = now.wanted;
@@ -100,17 +100,13 @@ module _ {key : ℕ} {h : Held} {w₀ : Want ℕ} {fuel₀ : ℕ} where
           low = now.low;
         }
 
-    module _ (more : 0 < fuel) (e : w.link.height ≡ 0 → ⊥) where
-      one_more : fuel ≡ suc (fuel - 1)
-      one_more = omega arith
-
-      pub descend-missing : i ≡ h.count → DescendsTo key h w₀ fuel₀ (record { want = w; depth = i; end = Missing })
+    module _ (less : ℕ) (more : fuel ≡ suc less) (e : w.link.height ≡ 0 → ⊥) where
+      pub descend-missing : i ≡ h.count → DescendsPast key h w₀ fuel₀ w
       unfolding path
       descend-missing k =
           record {
-            resumes = sym now.resumes ∙ rw (one_more, held_none h i (omega arith) (held_fits from)) (walk-missing key (to_want w) path (fuel - 1) e);
-            wanted = now.wanted;
-            reached = tt;
+            misses = sym now.resumes ∙ rw (more, held_none h i (omega arith) (held_fits from)) (walk-missing key (to_want w) path less e);
+            wanted = subst (λ (j : ℕ). to_want w ≡ want_at h w₀ (by_key key h) j) k now.wanted;
             low = now.low;
           }
 
@@ -118,29 +114,31 @@ module _ {key : ℕ} {h : Held} {w₀ : Want ℕ} {fuel₀ : ℕ} where
         here : i < h.count
         here = omega (arith, now.within)
 
-        pub descend-hit : key ≡ (held_at h i).key → DescendsTo key h w₀ fuel₀ (record { want = w; depth = i; end = Hit })
+        pub descend-hit : {n : node.Node} → n ≡ get_or h.nodes i no_node → key ≡ n.key
+            → DescendsTo key h w₀ fuel₀ (record { want = w; depth = i; node = Some n })
         unfolding path
-        descend-hit d =
+        descend-hit f d =
             record {
               resumes =
                   sym now.resumes
-                  ∙ rw (one_more, held_next h i here (held_fits from)) (walk-hit key (to_want w) path (fuel - 1) e (held_at h i) (drop (suc i) (nodes_of h)) d);
+                  ∙ rw (more, held_next h i here (held_fits from), f)
+                  (walk-hit key (to_want w) path less e (held_at h i) (drop (suc i) (nodes_of h)) (rw f at d));
               wanted = now.wanted;
-              reached = here;
+              reached = (here, f);
               low = now.low;
             }
 
         at_head : resume (walk key fuel (to_want w) path) (drop i (nodes_of h))
-            ≡ resume (walk key (suc (fuel - 1)) (to_want w) path) (held_at h i ∷ drop (suc i) (nodes_of h))
+            ≡ resume (walk key (suc less) (to_want w) path) (held_at h i ∷ drop (suc i) (nodes_of h))
         at_head =
-            ap (λ (f : ℕ). resume (walk key f (to_want w) path) (drop i (nodes_of h))) one_more
-            ∙ ap (resume (walk key (suc (fuel - 1)) (to_want w) path)) (held_next h i here (held_fits from))
+            ap (λ (f : ℕ). resume (walk key f (to_want w) path) (drop i (nodes_of h))) more
+            ∙ ap (resume (walk key (suc less) (to_want w) path)) (held_next h i here (held_fits from))
 
         pub descend-turn : {v : Want ℕ} → (key ≡ (held_at h i).key → ⊥) → v ≡ below (step_at (to_want w) (held_at h i) (by_key key h i))
-            → Descending key h w₀ fuel₀ v (fuel - 1) (i + 1)
+            → Descending key h w₀ fuel₀ v less (i + 1)
         unfolding path
         descend-turn d f =
-            let on = walk-on key (to_want w) path (fuel - 1) e (held_at h i) (drop (suc i) (nodes_of h)) d in
+            let on = walk-on key (to_want w) path less e (held_at h i) (drop (suc i) (nodes_of h)) d in
             record {
               resumes =
                   rw (add-one i, trail-next h w₀ (by_key key h) i, ← now.wanted, f)

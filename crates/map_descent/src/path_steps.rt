@@ -1,11 +1,10 @@
 // The steps of a walk down that has come to its end, one by one.
-ghost use Rattle.std.specs.Prelude.{◌≡◌, ◌≤◌, ◌<◌, ltb, length};
+ghost use Rattle.std.specs.Prelude.{◌≡◌, ◌≤◌, ◌<◌, ltb};
 ghost use Rattle.list_spec.specs.Choice.{pick};
 ghost use Rattle.method_spec.specs.Prog as prog;
 ghost use Rattle.method_spec.specs.Map as map;
 ghost use Rattle.leaf_spec.specs.Convert.{to_link, to_node};
 ghost use Rattle.node_rows.specs.Heights.{Low};
-ghost use Rattle.node_rows.specs.Row.{words};
 ghost use Rattle.node_rows.specs.Held.{held_in};
 ghost use Rattle.map_nodes.specs.Method.{to_step};
 ghost use Rattle.map_descent.specs.Walk.{Walks};
@@ -22,37 +21,24 @@ use slot_spec::{Link, Node};
 fn goes_left(key: u32, found: usize, i: usize, n: Node) -> bool
     ensures { result ≡ pick (ltb i found) (ltb key n.key) (ltb found i) }
 {
-    if i < found {
-        return key < n.key;
-    }
-    found < i
+    if i < found { key < n.key } else { found < i }
 }
 
 // The step, where it stands at the node that is removed with the entry of the next larger key's node for its own.
 fn exchanged(p: Step, here: bool, y: Node) -> Step
     ensures { to_step result ≡ pick here (map.swapped (to_step p) (to_node y)) (to_step p) }
 {
-    if here {
-        let left = p.node.left;
-        let right = p.node.right;
-        let low = p.low;
-        let high = p.high;
-        let node = Node {
-            key: y.key,
-            value: y.value,
-            tag: y.tag,
-            left,
-            right,
-        };
-        return Step {
-            node,
-            was: p.was,
-            left: p.left,
-            low,
-            high,
-        };
+    if !here {
+        return p;
     }
-    p
+    Step {
+        node: Node {
+            left: p.node.left,
+            right: p.node.right,
+            ..y
+        },
+        ..p
+    }
 }
 
 // The step over the fetched node i of a path over the first fetched nodes, as many as `last` says. Where the path goes past
@@ -66,15 +52,13 @@ pub fn step_to(
     last: usize,
     i: usize,
 ) -> Step
-    requires { (length held.now ≡ words) × Walks root (held_in held.now count) × (i < last) × (last ≤ count) }
+    requires { Walks root (held_in held.now count) × (i < last) × (last ≤ count) }
     ensures { (to_step result ≡ step_to key (held_in held.now count) (prog.start (to_link root)) found last i) × Low 100 (to_node result.node) }
 {
     let mut want = start(root);
-    let mut j: usize = 0;
-    while j < i {
+    for j in 0..i {
         let n = node_at(held, j);
         want = below(step_at(want, n, goes_left(key, found, j, n)));
-        j += 1;
     }
     let n = node_at(held, i);
     let y = node_at(held, last);

@@ -4,7 +4,6 @@ ghost use Rattle.method_spec.specs.Map as map;
 ghost use Rattle.leaf_spec.specs.Convert.{to_node};
 ghost use Rattle.operation_spec.specs.Method.{to_bound, to_want};
 
-use super::sides::taller;
 use map_balance::is_tall;
 use operation_spec::Want;
 use slot_spec::Node;
@@ -13,20 +12,11 @@ use slot_spec::Node;
 fn is_between(low: Option<u32>, high: Option<u32>, key: u32) -> bool
     ensures { result ≡ map.between (to_bound low) (to_bound high) key }
 {
-    match low {
-        None => match high {
-            None => true,
-            Some(b) => key < b,
-        },
-        Some(a) => match high {
-            None => a < key,
-            Some(b) => {
-                if a < key {
-                    return key < b;
-                }
-                false
-            }
-        },
+    match (low, high) {
+        (None, None) => true,
+        (Some(a), None) => a < key,
+        (None, Some(b)) => key < b,
+        (Some(a), Some(b)) => a < key && key < b,
     }
 }
 
@@ -35,18 +25,9 @@ fn is_between(low: Option<u32>, high: Option<u32>, key: u32) -> bool
 pub fn map_test(want: Want, n: Node) -> bool
     ensures { result ≡ map.map_test (to_want want) (to_node n) }
 {
-    if is_tall(true, n) {
+    if is_tall(true, n) || is_tall(false, n) {
         return false;
     }
-    if is_tall(false, n) {
-        return false;
-    }
-    let height = taller(n.left.height, n.right.height) as u16;
-    let link = want.link;
-    if height + 1 != link.height as u16 {
-        return false;
-    }
-    let low = want.low;
-    let high = want.high;
-    is_between(low, high, n.key)
+    let height = u16::from(n.left.height.max(n.right.height)) + 1;
+    height == u16::from(want.link.height) && is_between(want.low, want.high, n.key)
 }

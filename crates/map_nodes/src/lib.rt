@@ -1,7 +1,6 @@
 // Nodes of the map: their sides, the steps of a walk over them, subtrees as they are at hand, and the fetch test.
 #![tactic(auto)]
 
-
 use slot_spec::{Link, Node};
 
 // A subtree as it is at hand: its link alone, or its top node and those of its children that were fetched too.

@@ -1,5 +1,5 @@
 // The links of a node on its sides, and the link to it.
-ghost use Rattle.std.specs.Prelude.{◌≡◌, max};
+ghost use Rattle.std.specs.Prelude.{◌≡◌};
 ghost use Rattle.method_spec.specs.Node.{child, with_child, link_to};
 ghost use Rattle.leaf_spec.specs.Convert.{to_link, to_node};
 ghost use Rattle.node_rows.specs.Heights.{Low};
@@ -10,10 +10,7 @@ use slot_spec::{Link, Node};
 pub fn child_link(left: bool, n: Node) -> Link
     ensures { to_link result ≡ child left (to_node n) }
 {
-    if left {
-        return n.left;
-    }
-    n.right
+    if left { n.left } else { n.right }
 }
 
 // The node with another link on a side.
@@ -23,19 +20,10 @@ pub fn with_child(left: bool, n: Node, link: Link) -> Node
     let mut m = n;
     if left {
         m.left = link;
-        return m;
+    } else {
+        m.right = link;
     }
-    m.right = link;
     m
-}
-
-pub fn taller(a: u8, b: u8) -> u8
-    ensures { result ≡ max a b }
-{
-    if a < b {
-        return b;
-    }
-    a
 }
 
 // The link to a node of the map: its height is that of its taller side and 1.
@@ -43,9 +31,8 @@ pub fn link_to(n: Node) -> Link
     requires { Low 254 (to_node n) }
     ensures { to_link result ≡ link_to (to_node n) }
 {
-    let height = taller(n.left.height, n.right.height);
     Link {
-        height: height + 1,
+        height: n.left.height.max(n.right.height) + 1,
         key: n.key,
         tag: n.tag,
     }

@@ -34,12 +34,7 @@ pub fn kid_of(left: bool, b: Sub) -> Option<Node>
 {
     match b {
         Sub::Stub(_) => None,
-        Sub::Top(_, l, r) => {
-            if left {
-                return l;
-            }
-            r
-        }
+        Sub::Top(_, l, r) => if left { l } else { r },
     }
 }
 
@@ -48,9 +43,7 @@ pub fn place(p: Step, b: Sub) -> Node
     requires { LowSub 254 (to_sub b) }
     ensures { to_node result ≡ with_subtree (to_step p) (to_sub b) }
 {
-    let n = p.node;
-    let link = link_of(b);
-    with_child(p.left, n, link)
+    with_child(p.left, p.node, link_of(b))
 }
 
 // What is at hand on a side of the place.
@@ -60,7 +53,5 @@ pub fn near_on(p: Step, b: Sub, left: bool) -> Sub
     if left == p.left {
         return b;
     }
-    let n = p.node;
-    let link = child_link(left, n);
-    Sub::Stub(link)
+    Sub::Stub(child_link(left, p.node))
 }

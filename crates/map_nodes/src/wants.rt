@@ -14,14 +14,12 @@ use slot_spec::{Link, Node};
 pub fn step_at(want: Want, n: Node, left: bool) -> Step
     ensures { to_step result ≡ map.step_at (to_want want) (to_node n) left }
 {
-    let low = want.low;
-    let high = want.high;
     Step {
         node: n,
         was: n.key,
         left,
-        low,
-        high,
+        low: want.low,
+        high: want.high,
     }
 }
 
@@ -29,21 +27,12 @@ pub fn step_at(want: Want, n: Node, left: bool) -> Step
 pub fn beside(p: Step, left: bool, link: Link) -> Want
     ensures { to_want result ≡ map.beside (to_step p) left (to_link link) }
 {
-    let low = p.low;
-    let high = p.high;
-    if left {
-        return Want {
-            link,
-            from: From::Side(p.was, true),
-            low,
-            high: Some(p.was),
-        };
-    }
+    let passed = Some(p.was);
     Want {
         link,
-        from: From::Side(p.was, false),
-        low: Some(p.was),
-        high,
+        from: From::Side(p.was, left),
+        low: if left { p.low } else { passed },
+        high: if left { passed } else { p.high },
     }
 }
 
@@ -51,7 +40,5 @@ pub fn beside(p: Step, left: bool, link: Link) -> Want
 pub fn below(p: Step) -> Want
     ensures { to_want result ≡ map.below (to_step p) }
 {
-    let n = p.node;
-    let link = child_link(p.left, n);
-    beside(p, p.left, link)
+    beside(p, p.left, child_link(p.left, p.node))
 }

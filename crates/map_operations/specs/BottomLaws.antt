@@ -16,7 +16,7 @@ use Rattle.slot_spec.specs.Slot.{no_node}
 use Rattle.map_nodes.specs.declared.Sub as sub
 use Rattle.leaf_spec.specs.Convert.{to_link, to_node}
 use Rattle.operation_spec.specs.Method.{to_want, to_step_answer}
-use Rattle.operations.specs.Resume.{Resumed, resume, follow, resumed_as}
+use Rattle.operations.specs.Resume.{Resumed, resume, follow, Misses}
 use Rattle.operations.specs.ResumeLaws.{resume-bind}
 use Rattle.node_rows.specs.Heights.{Low}
 use Rattle.node_rows.specs.Held.{Held, nodes_of, held_at}
@@ -24,16 +24,13 @@ use Rattle.node_rows.specs.HeldLaws.{held_low}
 use Rattle.map_nodes.specs.Method.{to_sub}
 use Rattle.map_nodes.specs.Upward.{weight, upward}
 use Rattle.map_nodes.specs.Heights.{LowSub}
-use Rattle.map_descent.specs.declared.descend.End.{End}
-use Rattle.map_descent.specs.declared.descend.End.TheVariants.{Missing, Gap, Hit}
 use Rattle.map_descent.specs.declared.descend.Descent.{Descent}
-use Rattle.map_descent.specs.declared.descend.Lowest as search
 use Rattle.map_changes.specs.declared.Bottom.{Bottom}
-use Rattle.map_descent.specs.Walk.{Walks, trail, by_key, spot_of, Reached, DescendsTo, after, LeftFrom, lowest_from, LowersTo}
+use Rattle.map_descent.specs.Walk.{Walks, trail, by_key, spot_of, Reached, DescendsTo, DescendsPast, after, LeftFrom, lowest_from, LowersTo, LowersPast}
 use Rattle.map_descent.specs.WalkLaws.{held_fits}
 use Rattle.map_descent.specs.PathTo.{ways_to, path_to}
 use Rattle.map_descent.specs.PathLaws.{path-before, path-past, left-from}
-use Rattle.map_changes.specs.Bottom.{unfinished_at, bottom_at, past_found, up_from, StartsUp}
+use Rattle.map_changes.specs.Bottom.{bottom_at, past_found, up_from, StartsUp}
 use Rattle.operation_spec.specs.declared.Want as want
 use Rattle.operation_spec.specs.declared.Answer as answer
 use Rattle.operation_spec.specs.declared.Full.{Full}
@@ -98,28 +95,41 @@ module _ (path : List (Step ℕ)) (entries : ℕ) where
 abbrev pub walking : ℕ → Link ℕ → (Spot ℕ → Prog ℕ (Outcome ℕ)) → Prog ℕ (Outcome ℕ)
 walking key l f = bind (walk key l.height (start l) []) f
 
+module _ {key : ℕ} {root : link.Link} {h : Held} (f : Spot ℕ → Prog ℕ (Outcome ℕ)) where
+  pub starts-missing : (w : want.Want) → DescendsPast key h (start (to_link root)) root.height w
+      → Misses (walking key (to_link root) f) (nodes_of h) w
+  starts-missing w past =
+      resume-bind (walk key root.height (start (to_link root)) []) f (nodes_of h) ∙ rw past.misses
+
 module _ {key : ℕ} {root : link.Link} {h : Held} (walks : Walks root h) {d : Descent}
     (down : DescendsTo key h (start (to_link root)) root.height d) where
-  pub hit-within : d.end ≡ Hit → d.depth < h.count
-  hit-within e = subst (λ (x : End). Reached key h (start (to_link root)) x d.depth) e down.reached
+  hit-is : {n : node.Node} → d.node ≡ Some n → (d.depth < h.count) × (n ≡ get_or h.nodes d.depth no_node)
+  hit-is e = subst (λ (x : code.Option node.Node). Reached key h (start (to_link root)) x d.depth) e down.reached
 
-  pub hit-low : {n : node.Node} → d.end ≡ Hit → n ≡ get_or h.nodes d.depth no_node → Low 100 (to_node n)
-  hit-low e is = rw is (held_low h d.depth 100 walks.held.low (hit-within e) (held_fits walks.held))
+  pub hit-within : {n : node.Node} → d.node ≡ Some n → d.depth < h.count
+  hit-within e = (hit-is e).0
+
+  pub hit-held : {n : node.Node} → d.node ≡ Some n → n ≡ get_or h.nodes d.depth no_node
+  hit-held e = (hit-is e).1
+
+  pub hit-low : {n : node.Node} → d.node ≡ Some n → Low 100 (to_node n)
+  hit-low e = rw (hit-held e) (held_low h d.depth 100 walks.held.low (hit-within e) (held_fits walks.held))
 
   passes : List (Step ℕ)
   passes = trail h (start (to_link root)) (by_key key h) d.depth
 
   module _ (f : Spot ℕ → Prog ℕ (Outcome ℕ)) where
-    spot : {e : End} → d.end ≡ e
+    spot : {e : code.Option node.Node} → d.node ≡ e
         → resume (walking key (to_link root) f) (nodes_of h)
         ≡ follow (spot_of key h (start (to_link root)) e (to_want d.want) d.depth) (λ s ns. resume (f s) ns)
     spot e =
         resume-bind (walk key root.height (start (to_link root)) []) f (nodes_of h)
         ∙ rw (down.resumes, e)
 
-    pub starts-missing : {r : Bottom} → d.end ≡ Missing → r ≡ unfinished_at d.want → StartsUp key root h (walking key (to_link root) f) r
-    starts-missing e g =
-        record { resumes = spot e ∙ rw g; ready = λ x. let z : ◌≡◌ {A = ℕ} 0 1 = cc in absurd (omega arith) }
+    pub spot-hit : {n : node.Node} → d.node ≡ Some n
+        → resume (walking key (to_link root) f) (nodes_of h)
+        ≡ resume (f (hit (to_want d.want) (held_at h d.depth) (trail h (start (to_link root)) (by_key key h) d.depth))) (drop (suc d.depth) (nodes_of h))
+    spot-hit e = spot e ∙ rw (hit-held e)
 
     module _ {rotating : Bool} {b : sub.Sub} {entries : ℕ} {a : code.Result answer.Answer Full} {r : Bottom} where
       starts-at : (at : ℕ) (s : Spot ℕ) → resume (walking key (to_link root) f) (nodes_of h) ≡ resume (f s) (drop at (nodes_of h))
@@ -130,35 +140,33 @@ module _ {key : ℕ} {root : link.Link} {h : Held} (walks : Walks root h) {d : D
           rw g
           record {
             resumes = p ∙ rw (q, path-before key h (start (to_link root)) d.depth d.depth d.depth (omega arith));
-            ready = λ x. record { passed = past; within = within; low = low; bare = bare };
+            ready = record { passed = past; within = within; low = low; bare = bare };
           }
 
-      pub starts-gap : d.end ≡ Gap → r ≡ bottom_at rotating b d.depth d.depth entries a → LowSub 100 (to_sub b) → weight (to_sub b) ≡ 1
+      pub starts-gap : d.node ≡ None → r ≡ bottom_at rotating b d.depth d.depth entries a → LowSub 100 (to_sub b) → weight (to_sub b) ≡ 1
           → f (gap (to_link d.want.link) (trail h (start (to_link root)) (by_key key h) d.depth))
           ≡ way rotating (trail h (start (to_link root)) (by_key key h) d.depth) (to_sub b) entries (to_step_answer a)
           → StartsUp key root h (walking key (to_link root) f) r
       unfolding passes
       starts-gap e g =
           starts-at d.depth (gap (to_link d.want.link) passes) (spot e) g (omega arith)
-          (subst (λ (x : End). Reached key h (start (to_link root)) x d.depth) e down.reached)
+          (subst (λ (x : code.Option node.Node). Reached key h (start (to_link root)) x d.depth) e down.reached)
 
-      pub starts-hit : {n : node.Node} → d.end ≡ Hit → n ≡ get_or h.nodes d.depth no_node
+      pub starts-hit : {n : node.Node} → d.node ≡ Some n
           → r ≡ bottom_at rotating b d.depth (d.depth + 1) entries a → LowSub 100 (to_sub b) → weight (to_sub b) ≡ 1
           → f (hit (to_want d.want) (to_node n) (trail h (start (to_link root)) (by_key key h) d.depth))
           ≡ way rotating (trail h (start (to_link root)) (by_key key h) d.depth) (to_sub b) entries (to_step_answer a)
           → StartsUp key root h (walking key (to_link root) f) r
       unfolding passes
-      starts-hit {n} e is g =
-          starts-at (d.depth + 1) (hit (to_want d.want) (to_node n) passes) (spot e ∙ rw (add-one d.depth, is)) g (omega arith)
+      starts-hit {n} e g =
+          starts-at (d.depth + 1) (hit (to_want d.want) (to_node n) passes) (spot e ∙ rw (add-one d.depth)) g (omega arith)
           (omega (arith, hit-within e))
 
 -- ---- a remove that goes past the node with the key
 
 module _ {key : ℕ} {root : link.Link} {h : Held} (walks : Walks root h) (entries : ℕ) {d : Descent}
-    (down : DescendsTo key h (start (to_link root)) root.height d) (e : d.end ≡ Hit)
-    (left : (held_at h d.depth).left.height ≡ 0 → ⊥) (right : (held_at h d.depth).right.height ≡ 0 → ⊥)
-    {y : search.Lowest}
-    (lowers : LowersTo h d.depth (below (step_at (to_want d.want) (held_at h d.depth) false)) (held_at h d.depth).right.height y) where
+    (down : DescendsTo key h (start (to_link root)) root.height d) {m : node.Node} (e : d.node ≡ Some m)
+    (left : (held_at h d.depth).left.height ≡ 0 → ⊥) (right : (held_at h d.depth).right.height ≡ 0 → ⊥) where
   abbrev w₀ : Want ℕ
   w₀ = start (to_link root)
 
@@ -172,9 +180,6 @@ module _ {key : ℕ} {root : link.Link} {h : Held} (walks : Walks root h) (entri
   abbrev above : List (Step ℕ)
   above = trail h w₀ (by_key key h) d.depth
 
-  abbrev between : List (Step ℕ)
-  between = after h w₀ (ways_to key h w₀ d.depth) d.depth y.last
-
   abbrev go_up : Lowest ℕ → Prog ℕ (Built ℕ)
   go_up z = climb (z.path ++ (swapped p z.node ∷ above)) (stub z.node.right) []
 
@@ -182,56 +187,56 @@ module _ {key : ℕ} {root : link.Link} {h : Held} (walks : Walks root h) (entri
   end b = done (finish (pred entries) (method.removed n.value) b)
 
   searched : resume (walking key (to_link root) (remove_step entries)) (nodes_of h)
-      ≡ follow (follow (resumed_as y.wanted (record { node = held_at h y.last; path = between }) (drop (suc y.last) (nodes_of h)))
+      ≡ follow (follow (resume (lowest_from n.right.height (below p) []) (drop (suc d.depth) (nodes_of h)))
       (λ z ns. resume (go_up z) ns)) (λ b ns. resume (end b) ns)
   searched =
       let rest = drop (suc d.depth) (nodes_of h) in
-      let from = subst (λ (v : Want ℕ). LeftFrom h w₀ (ways_to key h w₀ d.depth) d.depth (below (step_at v n false)))
-      (sym down.wanted) (left-from key h w₀ d.depth y.last) in
-      spot walks down (remove_step entries) e
+      spot-hit walks down (remove_step entries) e
       ∙ ap (λ (q : Prog ℕ (Outcome ℕ)). resume q rest) (remove-both above entries (to_want d.want) n left right)
       ∙ resume-bind (bind (lowest_from n.right.height (below p) []) go_up) end rest
       ∙ ap (λ (r : Resumed ℕ (Built ℕ)). follow r (λ b ns. resume (end b) ns))
-      (resume-bind (lowest_from n.right.height (below p) []) go_up rest
-      ∙ ap (λ (r : Resumed ℕ (Lowest ℕ)). follow r (λ z ns. resume (go_up z) ns)) (lowers.resumes w₀ (ways_to key h w₀ d.depth) from))
+      (resume-bind (lowest_from n.right.height (below p) []) go_up rest)
 
-  past-path : d.depth < y.last → between ++ (swapped p (held_at h y.last) ∷ above) ≡ path_to key h w₀ d.depth y.last y.last
-  past-path k =
-      ap (λ (v : Want ℕ). between ++ (swapped (step_at v n false) (held_at h y.last) ∷ above)) down.wanted
-      ∙ sym (path-past key h w₀ d.depth y.last y.last k)
+  from : LeftFrom h w₀ (ways_to key h w₀ d.depth) d.depth (below p)
+  from =
+      subst (λ (v : Want ℕ). LeftFrom h w₀ (ways_to key h w₀ d.depth) d.depth (below (step_at v n false)))
+      (sym down.wanted) (left-from key h w₀ d.depth 0)
 
-  going-up : d.depth < y.last
-      → follow (resume (go_up (record { node = held_at h y.last; path = between })) (drop (suc y.last) (nodes_of h))) (λ b ns. resume (end b) ns)
-      ≡ resume (up_from key root h (past_found None y.last d.depth (pred entries) n.value h)) (drop (y.last + 1) (nodes_of h))
-  unfolding upward
-  going-up k =
-      sym (resume-bind (go_up (record { node = held_at h y.last; path = between })) end (drop (suc y.last) (nodes_of h)))
-      ∙ rw (add-one y.last, past-path k)
+  pub misses-past : (w : want.Want) → LowersPast h d.depth (below (step_at (to_want d.want) (held_at h d.depth) false)) (held_at h d.depth).right.height w
+      → Misses (walking key (to_link root) (remove_step entries)) (nodes_of h) w
+  misses-past w lowers = searched ∙ rw (lowers.misses w₀ (ways_to key h w₀ d.depth) from)
 
-  pub starts-past : {r : Bottom} → r ≡ past_found y.wanted y.last d.depth (pred entries) n.value h
-      → StartsUp key root h (walking key (to_link root) (remove_step entries)) r
-  starts-past {r} g = go y.wanted refl
-    where
-      go : (x : code.Option want.Want) → y.wanted ≡ x → StartsUp key root h (walking key (to_link root) (remove_step entries)) r
-      go None x =
-          let q : r ≡ past_found None y.last d.depth (pred entries) n.value h = g ∙ rw x in
-          let k = lowers.reached x in
-          rw q
-          record {
-            resumes = searched ∙ rw x (going-up k.0);
-            ready = λ z.
-                record {
-                  passed = omega arith;
-                  within = omega (arith, k.1);
-                  low =
-                      (held_low h y.last 100 walks.held.low k.1 (held_fits walks.held)).1;
-                  bare = refl;
-                };
-          }
-      go (Some w) x =
-          let q : r ≡ unfinished_at w = g ∙ rw x in
-          rw q
-          record { resumes = searched ∙ rw x; ready = λ z. let o : ◌≡◌ {A = ℕ} 0 1 = cc in absurd (omega arith) }
+  module _ {last : ℕ}
+      (lowers : LowersTo h d.depth (below (step_at (to_want d.want) (held_at h d.depth) false)) (held_at h d.depth).right.height last) where
+    abbrev between : List (Step ℕ)
+    between = after h w₀ (ways_to key h w₀ d.depth) d.depth last
+
+    past-path : between ++ (swapped p (held_at h last) ∷ above) ≡ path_to key h w₀ d.depth last last
+    past-path =
+        ap (λ (v : Want ℕ). between ++ (swapped (step_at v n false) (held_at h last) ∷ above)) down.wanted
+        ∙ sym (path-past key h w₀ d.depth last last lowers.past)
+
+    going-up : follow (resume (go_up (record { node = held_at h last; path = between })) (drop (suc last) (nodes_of h))) (λ b ns. resume (end b) ns)
+        ≡ resume (up_from key root h (past_found last d.depth (pred entries) n.value h)) (drop (last + 1) (nodes_of h))
+    unfolding upward
+    going-up =
+        sym (resume-bind (go_up (record { node = held_at h last; path = between })) end (drop (suc last) (nodes_of h)))
+        ∙ rw (add-one last, past-path)
+
+    pub starts-past : {r : Bottom} → r ≡ past_found last d.depth (pred entries) (held_at h d.depth).value h
+        → StartsUp key root h (walking key (to_link root) (remove_step entries)) r
+    starts-past g =
+        rw g
+        record {
+          resumes = searched ∙ rw (lowers.resumes w₀ (ways_to key h w₀ d.depth) from) going-up;
+          ready =
+              record {
+                passed = omega arith;
+                within = omega (arith, lowers.within);
+                low = (held_low h last 100 walks.held.low lowers.within (held_fits walks.held)).1;
+                bare = refl;
+              };
+        }
 
 -- ---- the programs
 

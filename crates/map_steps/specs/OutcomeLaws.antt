@@ -1,7 +1,8 @@
 -- The outcome and the next wanted node, put together from their parts as the code computes them.
-use Rattle.std.specs.Prelude.{ℕ, ◌+◌, ◌≤◌, ◌<◌, ◌≡◌, refl, true, false, List, length, drop, None, Ok, Some}
+use Rattle.std.specs.Prelude.{ℕ, ◌+◌, ◌≤◌, ◌<◌, ◌≡◌, refl, true, false, List, length, drop, None, Some, Result, Ok, Err}
 use Rattle.std.specs.Prelude as code
-use Rattle.std.proofs.Common.{arith, length-append}
+use Rattle.std.specs.Result.{result_err}
+use Rattle.std.proofs.Common.{arith, ◌∙◌, length-append}
 use Rattle.std.proofs.Math.Option.{none}
 use Rattle.method_spec.specs.Prog.{Want, bind}
 use Rattle.method_spec.specs.Outcome.{Outcome}
@@ -13,7 +14,7 @@ use Rattle.operation_spec.specs.declared.Answer.TheVariants.{Absent}
 use Rattle.operation_spec.specs.declared.Outcome as outcome
 use Rattle.operation_spec.specs.Method.{to_want, to_wanted, to_step_answer, to_outcome}
 use Rattle.operations.specs.Resume.{missing, finished, outcome_of}
-use Rattle.operations.specs.Resume.{Resumed, resume, resumed_as, follow, wanted_of}
+use Rattle.operations.specs.Resume.{Resumed, resume, follow, wanted_of, Misses}
 use Rattle.operations.specs.ResumeLaws.{resume-map}
 use Rattle.node_rows.specs.Row.{places, words}
 use Rattle.node_rows.specs.Held.{Held, held_in, nodes_of, Lists}
@@ -23,7 +24,7 @@ use Rattle.map_nodes.specs.Upward.{upward}
 use Rattle.map_changes.specs.declared.Bottom.{Bottom}
 use Rattle.map_changes.specs.Bottom.{way_up}
 use Rattle.map_ascent.specs.declared.Climbed.{Climbed}
-use Rattle.map_ascent.specs.Climb.{climbed_in, ClimbsTo}
+use Rattle.map_ascent.specs.Climb.{climbed_in, ClimbsTo, ClimbsIfHeld}
 use Rattle.map_steps.specs.Outcome.{from_bottom, RoomToFinish}
 use Rattle.operation_spec.specs.declared.Answer as answer
 use Rattle.operation_spec.specs.declared.Full.{Full}
@@ -44,47 +45,44 @@ module _ (ws : List ℕ) (c : Climbed) (room : RoomToFinish ws c) (left right : 
       → Lists ws c.count (listed (to_kid left)) some i → Lists some i (listed (to_kid right)) more j → Lists more j (listed (to_kid last)) all n
       → to_link k ≡ link_of (to_sub c.sub)
       → (to_outcome (record { made = n; root = k; entries = entries; answer = a }) (nodes_of (held_in all n)) ≡ finish entries (to_step_answer a) (climbed_in ws c))
-      × ((n ≤ places) × (length all ≡ words))
+      × (n ≤ places)
   finish-is last t entries a u v w q = (
     rw ((lists-then ws c.count (lists-then ws c.count u v) w).first, q, l, r, t),
-    (omega (arith, finish-room, u.counted, v.counted, w.counted, listed-one last), w.long),
+    omega (arith, finish-room, u.counted, v.counted, w.counted, listed-one last),
   )
 
 -- ---- what is wanted, and the step
 
 -- A step that makes no nodes, where one is missing.
-pub unmade : (root : link.Link) (entries : ℕ) (ws : List ℕ) → length ws ≡ words → {o : outcome.Outcome} {x : Resumed ℕ (Outcome ℕ)} {w : Want ℕ}
+pub unmade : (root : link.Link) (entries : ℕ) (ws : List ℕ) {o : outcome.Outcome} {x : Resumed ℕ (Outcome ℕ)} {w : Want ℕ}
     → o ≡ record { made = 0; root = root; entries = entries; answer = Ok Absent } → x ≡ missing w
-    → (to_outcome o (nodes_of (held_in ws o.made)) ≡ outcome_of (to_link root) entries x) × ((o.made ≤ places) × (length ws ≡ words))
-unmade root entries ws long e f = rw (e, f) (refl, (omega arith, long))
+    → (to_outcome o (nodes_of (held_in ws o.made)) ≡ outcome_of (to_link root) entries x) × (o.made ≤ places)
+unmade root entries ws e f = rw (e, f) (refl, omega arith)
 
 module _ (key : ℕ) (root : link.Link) (h : Held) (b : Bottom) where
-  pub from-missing : {w : want.Want} → b.wanted ≡ Some w → from_bottom key root h b ≡ missing (to_want w)
-  from-missing e = rw e
-
   -- Without rotations no node is wanted on the way up.
-  pub from-resting : b.wanted ≡ None → b.rotating ≡ false → wanted_of (from_bottom key root h b) ≡ none
+  pub from-resting : b.rotating ≡ false → wanted_of (from_bottom key root h (Ok b)) ≡ none
   unfolding upward bind resume
-  from-resting e f = rw (e, f)
+  from-resting f = rw f
 
-  module _ {ws : List ℕ} {r : Climbed} (e : b.wanted ≡ None) (climbs : ClimbsTo key root h b ws r) where
-    from-climb : from_bottom key root h b
-        ≡ follow (resumed_as r.wanted (climbed_in ws r) (drop r.next (nodes_of h)))
-        (λ x ns. finished (finish b.entries (to_step_answer b.answer) x) ns)
-    from-climb =
-        rw (e, ← climbs.resumes) (resume-map (way_up key root h b) (finish b.entries (to_step_answer b.answer)) (drop b.at (nodes_of h)))
+  from-climb : from_bottom key root h (Ok b)
+      ≡ follow (resume (way_up key root h b) (drop b.at (nodes_of h)))
+      (λ x ns. finished (finish b.entries (to_step_answer b.answer) x) ns)
+  from-climb = resume-map (way_up key root h b) (finish b.entries (to_step_answer b.answer)) (drop b.at (nodes_of h))
 
-    pub from-rising : wanted_of (from_bottom key root h b) ≡ to_wanted r.wanted
-    from-rising = rw from-climb (go r.wanted)
-      where
-        go : (w : code.Option want.Want)
-            → wanted_of (follow (resumed_as w (climbed_in ws r) (drop r.next (nodes_of h))) (λ x ns. finished (finish b.entries (to_step_answer b.answer) x) ns)) ≡ to_wanted w
-        go None = refl
-        go (Some w) = refl
+  pub from-climbing : (w : want.Want) → Misses (way_up key root h b) (drop b.at (nodes_of h)) w → from_bottom key root h (Ok b) ≡ missing (to_want w)
+  from-climbing w f = from-climb ∙ rw f
 
-    pub from-climbing : {w : want.Want} → r.wanted ≡ Some w → from_bottom key root h b ≡ missing (to_want w)
-    from-climbing f = rw (from-climb, f)
+  module _ {ws : List ℕ} {r : Climbed} (climbs : ClimbsTo key root h b ws r) where
+    from-end : from_bottom key root h (Ok b) ≡ finished (finish b.entries (to_step_answer b.answer) (climbed_in ws r)) (drop r.next (nodes_of h))
+    from-end = from-climb ∙ rw climbs.resumes
 
-    pub from-climbed : (entries : ℕ) {o : Outcome ℕ} → r.wanted ≡ None → o ≡ finish b.entries (to_step_answer b.answer) (climbed_in ws r)
-        → o ≡ outcome_of (to_link root) entries (from_bottom key root h b)
-    from-climbed entries f g = rw (from-climb, f) g
+    pub from-climbed : (entries : ℕ) {o : Outcome ℕ} → o ≡ finish b.entries (to_step_answer b.answer) (climbed_in ws r)
+        → o ≡ outcome_of (to_link root) entries (from_bottom key root h (Ok b))
+    from-climbed entries g = rw from-end g
+
+  -- The node that a climb misses is wanted.
+  pub from-rising : (ws : List ℕ) (r : Result Climbed want.Want) → ClimbsIfHeld key root h b ws r
+      → to_wanted (result_err r) ≡ wanted_of (from_bottom key root h (Ok b))
+  from-rising ws (Ok c) climbs = rw (from-end climbs)
+  from-rising ws (Err w) misses = rw (from-climbing w misses)

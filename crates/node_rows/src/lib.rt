@@ -25,7 +25,7 @@ pub const ROW: usize = NODE_WORDS * NODES;
 
 // The node in a place of a row.
 pub fn node_at(row: &[u64; ROW], i: usize) -> Node
-    requires { (length row.now ≡ words) × (i < places) }
+    requires { i < places }
     ensures { result ≡ get_or (nodes_from row.now) i no_node }
 {
     let j = NODE_WORDS * i;
@@ -39,7 +39,7 @@ pub fn node_at(row: &[u64; ROW], i: usize) -> Node
 
 // A node in a place of a row, in place of what was there.
 pub fn set_node(row: &mut [u64; ROW], i: usize, n: Node)
-    requires { (length row.old ≡ words) × (i < places) }
+    requires { i < places }
     ensures { (nodes_from row.new ≡ set (nodes_from row.old) i n) × (length row.new ≡ words) }
 {
     let x = slot_of(n);
@@ -52,7 +52,7 @@ pub fn set_node(row: &mut [u64; ROW], i: usize, n: Node)
 
 // Where the link to the fetched node i stood.
 pub fn from_at(froms: &[u64; FETCHES], i: usize) -> From
-    requires { (length froms.now ≡ fetches) × (i < fetches) }
+    requires { i < fetches }
     ensures { to_from result ≡ from_in (get_or froms.now i 0) }
 {
     let x = froms[i];
@@ -69,10 +69,8 @@ pub fn word_of(from: From) -> u64
     match from {
         From::Root => 0,
         From::Side(key, left) => {
-            if left {
-                return 8589934592 + 2 * (key as u64) + 1;
-            }
-            8589934592 + 2 * (key as u64)
+            let right = 8589934592 + 2 * u64::from(key);
+            if left { right + 1 } else { right }
         }
     }
 }

@@ -37,7 +37,8 @@ pub enum Answer {
 #[derive(Clone, Copy)]
 pub struct Full;
 
-// Where a link stands: it is the root link, or that of the node with that key on a side, the left or else the right.
+// Where a link stands: it is the root link, or that of the node with that key on a side, the left or else the right. No Option,
+// since the root link's place is a place like the others.
 #[derive(Clone, Copy)]
 pub enum From {
     Root,

@@ -1,2 +1,3 @@
 pub mod Resume
 pub mod ResumeLaws
+pub mod LinkLaws

@@ -1,7 +1,6 @@
 -- A program on the nodes that were fetched for it so far, in fetch order: what it is still missing, or its result and the
 -- nodes that it has not taken.
-use Rattle.std.specs.Prelude.{ℕ, List, [], ◌∷◌, None, Some}
-use Rattle.std.specs.Prelude as code
+use Rattle.std.specs.Prelude.{◌≡◌, ℕ, List, [], ◌∷◌}
 use Rattle.std.proofs.Math.Option.{Option, none, some}
 use Rattle.method_spec.specs.Node.{Link, Node}
 use Rattle.method_spec.specs.Prog.{Want, Prog, done, want}
@@ -33,15 +32,9 @@ module _ {T A B : Type 0} where
 
 -- ---- the code's values
 module _ {A : Type 0} where
-  -- A result, where no node is missing.
-  abbrev pub resumed_as : code.Option want.Want → A → List (Node ℕ) → Resumed ℕ A
-  resumed_as None a ns = finished a ns
-  resumed_as (Some w) a ns = missing (to_want w)
-
-  -- Where no node is missing, the rest; else that node.
-  abbrev pub unless_missing : code.Option want.Want → Resumed ℕ A → Resumed ℕ A
-  unless_missing None r = r
-  unless_missing (Some w) r = missing (to_want w)
+  -- The program misses that node.
+  abbrev pub Misses : Prog ℕ A → List (Node ℕ) → want.Want → Type 0
+  Misses p ns w = resume p ns ≡ missing (to_want w)
 
   -- The node that is missing, if one is.
   abbrev pub wanted_of : Resumed ℕ A → Option (Want ℕ)

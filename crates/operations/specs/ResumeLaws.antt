@@ -1,6 +1,6 @@
 -- Laws of programs on the nodes fetched so far: a program and what follows it.
-use Rattle.std.specs.Prelude.{◌≡◌, Bool, true, false, ℕ}
-use Rattle.std.proofs.Math.Path.{refl}
+use Rattle.std.specs.Prelude.{◌≡◌, Bool, true, false, ℕ, Result, Ok, Err, IsErr, IsErrAnd, MatchResult}
+use Rattle.std.proofs.Math.Path.{refl, sym, subst}
 use mathlib.Core.List.{List, [], ◌∷◌}
 use Rattle.list_spec.specs.Choice.{pick}
 use Rattle.method_spec.specs.Node.{Link, Node}
@@ -68,3 +68,9 @@ unfolding after resume
 outcome-after l entries (done a) ns = refl
 outcome-after l entries (want w k) [] = refl
 outcome-after l entries (want w k) (n ∷ ns) = outcome-after l entries (k n) ns
+
+-- What `?` hands on.
+pub handed-on : {R E : Type 0} (P : R → Type 0) (Q : E → Type 0) (r : Result R E) {e : E} → IsErr r × IsErrAnd r (λ x. x ≡ e) → Q e
+    → MatchResult r P Q
+handed-on P Q (Ok x) h q = absurd h.1
+handed-on P Q (Err x) h q = subst Q (sym h.1) q

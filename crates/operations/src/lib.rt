@@ -3,11 +3,12 @@
 
 ghost use Rattle.std.specs.Prelude.{◌≡◌, pred};
 ghost use Rattle.method_spec.specs.Prog as prog;
-ghost use Rattle.leaf_spec.specs.Convert.{to_link};
+ghost use Rattle.method_spec.specs.Node.{link_one};
+ghost use Rattle.leaf_spec.specs.Convert.{to_link, to_node};
 ghost use Rattle.operation_spec.specs.Method.{to_want};
 
 use operation_spec::{Answer, From, Full, Outcome, Want};
-use slot_spec::Link;
+use slot_spec::{Link, Node};
 
 // The root link's node, as a wanted one.
 pub fn start(root: Link) -> Want
@@ -25,10 +26,18 @@ pub fn start(root: Link) -> Want
 pub fn one_less(entries: u16) -> u16
     ensures { result ≡ pred entries }
 {
-    if entries == 0 {
-        return 0;
+    entries.saturating_sub(1)
+}
+
+// The link to a node, of height 1.
+pub fn link_one(n: Node) -> Link
+    ensures { to_link result ≡ link_one (to_node n) }
+{
+    Link {
+        height: 1,
+        key: n.key,
+        tag: n.tag,
     }
-    entries - 1
 }
 
 // A step that makes no nodes.

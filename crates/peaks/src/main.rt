@@ -2,87 +2,44 @@
 // waited and were held at the close of one of its rounds, the largest such number so far, and the limit beyond which a store overflows.
 #![tactic(auto)]
 
-ghost use Rattle.std.specs.Prelude.{◌≡◌, ◌≤◌};
-ghost use Rattle.state_spec.specs.Fit.{largest_size};
-
 use call_draws::MOST_LEAVES;
 use input_calls::next_call;
-use input_opening::{open_input, print_short};
+use input_opening::{Store, open_input, print, whole};
 use peak_lines::peak_line;
-use round_close::greater;
-use state_spec::State;
 use text_writer::LONGEST_LINE;
 use walk_input::{LARGEST_TREE, tree_lent};
-use walk_spec::Arrived;
-
-// The descriptor of the standard output.
-const STDOUT_FILENO: i32 = 1;
-
-// The state after one more call of the input, the largest peak so far, and whether to read on.
-#[derive(Clone, Copy)]
-struct Read {
-    state: State,
-    largest: usize,
-    more: bool,
-}
 
 // Prints the line of a call; whether it could be written.
 fn print_peak(last: usize, largest: usize) -> bool {
     let mut out = [0u8; LONGEST_LINE];
     let length = peak_line(last, largest, &mut out);
-    io::write_all(STDOUT_FILENO, &out[..length])
+    print(&out[..length])
 }
 
-// Reads a call, makes it and prints its line.
-fn read_call(state: State, tree: &mut [u8], before: usize) -> Read
-    requires { (1 ≤ state.size) × (state.size ≤ largest_size) }
-    ensures { result.state.size ≡ state.size }
-{
+// Reads a call, makes it and prints its line. The store that it leaves and the largest peak so far, if more is to be read.
+fn read_call(store: Store, before: usize, tree: &mut [u8]) -> Option<(Store, usize)> {
     let mut trace = [0u16; MOST_LEAVES];
-    let next = next_call(state, tree, &mut trace);
-    let left = next.state;
-    let came = next.came;
-    let largest = greater(before, next.peak);
-    let more = match came {
-        Arrived::End => false,
-        Arrived::Short => {
-            print_short();
-            false
-        }
-        Arrived::Whole => print_peak(next.peak, largest),
-    };
-    Read {
-        state: left,
-        largest,
-        more,
+    let made = whole(next_call(store.state, tree, &mut trace))?;
+    let largest = before.max(made.peak);
+    if print_peak(made.peak, largest) {
+        Some((Store { state: made.state }, largest))
+    } else {
+        None
     }
 }
 
-// The calls up to the input's end. A proved loop has to end, and nothing says that an input does: the loop counts its
-// turns down from a number that no run uses up.
-fn read_calls(opened: State, tree: &mut [u8])
-    requires { (1 ≤ opened.size) × (opened.size ≤ largest_size) }
-{
-    let mut state = opened;
-    let mut largest = 0;
-    let mut turns = u64::MAX;
-    while turns > 0 {
-        let read = read_call(state, tree, largest);
-        if !read.more {
-            return;
-        }
-        state = read.state;
-        largest = read.largest;
-        turns -= 1;
-    }
+// The calls up to the input's end. A proved loop has to end, and nothing says that an input does: no run uses up the turns.
+fn read_calls(opened: Store, tree: &mut [u8]) {
+    let _ = (0..u64::MAX).try_fold(
+        (opened, 0),
+        |(store, largest), _| read_call(store, largest, tree),
+    );
 }
 
 fn main() {
     let mut space = [0u8; LARGEST_TREE];
-    let state = open_input(&mut space);
-    if state.mark != 0 {
-        return;
+    if let Some(opened) = open_input(&mut space) {
+        let length = tree_lent(opened.state.size);
+        read_calls(opened, &mut space[..length]);
     }
-    let length = tree_lent(state.size);
-    read_calls(state, &mut space[..length]);
 }

@@ -13,9 +13,8 @@ ghost use Rattle.operation_spec.specs.Method.{to_want, to_wanted, wanted_in};
 ghost use Rattle.short_outcomes.specs.OneFetch.{to_one_outcome};
 
 use operation_spec::{Answer, Full, Spares, Want};
-use operations::{one_less, start};
+use operations::{link_one, one_less, start};
 use short_outcomes::{OneMade, none_made};
-use slot_fields::no_link;
 use slot_spec::{Ahead, Link, Node};
 
 // ---- in
@@ -24,10 +23,8 @@ fn next_ahead(spares: Spares) -> Ahead
     requires { suc spares.ahead.key < 2 ^ 32 }
     ensures { to_ahead result ≡ queue.next_ahead spares.second (to_ahead spares.ahead) }
 {
-    let ahead = spares.ahead;
-    let key = ahead.key + 1;
     Ahead {
-        key,
+        key: spares.ahead.key + 1,
         tag: spares.second,
     }
 }
@@ -36,11 +33,10 @@ fn next_ahead(spares: Spares) -> Ahead
 fn new_tag(spares: Spares, entries: u16) -> u16
     ensures { result ≡ pick (eqb entries 0) spares.first spares.ahead.tag }
 {
-    let ahead = spares.ahead;
     if entries == 0 {
         return spares.first;
     }
-    ahead.tag
+    spares.ahead.tag
 }
 
 // The new node: its left link leads to the one that comes next.
@@ -48,20 +44,18 @@ fn newest(value: u64, spares: Spares, entries: u16) -> Node
     requires { suc spares.ahead.key < 2 ^ 32 }
     ensures { to_node result ≡ queue.newest 0 value spares.first spares.second entries (to_ahead spares.ahead) }
 {
-    let ahead = spares.ahead;
     let next = next_ahead(spares);
     let left = Link {
         height: 1,
         key: next.key,
         tag: next.tag,
     };
-    let none = no_link();
     Node {
-        key: ahead.key,
+        key: spares.ahead.key,
         value,
         tag: new_tag(spares, entries),
         left,
-        right: none,
+        right: Link::default(),
     }
 }
 
@@ -69,14 +63,7 @@ fn newest(value: u64, spares: Spares, entries: u16) -> Node
 fn root_after_in(entries: u16, root: Link, n: Node) -> Link
     ensures { to_link result ≡ pick (eqb entries 0) (method.link_one (to_node n)) (to_link root) }
 {
-    if entries == 0 {
-        return Link {
-            height: 1,
-            key: n.key,
-            tag: n.tag,
-        };
-    }
-    root
+    if entries == 0 { link_one(n) } else { root }
 }
 
 // An in fetches none. There is a key for the one that comes next.
@@ -88,12 +75,10 @@ pub fn enqueue(value: u64, spares: Spares, limit: u16, entries: u16, root: Link)
         return none_made(root, entries, Err(Full));
     }
     let n = newest(value, spares, entries);
-    let more = entries + 1;
     OneMade {
-        made: true,
-        node: n,
+        node: Some(n),
         root: root_after_in(entries, root, n),
-        entries: more,
+        entries: entries + 1,
         answer: Ok(Answer::Queued),
     }
 }
@@ -103,12 +88,10 @@ pub fn enqueue_ahead(spares: Spares, limit: u16, entries: u16) -> Ahead
     requires { suc spares.ahead.key < 2 ^ 32 }
     ensures { to_ahead result ≡ enqueue_ahead spares.second entries limit (to_ahead spares.ahead) }
 {
-    let ahead = spares.ahead;
-    let next = next_ahead(spares);
     if entries >= limit {
-        return ahead;
+        return spares.ahead;
     }
-    next
+    next_ahead(spares)
 }
 
 // ---- out
@@ -126,11 +109,7 @@ pub fn dequeue_wanted(entries: u16, root: Link) -> Option<Want>
 fn root_after_out(entries: u16, left: Link) -> Link
     ensures { to_link result ≡ pick (eqb entries 1) (method.absent 0) (to_link left) }
 {
-    let none = no_link();
-    if entries == 1 {
-        return none;
-    }
-    left
+    if entries == 1 { Link::default() } else { left }
 }
 
 // An out takes the oldest. An empty queue has none: whatever node is given, nothing is taken.
@@ -140,9 +119,8 @@ pub fn dequeue(entries: u16, root: Link, oldest: Node) -> OneMade
     if entries == 0 {
         return none_made(root, entries, Ok(Answer::Empty));
     }
-    let link = root_after_out(entries, oldest.left);
     none_made(
-        link,
+        root_after_out(entries, oldest.left),
         one_less(entries),
         Ok(Answer::Dequeued(oldest.value)),
     )
@@ -153,10 +131,7 @@ pub fn dequeue_ahead(entries: u16, ahead: Ahead) -> Ahead
     ensures { to_ahead result ≡ dequeue_ahead 0 entries (to_ahead ahead) }
 {
     if entries == 1 {
-        return Ahead {
-            key: ahead.key,
-            tag: 0,
-        };
+        return Ahead { tag: 0, ..ahead };
     }
     ahead
 }
@@ -166,15 +141,8 @@ pub fn dequeue_ahead(entries: u16, ahead: Ahead) -> Ahead
 pub fn queue_test(want: Want, n: Node) -> bool
     ensures { result ≡ queue_test (to_want want) (to_node n) }
 {
-    let left = n.left;
-    let right = n.right;
-    if left.height != 1 {
+    if n.left.height != 1 {
         return false;
     }
-    if right.height != 0 {
-        return false;
-    }
-    let key = left.key as u64;
-    let next = (n.key as u64) + 1;
-    key == next
+    n.right.height == 0 && u64::from(n.left.key) == u64::from(n.key) + 1
 }

@@ -7,7 +7,7 @@ use call_draws::MOST_LEAVES;
 use input_calls::next_call;
 use state_spec::State;
 use walk_input::HEAD_LENGTH;
-use walk_spec::Arrived;
+use walk_spec::Stop;
 
 // The descriptor of the standard input.
 const STDIN_FILENO: i32 = 0;
@@ -36,34 +36,25 @@ pub fn read_head() -> Head {
     }
 }
 
-// Whether to read on after a call that came so and left such a mark. An input that ends within a call is reported.
-fn goes_on(came: Arrived, mark: u8) -> bool {
-    match came {
-        Arrived::Whole => mark == 0,
-        Arrived::End => false,
-        Arrived::Short => {
-            say_short();
-            false
-        }
-    }
-}
-
 // The state after the calls of the input, or after the one that closed the store. A proved loop has to end, and nothing says
-// that an input does: the loop counts its turns down from a number that no run uses up.
+// that an input does: no run uses up the turns.
 pub fn read_calls(opened: State, tree: &mut [u8]) -> State
     requires { (1 ≤ opened.size) × (opened.size ≤ largest_size) }
 {
     let mut state = opened;
-    let mut turns = u64::MAX;
-    while turns > 0 {
+    for _ in 0..u64::MAX {
         let mut trace = [0u16; MOST_LEAVES];
-        let next = next_call(state, tree, &mut trace);
-        let came = next.came;
-        state = next.state;
-        if !goes_on(came, state.mark) {
+        match next_call(state, tree, &mut trace) {
+            Ok(made) => state = made.state,
+            Err(Stop::End) => return state,
+            Err(Stop::Short) => {
+                say_short();
+                return state;
+            }
+        }
+        if state.mark != 0 {
             return state;
         }
-        turns -= 1;
     }
     state
 }

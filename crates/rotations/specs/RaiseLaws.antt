@@ -1,5 +1,5 @@
 -- Laws of a level of the way up.
-use Rattle.std.specs.Prelude.{ℕ, suc, ◌+◌, ◌≤◌, ◌<◌, ◌≡◌, Bool, true, false, not, List, [], ◌++◌, length, get_or, drop, None, Some}
+use Rattle.std.specs.Prelude.{ℕ, suc, ◌+◌, ◌≤◌, ◌<◌, ◌≡◌, Bool, true, false, not, List, [], ◌++◌, length, get_or, drop, Result, Ok, Err}
 use Rattle.std.specs.Prelude as code
 use Rattle.std.proofs.Common.{arith, add-one, sym, ◌∙◌, subst, append-nil}
 use Rattle.std.proofs.Math.Option.{Option, none, some}
@@ -21,34 +21,31 @@ use Rattle.node_rows.specs.Heights.{Low}
 use Rattle.node_rows.specs.HeldLaws.{held_next, held_none, held_low}
 use Rattle.map_nodes.specs.Heights.{LowSub}
 use Rattle.map_nodes.specs.HeightLaws.{low-more, low-placed, low_near}
-use Rattle.operations.specs.Resume.{resume, finished, follow}
+use Rattle.operations.specs.Resume.{resume, finished, follow, Misses}
 use Rattle.operations.specs.ResumeLaws.{resume-done, resume-want, resume-missing, resume-bind, resume-map}
-use Rattle.rotations.specs.Raise.{Opens, opened_as, list_of, built_of, Raises, turn_over}
+use Rattle.rotations.specs.Raise.{Lacks, Opens, list_of, built_of, Raises, RaisesIfHeld, turn_over}
 
 -- ---- opening
 
 module _ (h : Held) (next : ℕ) (from : HeldFrom 250 h next) where
-  pub opens-here : (n : node.Node) → Low 250 (to_node n) → Opens (some (to_node n)) h next (record { node = Some n; next = next })
+  pub opens-here : (n : node.Node) → Low 250 (to_node n) → Opens (some (to_node n)) h next (record { node = n; next = next })
   opens-here n low =
       record { resumes = λ w. resume-done (to_node n) (drop next (nodes_of h)); within = from.within; low = low }
 
-  pub opens-next : next < h.count → Opens none h next (record { node = Some (get_or h.nodes next no_node); next = next + 1 })
-  opens-next k =
-      let few : h.count ≤ length h.nodes = omega (arith, from.places, from.few) in
+  pub opens-next : {n : node.Node} → n ≡ get_or h.nodes next no_node → next < h.count → Opens none h next (record { node = n; next = next + 1 })
+  opens-next e k =
+      rw e
+      (let few : h.count ≤ length h.nodes = omega (arith, from.places, from.few) in
       record {
         resumes = λ w. rw (held_next h next k few, add-one) (resume-want w done (to_node (get_or h.nodes next no_node)) (drop (suc next) (nodes_of h)) ∙ resume-done (to_node (get_or h.nodes next no_node)) (drop (suc next) (nodes_of h)));
         within = omega arith;
         low = held_low h next 250 from.low k few;
-      }
+      })
 
-  pub opens-none : h.count ≤ next → Opens none h next (record { node = None; next = next })
-  opens-none k =
+  pub lacks : h.count ≤ next → Lacks none h next
+  lacks k =
       let few : h.count ≤ length h.nodes = omega (arith, from.places, from.few) in
-      record {
-        resumes = λ w. rw (held_none h next k few) (resume-missing w done);
-        within = from.within;
-        low = tt;
-      }
+      record { misses = λ w. rw (held_none h next k few) (resume-missing w done) }
 
 -- ---- a rotation
 
@@ -71,52 +68,48 @@ module _ (p : Step ℕ) (s : Bool) (n c : Node ℕ) (near : Sub ℕ) (others : O
   pub raises-single : {b : sub.Sub} {inner : code.Option node.Node} → to_kid inner ≡ kid (not s) near → leans_out s c ≡ true
       → to_sub b ≡ (single s n c (kid s near) none []).sub → next ≤ h.count
       → Raises (turn_over p s n c near (list_of others)) h next
-      (record { wanted = None; sub = b; aside = inner; others = others; next = next })
+      (record { sub = b; aside = inner; others = others; next = next })
   raises-single i e q k =
       record {
         resumes = turn-single p s n c near (list_of others) (drop next (nodes_of h)) e ∙ rw (q, i);
         within = k;
       }
 
-  module _ (o : Opened) (opens : Opens (kid (not s) near) h next o) (e : leans_out s c ≡ false) where
-    resumes-inward : resume (turn_over p s n c near (list_of others)) (drop next (nodes_of h))
-        ≡ follow (opened_as (inward p s n c near (list_of others)) (to_kid o.node) (drop o.next (nodes_of h)))
-        (λ g rest. finished (record { sub = (double s n c g none []).sub; out = listed (kid s near) ++ list_of others }) rest)
-    resumes-inward =
+  module _ (e : leans_out s c ≡ false) where
+    pub misses-inward : Lacks (kid (not s) near) h next → (w : want.Want) → to_want w ≡ below (step_at (beside p s (child s n)) c (not s))
+        → Misses (turn_over p s n c near (list_of others)) (drop next (nodes_of h)) w
+    misses-inward l w u =
         turn-inward p s n c near (list_of others) (drop next (nodes_of h)) e
-        ∙ rw (opens.resumes (inward p s n c near (list_of others)))
+        ∙ rw (l.misses (inward p s n c near (list_of others)), u)
 
-    pub raises-inward : {w : want.Want} {r : Raised} → to_kid o.node ≡ none
-        → to_want w ≡ below (step_at (beside p s (child s n)) c (not s)) → r.wanted ≡ Some w → r.next ≡ next → next ≤ h.count
-        → Raises (turn_over p s n c near (list_of others)) h next r
-    raises-inward q u v x k =
-        record { resumes = resumes-inward ∙ rw (q, v, u); within = rw x k }
-
-    pub raises-double : {g : node.Node} {b : sub.Sub} {outer : code.Option node.Node} → to_kid o.node ≡ some (to_node g)
-        → to_sub b ≡ (double s n c (to_node g) none []).sub → to_kid outer ≡ kid s near
-        → Raises (turn_over p s n c near (list_of others)) h next
-        (record { wanted = None; sub = b; aside = outer; others = others; next = o.next })
-    raises-double q u v = record { resumes = resumes-inward ∙ rw (q, u, v); within = opens.within }
+    pub raises-double : {o : Opened} → Opens (kid (not s) near) h next o → {b : sub.Sub} {outer : code.Option node.Node}
+        → to_sub b ≡ (double s n c (to_node o.node) none []).sub → to_kid outer ≡ kid s near
+        → Raises (turn_over p s n c near (list_of others)) h next (record { sub = b; aside = outer; others = others; next = o.next })
+    raises-double opens u v =
+        record {
+          resumes =
+              turn-inward p s n c near (list_of others) (drop next (nodes_of h)) e
+              ∙ rw (opens.resumes (inward p s n c near (list_of others)), u, v);
+          within = opens.within;
+        }
 
 module _ (p : Step ℕ) (s : Bool) (n : Node ℕ) (near : Sub ℕ) (others : Others) (h : Held) (next : ℕ) where
-  module _ (o : Opened) (opens : Opens (top_of near) h next o) where
-    resumes-turn : resume (turn p s n near (list_of others)) (drop next (nodes_of h))
-        ≡ follow (opened_as (beside p s (child s n)) (to_kid o.node) (drop o.next (nodes_of h)))
-        (λ c rest. resume (turn_over p s n c near (list_of others)) rest)
-    unfolding turn turn_over
-    resumes-turn =
-        resume-bind (fetched_top (beside p s (child s n)) (top_of near)) (λ c. turn_over p s n c near (list_of others)) (drop next (nodes_of h))
-        ∙ rw (opens.resumes (beside p s (child s n)))
+  resumes-turn : resume (turn p s n near (list_of others)) (drop next (nodes_of h))
+      ≡ follow (resume (fetched_top (beside p s (child s n)) (top_of near)) (drop next (nodes_of h)))
+      (λ c rest. resume (turn_over p s n c near (list_of others)) rest)
+  unfolding turn turn_over
+  resumes-turn =
+      resume-bind (fetched_top (beside p s (child s n)) (top_of near)) (λ c. turn_over p s n c near (list_of others)) (drop next (nodes_of h))
 
-    pub raises-missing : {w : want.Want} {r : Raised} → to_kid o.node ≡ none
-        → to_want w ≡ beside p s (child s n) → r.wanted ≡ Some w → r.next ≡ next → next ≤ h.count
-        → Raises (turn p s n near (list_of others)) h next r
-    raises-missing q u v x k = record { resumes = resumes-turn ∙ rw (q, v, u); within = rw x k }
+  pub misses-child : Lacks (top_of near) h next → (w : want.Want) → to_want w ≡ beside p s (child s n)
+      → Misses (turn p s n near (list_of others)) (drop next (nodes_of h)) w
+  misses-child l w u = resumes-turn ∙ rw (l.misses (beside p s (child s n)), u)
 
-    pub raises-turn : {c : node.Node} {r : Raised} → to_kid o.node ≡ some (to_node c)
-        → Raises (turn_over p s n (to_node c) near (list_of others)) h o.next r
-        → Raises (turn p s n near (list_of others)) h next r
-    raises-turn q u = record { resumes = resumes-turn ∙ rw q u.resumes; within = u.within }
+  pub raises-turn : {o : Opened} → Opens (top_of near) h next o → (r : Result Raised want.Want)
+      → RaisesIfHeld (turn_over p s n (to_node o.node) near (list_of others)) h o.next r
+      → RaisesIfHeld (turn p s n near (list_of others)) h next r
+  raises-turn opens (Ok r) u = record { resumes = resumes-turn ∙ rw (opens.resumes (beside p s (child s n))) u.resumes; within = u.within }
+  raises-turn opens (Err w) u = resumes-turn ∙ rw (opens.resumes (beside p s (child s n))) u
 
 -- ---- a level
 
@@ -145,22 +138,22 @@ module _ (p : Step ℕ) (b : Sub ℕ) where
   rest-is d e f g i = rw (append-nil, f, d, e, g, i)
 
   module _ (h : Held) (next : ℕ) {r : Raised} where
-    pub raises-rest : r.wanted ≡ None → built_of r ≡ rest p b → r.next ≡ next → next ≤ h.count → Raises (done (rest p b)) h next r
-    raises-rest d e f k =
-        record { resumes = resume-done (rest p b) (drop next (nodes_of h)) ∙ rw (d, ← e, f); within = rw f k }
-
-    module _ {n : Node ℕ} (at : n ≡ with_subtree p b) {near : Sub ℕ} (others : Others) where
-      pub raises-left : tall true n ≡ true → near ≡ near_on p b true → list_of others ≡ others_of p b true
-          → Raises (turn p true n near (list_of others)) h next r → Raises (raise p b) h next r
-      raises-left d e f =
-          subst (λ (q : Prog ℕ (Built ℕ)). Raises q h next r) (cc (raise-left (rw (← at) d)))
-
-      pub raises-right : tall true n ≡ false → tall false n ≡ true → near ≡ near_on p b false → list_of others ≡ others_of p b false
-          → Raises (turn p false n near (list_of others)) h next r → Raises (raise p b) h next r
-      raises-right d t e f =
-          subst (λ (q : Prog ℕ (Built ℕ)). Raises q h next r) (cc (raise-right (rw (← at) d) (rw (← at) t)))
+    pub raises-rest : built_of r ≡ rest p b → r.next ≡ next → next ≤ h.count → Raises (done (rest p b)) h next r
+    raises-rest e f k =
+        record { resumes = resume-done (rest p b) (drop next (nodes_of h)) ∙ rw (← e, f); within = rw f k }
 
     pub raises-level-rest : {n : Node ℕ} → n ≡ with_subtree p b → tall true n ≡ false → tall false n ≡ false
         → Raises (done (rest p b)) h next r → Raises (raise p b) h next r
     raises-level-rest at d t =
         subst (λ (q : Prog ℕ (Built ℕ)). Raises q h next r) (sym (raise-rest (rw (← at) d) (rw (← at) t)))
+
+  module _ (h : Held) (next : ℕ) {n : Node ℕ} (at : n ≡ with_subtree p b) {near : Sub ℕ} (others : Others) (x : Result Raised want.Want) where
+    pub raises-left : tall true n ≡ true → near ≡ near_on p b true → list_of others ≡ others_of p b true
+        → RaisesIfHeld (turn p true n near (list_of others)) h next x → RaisesIfHeld (raise p b) h next x
+    raises-left d e f =
+        subst (λ (q : Prog ℕ (Built ℕ)). RaisesIfHeld q h next x) (cc (raise-left (rw (← at) d)))
+
+    pub raises-right : tall true n ≡ false → tall false n ≡ true → near ≡ near_on p b false → list_of others ≡ others_of p b false
+        → RaisesIfHeld (turn p false n near (list_of others)) h next x → RaisesIfHeld (raise p b) h next x
+    raises-right d t e f =
+        subst (λ (q : Prog ℕ (Built ℕ)). RaisesIfHeld q h next x) (cc (raise-right (rw (← at) d) (rw (← at) t)))

@@ -1,16 +1,15 @@
 // One level of the way up: the subtree that changed stands again below the node above it, which is rotated if it got too
 // tall on a side. A rotation takes the nodes that it needs from those at hand, or else from those fetched, in order.
-ghost use Rattle.std.specs.Prelude.{◌≡◌, not, [], length};
+ghost use Rattle.std.specs.Prelude.{◌≡◌, not, [], MatchOption};
 ghost use Rattle.method_spec.specs.Node.{child};
 ghost use Rattle.method_spec.specs.Map as map;
 ghost use Rattle.leaf_spec.specs.Convert.{to_node};
 ghost use Rattle.operation_spec.specs.Method.{to_want};
-ghost use Rattle.node_rows.specs.Row.{words};
 ghost use Rattle.node_rows.specs.Heights.{Low};
 ghost use Rattle.node_rows.specs.Held.{held_in, HeldFrom};
 ghost use Rattle.map_nodes.specs.Method.{to_kid, to_sub, to_step};
 ghost use Rattle.map_nodes.specs.Heights.{LowKid, LowSub};
-ghost use Rattle.rotations.specs.Raise.{Opens, Raises, list_of, built_of, turn_over, level};
+ghost use Rattle.rotations.specs.Raise.{Lacks, Opens, RaisesIfHeld, list_of, built_of, turn_over, level};
 
 use super::rotation::{double, seated, single};
 use map_balance::{is_tall, leans_out};
@@ -22,33 +21,25 @@ use node_rows::{ROW, node_at};
 use operation_spec::Want;
 use slot_spec::Node;
 
-// The node that is at hand, or else the next of the fetched nodes.
+// A node that was wanted, and how many fetched nodes are taken.
 #[derive(Clone, Copy)]
 pub struct Opened {
-    pub node: Option<Node>,
+    pub node: Node,
     pub next: usize,
 }
 
-fn open_kid(kid: Option<Node>, held: &[u64; ROW], count: usize, next: usize) -> Opened
-    requires { (length held.now ≡ words) × (HeldFrom 250 (held_in held.now count) next × LowKid 250 (to_kid kid)) }
-    ensures { Opens (to_kid kid) (held_in held.now count) next result }
+// The node that is at hand, or else the next of the fetched nodes, if there is one.
+fn open_kid(kid: Option<Node>, held: &[u64; ROW], count: usize, next: usize) -> Option<Opened>
+    requires { HeldFrom 250 (held_in held.now count) next × LowKid 250 (to_kid kid) }
+    ensures { MatchOption result (Lacks (to_kid kid) (held_in held.now count) next) (Opens (to_kid kid) (held_in held.now count) next) }
 {
-    if let Some(n) = kid {
-        return Opened {
-            node: Some(n),
-            next,
-        };
-    }
-    if next < count {
-        let n = node_at(held, next);
-        return Opened {
-            node: Some(n),
+    match kid {
+        Some(node) => Some(Opened { node, next }),
+        None if next < count => Some(Opened {
+            node: node_at(held, next),
             next: next + 1,
-        };
-    }
-    Opened {
-        node: None,
-        next,
+        }),
+        None => None,
     }
 }
 
@@ -60,11 +51,10 @@ pub struct Others {
     pub top: Option<Node>,
 }
 
-// A level up: the subtree at hand there, with the nodes that are done with, one by itself and those of a subtree; or the
-// node that is missing. The fetched nodes from `next` on are not taken yet.
+// A level up: the subtree at hand there, with the nodes that are done with, one by itself and those of a subtree. The fetched
+// nodes from `next` on are not taken yet.
 #[derive(Clone, Copy)]
 pub struct Raised {
-    pub wanted: Option<Want>,
     pub sub: Sub,
     pub aside: Option<Node>,
     pub others: Others,
@@ -88,27 +78,10 @@ fn others_of(p: Step, b: Sub, left: bool) -> Others
     if left == p.left {
         return no_others();
     }
-    let l = kid_of(true, b);
-    let r = kid_of(false, b);
-    let top = top_of(b);
     Others {
-        left: l,
-        right: r,
-        top,
-    }
-}
-
-fn missing(want: Want, next: usize) -> Raised
-    ensures { (result.wanted ≡ Some want) × (result.next ≡ next) }
-{
-    let link = want.link;
-    let others = no_others();
-    Raised {
-        wanted: Some(want),
-        sub: Sub::Stub(link),
-        aside: None,
-        others,
-        next,
+        left: kid_of(true, b),
+        right: kid_of(false, b),
+        top: top_of(b),
     }
 }
 
@@ -138,37 +111,29 @@ fn turn_over(
     held: &[u64; ROW],
     count: usize,
     next: usize,
-) -> Raised
-    requires { (length held.now ≡ words) × (HeldFrom 250 (held_in held.now count) next × (Low 253 (to_node n) × (Low 253 (to_node c) × LowSub 250 (to_sub near)))) }
-    ensures { Raises (turn_over (to_step p) left (to_node n) (to_node c) (to_sub near) (list_of others)) (held_in held.now count) next result }
+) -> Result<Raised, Want>
+    requires { HeldFrom 250 (held_in held.now count) next × (Low 253 (to_node n) × (Low 253 (to_node c) × LowSub 250 (to_sub near))) }
+    ensures { RaisesIfHeld (turn_over (to_step p) left (to_node n) (to_node c) (to_sub near) (list_of others)) (held_in held.now count) next result }
 {
     let outer = kid_of(left, near);
     let inner = kid_of(!left, near);
     if leans_out(left, c) {
-        let sub = single(left, n, c, outer);
-        return Raised {
-            wanted: None,
-            sub,
+        return Ok(Raised {
+            sub: single(left, n, c, outer),
             aside: inner,
             others,
             next,
-        };
+        });
     }
-    let o = open_kid(inner, held, count, next);
-    let opened = o.node;
-    match opened {
-        None => missing(inner_want(p, left, n, c), next),
-        Some(g) => {
-            let sub = double(left, n, c, g);
-            Raised {
-                wanted: None,
-                sub,
-                aside: outer,
-                others,
-                next: o.next,
-            }
-        }
-    }
+    let Some(o) = open_kid(inner, held, count, next) else {
+        return Err(inner_want(p, left, n, c));
+    };
+    Ok(Raised {
+        sub: double(left, n, c, o.node),
+        aside: outer,
+        others,
+        next: o.next,
+    })
 }
 
 // A rotation of a node that is too tall on a side: the child on that side is opened first.
@@ -181,47 +146,37 @@ fn turn(
     held: &[u64; ROW],
     count: usize,
     next: usize,
-) -> Raised
-    requires { (length held.now ≡ words) × (HeldFrom 250 (held_in held.now count) next × (Low 253 (to_node n) × LowSub 250 (to_sub near))) }
-    ensures { Raises (map.turn (to_step p) left (to_node n) (to_sub near) (list_of others)) (held_in held.now count) next result }
+) -> Result<Raised, Want>
+    requires { HeldFrom 250 (held_in held.now count) next × (Low 253 (to_node n) × LowSub 250 (to_sub near)) }
+    ensures { RaisesIfHeld (map.turn (to_step p) left (to_node n) (to_sub near) (list_of others)) (held_in held.now count) next result }
 {
-    let top = top_of(near);
-    let o = open_kid(top, held, count, next);
-    let opened = o.node;
-    match opened {
-        None => missing(child_want(p, left, n), next),
-        Some(c) => turn_over(p, left, n, c, near, others, held, count, o.next),
-    }
+    let Some(o) = open_kid(top_of(near), held, count, next) else {
+        return Err(child_want(p, left, n));
+    };
+    turn_over(p, left, n, o.node, near, others, held, count, o.next)
 }
 
 // No rotation: the node that was passed takes the subtree in, and the children at hand there are done with.
 pub fn rest(p: Step, b: Sub, next: usize) -> Raised
     requires { LowSub 250 (to_sub b) }
-    ensures { (result.wanted ≡ None) × ((built_of result ≡ map.rest (to_step p) (to_sub b)) × (result.next ≡ next)) }
+    ensures { (built_of result ≡ map.rest (to_step p) (to_sub b)) × (result.next ≡ next) }
 {
-    let n = place(p, b);
-    let top = top_of(b);
-    let sub = seated(p.left, n, top, None);
-    let l = kid_of(true, b);
-    let r = kid_of(false, b);
-    let others = Others {
-        left: l,
-        right: r,
-        top: None,
-    };
     Raised {
-        wanted: None,
-        sub,
+        sub: seated(p.left, place(p, b), top_of(b), None),
         aside: None,
-        others,
+        others: Others {
+            left: kid_of(true, b),
+            right: kid_of(false, b),
+            top: None,
+        },
         next,
     }
 }
 
-// One level up.
-pub fn raise(p: Step, b: Sub, held: &[u64; ROW], count: usize, next: usize) -> Raised
-    requires { (length held.now ≡ words) × (HeldFrom 250 (held_in held.now count) next × (Low 250 (to_node p.node) × LowSub 250 (to_sub b))) }
-    ensures { Raises (map.raise (to_step p) (to_sub b)) (held_in held.now count) next result }
+// One level up, unless a node is missing.
+pub fn raise(p: Step, b: Sub, held: &[u64; ROW], count: usize, next: usize) -> Result<Raised, Want>
+    requires { HeldFrom 250 (held_in held.now count) next × (Low 250 (to_node p.node) × LowSub 250 (to_sub b)) }
+    ensures { RaisesIfHeld (map.raise (to_step p) (to_sub b)) (held_in held.now count) next result }
 {
     let n = place(p, b);
     if is_tall(true, n) {
@@ -234,7 +189,7 @@ pub fn raise(p: Step, b: Sub, held: &[u64; ROW], count: usize, next: usize) -> R
         let others = others_of(p, b, false);
         return turn(p, false, n, near, others, held, count, next);
     }
-    rest(p, b, next)
+    Ok(rest(p, b, next))
 }
 
 // One level up, with rotations or without.
@@ -245,12 +200,13 @@ pub fn raise_or_rest(
     held: &[u64; ROW],
     count: usize,
     next: usize,
-) -> Raised
-    requires { (length held.now ≡ words) × (HeldFrom 250 (held_in held.now count) next × (Low 250 (to_node p.node) × LowSub 250 (to_sub b))) }
-    ensures { Raises (level rotating (to_step p) (to_sub b)) (held_in held.now count) next result }
+) -> Result<Raised, Want>
+    requires { HeldFrom 250 (held_in held.now count) next × (Low 250 (to_node p.node) × LowSub 250 (to_sub b)) }
+    ensures { RaisesIfHeld (level rotating (to_step p) (to_sub b)) (held_in held.now count) next result }
 {
     if rotating {
-        return raise(p, b, held, count, next);
+        raise(p, b, held, count, next)
+    } else {
+        Ok(rest(p, b, next))
     }
-    rest(p, b, next)
 }

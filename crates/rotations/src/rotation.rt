@@ -8,8 +8,8 @@ ghost use Rattle.node_rows.specs.Heights.{Low};
 ghost use Rattle.map_nodes.specs.Method.{to_kid, to_sub};
 ghost use Rattle.rotations.specs.Raise.{to_rotated};
 
-use map_nodes::sides::{child_link, link_to, with_child};
 use map_nodes::Sub;
+use map_nodes::sides::{child_link, link_to, with_child};
 use slot_spec::Node;
 
 // The two nodes of a rotation.
@@ -34,9 +34,10 @@ pub fn seated(left: bool, n: Node, near: Option<Node>, far: Option<Node>) -> Sub
     ensures { to_sub result ≡ seat left (to_node n) (to_kid near) (to_kid far) }
 {
     if left {
-        return Sub::Top(n, near, far);
+        Sub::Top(n, near, far)
+    } else {
+        Sub::Top(n, far, near)
     }
-    Sub::Top(n, far, near)
 }
 
 // A single rotation: the child that does not lean inward comes up.
@@ -45,9 +46,7 @@ pub fn single(left: bool, n: Node, c: Node, outer: Option<Node>) -> Sub
     ensures { to_sub result ≡ (map.single left (to_node n) (to_node c) (to_kid outer) none []).sub }
 {
     let r = rotate(left, n, c);
-    let up = r.up;
-    let down = r.down;
-    seated(left, up, outer, Some(down))
+    seated(left, r.up, outer, Some(r.down))
 }
 
 // A double rotation: the inner child comes up over the child, then over the node.
@@ -56,10 +55,6 @@ pub fn double(left: bool, n: Node, c: Node, inner: Node) -> Sub
     ensures { to_sub result ≡ (map.double left (to_node n) (to_node c) (to_node inner) none []).sub }
 {
     let r = rotate(!left, c, inner);
-    let middle = r.up;
-    let below = r.down;
-    let q = rotate(left, n, middle);
-    let up = q.up;
-    let down = q.down;
-    seated(left, up, Some(below), Some(down))
+    let q = rotate(left, n, r.up);
+    seated(left, q.up, Some(r.down), Some(q.down))
 }

@@ -1,6 +1,6 @@
 -- The structures with one fetch round a call, and the outcome of a step that makes at most one node.
-use Rattle.std.specs.Prelude.{ℕ, Bool, true, false, [], ◌∷◌}
-use Rattle.list_spec.specs.Choice.{pick}
+use Rattle.std.specs.Prelude.{ℕ, Bool, true, false, option_to_list}
+use Rattle.std.specs.Prelude as list
 use Rattle.method_spec.specs.Answer.{Structure, map, stack, heap, queue}
 use Rattle.method_spec.specs.Outcome.{Outcome}
 use Rattle.leaf_spec.specs.Convert.{to_link, to_node}
@@ -15,4 +15,4 @@ one_fetch queue = true
 
 abbrev pub to_one_outcome : OneMade → Outcome ℕ
 to_one_outcome o =
-    record { nodes = pick o.made (to_node o.node ∷ []) []; root = to_link o.root; entries = o.entries; answer = to_step_answer o.answer }
+    record { nodes = list.map to_node (option_to_list o.node); root = to_link o.root; entries = o.entries; answer = to_step_answer o.answer }

@@ -7,14 +7,12 @@ ghost use Rattle.operation_spec.specs.Method.{to_step_answer, nothing};
 ghost use Rattle.short_outcomes.specs.OneFetch.{to_one_outcome};
 
 use operation_spec::{Answer, Full};
-use slot_fields::no_node;
 use slot_spec::{Link, Node};
 
-// Whether the step made a node, that node, the root link, the entries and the answer.
+// The node that the step made, if it made one, the root link, the entries and the answer.
 #[derive(Clone, Copy)]
 pub struct OneMade {
-    pub made: bool,
-    pub node: Node,
+    pub node: Option<Node>,
     pub root: Link,
     pub entries: u16,
     pub answer: Result<Answer, Full>,
@@ -25,8 +23,7 @@ pub fn none_made(root: Link, entries: u16, answer: Result<Answer, Full>) -> OneM
     ensures { to_one_outcome result ≡ nothing (to_link root) entries (to_step_answer answer) }
 {
     OneMade {
-        made: false,
-        node: no_node(),
+        node: None,
         root,
         entries,
         answer,

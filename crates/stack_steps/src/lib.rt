@@ -9,9 +9,8 @@ ghost use Rattle.operation_spec.specs.Method.{to_want, to_wanted, wanted_in};
 ghost use Rattle.short_outcomes.specs.OneFetch.{to_one_outcome};
 
 use operation_spec::{Answer, Full, Want};
-use operations::{one_less, start};
+use operations::{link_one, one_less, start};
 use short_outcomes::{OneMade, none_made};
-use slot_fields::no_link;
 use slot_spec::{Link, Node};
 
 // A push fetches none: a node with key entries + 1 whose left link is the old top.
@@ -22,23 +21,16 @@ pub fn push(value: u64, tag: u16, limit: u16, entries: u16, root: Link) -> OneMa
         return none_made(root, entries, Err(Full));
     }
     let more = entries + 1;
-    let key = more as u32;
     let node = Node {
-        key,
+        key: u32::from(more),
         value,
         tag,
         left: root,
-        right: no_link(),
-    };
-    let top = Link {
-        height: 1,
-        key,
-        tag,
+        right: Link::default(),
     };
     OneMade {
-        made: true,
-        node,
-        root: top,
+        node: Some(node),
+        root: link_one(node),
         entries: more,
         answer: Ok(Answer::Pushed),
     }
@@ -61,28 +53,18 @@ pub fn pop(entries: u16, root: Link, top: Node) -> OneMade
     if root.height == 0 {
         return none_made(root, entries, Ok(Answer::Empty));
     }
-    let link = top.left;
-    none_made(
-        link,
-        one_less(entries),
-        Ok(Answer::Popped(top.value)),
-    )
+    none_made(top.left, one_less(entries), Ok(Answer::Popped(top.value)))
 }
 
 // The stack's fetch test: no right link, and a left link of height 1 to the key before, absent exactly at key 1.
 pub fn stack_test(want: Want, n: Node) -> bool
     ensures { result ≡ stack_test (to_want want) (to_node n) }
 {
-    let left = n.left;
-    let right = n.right;
-    if right.height != 0 {
+    if n.right.height != 0 {
         return false;
     }
     if n.key == 1 {
-        return left.height == 0;
+        return n.left.height == 0;
     }
-    if left.height != 1 {
-        return false;
-    }
-    (left.key as u64) + 1 == n.key as u64
+    n.left.height == 1 && u64::from(n.left.key) + 1 == u64::from(n.key)
 }

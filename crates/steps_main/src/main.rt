@@ -20,10 +20,7 @@ const HIGHEST: u8 = 100;
 
 // A key is a character's code less that of 0, so that the digits are the keys 0 to 9.
 fn key_of(character: u8) -> u32 {
-    if character < b'0' {
-        return 0;
-    }
-    (character - b'0') as u32
+    u32::from(character.saturating_sub(b'0'))
 }
 
 fn op_of(sign: u8, key: u32, value: u64) -> Op {
@@ -32,7 +29,7 @@ fn op_of(sign: u8, key: u32, value: u64) -> Op {
         b'-' => Op::Remove(key),
         b'<' => Op::Push(value),
         b'>' => Op::Pop,
-        b'*' => Op::Add(key as u64),
+        b'*' => Op::Add(u64::from(key)),
         b'!' => Op::Take,
         _ => Op::Get(key),
     }
@@ -46,25 +43,18 @@ fn play_call(memory: Memory, sign: u8, character: u8, number: u64) -> Memory
     let tag = (number % 256) as u16;
     let done = call(memory, op_of(sign, key_of(character), number), tag);
     print_call(sign, character);
-    let answer = done.answer;
-    print_answer(answer);
+    print_answer(done.answer);
     done.memory
 }
 
 fn play(script: &[u8]) {
     let mut m = empty();
-    let calls = script.len() / 2;
-    let mut i: usize = 0;
-    while i < calls {
-        let root = m.root;
-        if root.height > HIGHEST {
+    for i in 0..script.len() / 2 {
+        if m.root.height > HIGHEST {
             print_too_high();
             return;
         }
-        let sign = script[2 * i];
-        let character = script[2 * i + 1];
-        m = play_call(m, sign, character, i as u64 + 1);
-        i += 1;
+        m = play_call(m, script[2 * i], script[2 * i + 1], i as u64 + 1);
     }
     print_tree(m);
 }

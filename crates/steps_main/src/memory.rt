@@ -1,11 +1,10 @@
 // The nodes that no call holds, in no order.
-ghost use Rattle.std.specs.Prelude.{◌≡◌, ◌≤◌, ◌<◌, length};
+ghost use Rattle.std.specs.Prelude.{◌≡◌, ◌≤◌, ◌<◌, length, IfSome};
 ghost use Rattle.node_rows.specs.Row.{places, words};
 
 use node_rows::{ROW, node_at};
 use operation_spec::Outcome;
 use short_outcomes::OneMade;
-use slot_fields::no_node;
 use slot_spec::{Link, Node};
 
 #[derive(Clone, Copy)]
@@ -19,31 +18,26 @@ pub struct Memory {
 pub fn empty() -> Memory
     ensures { result.count ≤ 16 }
 {
-    let none = no_node();
-    let nodes = [none; 16];
-    let root = none.left;
     Memory {
-        nodes,
+        nodes: [Node::default(); 16],
         count: 0,
-        root,
+        root: Link::default(),
         entries: 0,
     }
 }
 
-// The number of the node that a link leads to, by its key and tag, or how many nodes there are.
-pub fn find(memory: Memory, link: Link) -> usize
+// The number of the node that a link leads to, by its key and tag.
+pub fn find(memory: Memory, link: Link) -> Option<usize>
     requires { memory.count ≤ 16 }
-    ensures { result ≤ memory.count }
+    ensures { IfSome result (λ i. i < memory.count) }
 {
-    let mut i: usize = 0;
-    while i < memory.count {
+    for i in 0..memory.count {
         let n = memory.nodes[i];
         if n.key == link.key && n.tag == link.tag {
-            return i;
+            return Some(i);
         }
-        i += 1;
     }
-    i
+    None
 }
 
 // The memory without a node; the last one takes its place.
@@ -79,13 +73,10 @@ pub fn put_back(memory: Memory, o: Outcome, made: &[u64; ROW]) -> Memory
     ensures { result.count ≤ 16 }
 {
     let mut m = memory;
-    let mut i: usize = 0;
-    while i < o.made {
+    for i in 0..o.made {
         m = with_node(m, node_at(made, i));
-        i += 1;
     }
-    let root = o.root;
-    m.root = root;
+    m.root = o.root;
     m.entries = o.entries;
     m
 }
@@ -96,32 +87,27 @@ pub fn put_one(memory: Memory, o: OneMade) -> Memory
     ensures { result.count ≤ 16 }
 {
     let mut m = memory;
-    let root = o.root;
-    m.root = root;
+    m.root = o.root;
     m.entries = o.entries;
-    if !o.made {
-        return m;
+    match o.node {
+        Some(n) => with_node(m, n),
+        None => m,
     }
-    let n = o.node;
-    with_node(m, n)
 }
 
-// The number of the node with the least key from `least` on, or how many nodes there are.
-pub fn next_from(memory: Memory, least: u64) -> usize
+// The node with the least key from `least` on.
+pub fn next_from(memory: Memory, least: u64) -> Option<Node>
     requires { memory.count ≤ 16 }
-    ensures { result ≤ memory.count }
 {
-    let mut next = memory.count;
+    let mut next = None;
     let mut nearest: u64 = 4294967296;
-    let mut i: usize = 0;
-    while i < memory.count {
+    for i in 0..memory.count {
         let n = memory.nodes[i];
-        let key = n.key as u64;
+        let key = u64::from(n.key);
         if key >= least && key < nearest {
-            next = i;
+            next = Some(n);
             nearest = key;
         }
-        i += 1;
     }
     next
 }

@@ -11,7 +11,6 @@ use fetch_tests::passes;
 use node_rows::{FETCHES, ROW, set_node};
 use operation_spec::{Answer, Full, Op, Spares};
 use short_steps::{short_step, short_test, short_wanted};
-use slot_fields::no_node;
 use slot_spec::{Ahead, Node};
 use structures::{step, wanted};
 
@@ -53,27 +52,17 @@ fn structure_of(op: Op) -> u8
 fn one_fetch(structure: u8) -> bool
     ensures { result ≡ one_fetch (structure_of structure) }
 {
-    if structure == 1 {
-        return false;
-    }
-    if structure == 2 {
-        return true;
-    }
-    if structure == 3 {
-        return false;
-    }
-    true
+    structure != 1 && structure != 3
 }
 
 // A new node's tag. Nothing is known ahead: no script has a queue.
 fn spares_of(tag: u16) -> Spares
     ensures { result.ahead.key ≡ 0 }
 {
-    let none = Ahead { key: 0, tag: 0 };
     Spares {
         first: tag,
         second: tag,
-        ahead: none,
+        ahead: Ahead::default(),
     }
 }
 
@@ -92,26 +81,25 @@ fn gather(
 {
     let root = memory.root;
     let mut m = memory;
-    let mut count: usize = 0;
-    while count < FETCHES {
+    for count in 0..FETCHES {
         let next = wanted(op, LIMIT, memory.entries, root, spares, held, count, made);
         let Some(want) = next else {
-            break;
+            return Gathered { memory: m, count };
         };
-        let link = want.link;
-        let i = find(m, link);
-        if i >= m.count {
-            break;
-        }
+        let Some(i) = find(m, want.link) else {
+            return Gathered { memory: m, count };
+        };
         let n = m.nodes[i];
         if !passes(structure, memory.entries, want, n) {
-            break;
+            return Gathered { memory: m, count };
         }
         m = without(m, i);
         set_node(held, count, n);
-        count += 1;
     }
-    Gathered { memory: m, count }
+    Gathered {
+        memory: m,
+        count: FETCHES,
+    }
 }
 
 // A call of a map or a heap.
@@ -134,11 +122,9 @@ fn long_call(memory: Memory, op: Op, structure: u8, tag: u16) -> Done
         gathered.count,
         &mut made,
     );
-    let answer = o.answer;
-    let left = gathered.memory;
     Done {
-        memory: put_back(left, o, &made),
-        answer,
+        memory: put_back(gathered.memory, o, &made),
+        answer: o.answer,
     }
 }
 
@@ -147,13 +133,11 @@ fn short_end(memory: Memory, op: Op, tag: u16, node: Node) -> Done
     requires { (one_fetch (structure_asked op) ≡ true) × (memory.count ≤ 16) }
     ensures { result.memory.count ≤ 16 }
 {
-    let root = memory.root;
     let spares = spares_of(tag);
-    let o = short_step(op, LIMIT, memory.entries, root, spares, node);
-    let answer = o.answer;
+    let o = short_step(op, LIMIT, memory.entries, memory.root, spares, node);
     Done {
         memory: put_one(memory, o),
-        answer,
+        answer: o.answer,
     }
 }
 
@@ -162,20 +146,16 @@ fn short_call(memory: Memory, op: Op, structure: u8, tag: u16) -> Done
     requires { ((one_fetch (structure_of structure) ≡ true) × (one_fetch (structure_asked op) ≡ true)) × (memory.count ≤ 16) }
     ensures { result.memory.count ≤ 16 }
 {
-    let root = memory.root;
     let absent = Done {
         memory,
         answer: Ok(Answer::Absent),
     };
-    let next = short_wanted(op, memory.entries, root);
-    let Some(want) = next else {
-        return short_end(memory, op, tag, no_node());
+    let Some(want) = short_wanted(op, memory.entries, memory.root) else {
+        return short_end(memory, op, tag, Node::default());
     };
-    let link = want.link;
-    let i = find(memory, link);
-    if i >= memory.count {
+    let Some(i) = find(memory, want.link) else {
         return absent;
-    }
+    };
     let n = memory.nodes[i];
     if !short_test(structure, want, n) {
         return absent;

@@ -26,7 +26,7 @@ fn print_byte(b: u8) {
 
 // A key as its character (see main).
 fn print_key(key: u32) {
-    print_byte(((key as u64 + 48) % 256) as u8);
+    print_byte(((u64::from(key) + 48) % 256) as u8);
 }
 
 pub fn print_call(sign: u8, character: u8) {
@@ -72,17 +72,15 @@ fn print_link(link: Link) {
     }
     print_key(link.key);
     text(b"/");
-    io::print_decimal(STDOUT_FILENO, link.height as u64);
+    io::print_decimal(STDOUT_FILENO, u64::from(link.height));
 }
 
 fn print_node(n: Node) {
-    let left = n.left;
-    let right = n.right;
     print_key(n.key);
     text(b" left ");
-    print_link(left);
+    print_link(n.left);
     text(b" right ");
-    print_link(right);
+    print_link(n.right);
     valued(b" value ", n.value);
 }
 
@@ -90,20 +88,15 @@ fn print_node(n: Node) {
 pub fn print_tree(memory: Memory)
     requires { memory.count ≤ 16 }
 {
-    let root = memory.root;
     text(b"root ");
-    print_link(root);
+    print_link(memory.root);
     text(b"\n");
     let mut least: u64 = 0;
-    let mut i: usize = 0;
-    while i < memory.count {
-        let at = next_from(memory, least);
-        if at < memory.count {
-            let n = memory.nodes[at];
+    for _ in 0..memory.count {
+        if let Some(n) = next_from(memory, least) {
             print_node(n);
-            least = n.key as u64 + 1;
+            least = u64::from(n.key) + 1;
         }
-        i += 1;
     }
     text(b"\n");
 }

@@ -1,5 +1,5 @@
 -- The map's and the heap's operations by their programs, and what is known ahead after any structure's.
-use Rattle.std.specs.Prelude.{ℕ, ◌≡◌, List}
+use Rattle.std.specs.Prelude.{ℕ, ◌≡◌, List, Result, Ok, Err, IfOk}
 use Rattle.std.proofs.Common.{sym, ◌∙◌, arith}
 use Rattle.std.proofs.Math.Path.{ap}
 use Rattle.std.proofs.Math.Option.{Option}
@@ -12,6 +12,7 @@ use Rattle.method_spec.specs.Queue.{enqueue_ahead, dequeue_ahead}
 use Rattle.method_spec.specs.Call.{program, ahead_after}
 use Rattle.slot_spec.specs.declared.Link as link
 use Rattle.leaf_spec.specs.Convert.{to_ahead}
+use Rattle.operation_spec.specs.declared.Want as want
 use Rattle.operation_spec.specs.declared.Op.{Op}
 use Rattle.operation_spec.specs.declared.Op.TheVariants.{Get, Put, Remove, Add, Take, Enqueue, Dequeue}
 use Rattle.operation_spec.specs.declared.Spares.{Spares}
@@ -22,7 +23,7 @@ use Rattle.node_rows.specs.Held.{Held, held_in, nodes_of}
 use Rattle.node_rows.specs.HeldLaws.{row-places}
 use Rattle.map_changes.specs.declared.Bottom.{Bottom}
 use Rattle.map_descent.specs.Walk.{Walks}
-use Rattle.map_changes.specs.Bottom.{StartsUp}
+use Rattle.map_changes.specs.Bottom.{BottomReady, StartsIfHeld}
 use Rattle.map_steps.specs.Outcome.{from_bottom}
 use Rattle.structures.specs.Operation.{LowHeld}
 
@@ -33,6 +34,16 @@ walks-of {row = row} low =
       held = record { places = row-places row low.sized; few = low.few; within = omega arith; low = low.low };
       root-low = low.root-low;
     }
+
+-- What the way up asks of where it starts, and what comes of it.
+module _ (key : ℕ) (root : link.Link) (h : Held) (p : Prog ℕ (Outcome ℕ)) where
+  pub ready-of : (b : Result Bottom want.Want) → StartsIfHeld key root h p b → IfOk b (BottomReady key root h)
+  ready-of (Ok b) starts = starts.ready
+  ready-of (Err w) starts = tt
+
+  pub from-starts : (b : Result Bottom want.Want) → StartsIfHeld key root h p b → resume p (nodes_of h) ≡ from_bottom key root h b
+  from-starts (Ok b) starts = starts.resumes
+  from-starts (Err w) misses = misses
 
 module _ (op : Op) (spares : Spares) (limit entries : ℕ) (l : Link ℕ) where
   abbrev pub program_of : Prog ℕ (Outcome ℕ)
@@ -81,10 +92,10 @@ module _ {p q : Prog ℕ (Outcome ℕ)} (e : p ≡ q) (h : Held) where
     outcome-by f =
         f ∙ sym (outcome-after l entries q (nodes_of h)) ∙ ap (λ (x : Prog ℕ (Outcome ℕ)). outcome_in l entries (after x (nodes_of h))) (sym e)
 
-  module _ (key : ℕ) (root : link.Link) (b : Bottom) (starts : StartsUp key root h q b) where
+  module _ (key : ℕ) (root : link.Link) (b : Result Bottom want.Want) (starts : StartsIfHeld key root h q b) where
     pub wanted_up : {w : Option (Want ℕ)} → w ≡ wanted_of (from_bottom key root h b) → w ≡ wanted_in (after p (nodes_of h))
-    wanted_up f = wanted_by (f ∙ ap wanted_of (sym starts.resumes))
+    wanted_up f = wanted_by (f ∙ ap wanted_of (sym (from-starts key root h q b starts)))
 
     pub outcome-up : (l : Link ℕ) (entries : ℕ) {o : Outcome ℕ} → o ≡ outcome_of l entries (from_bottom key root h b)
         → o ≡ outcome_in l entries (after p (nodes_of h))
-    outcome-up l entries f = outcome-by l entries (f ∙ ap (outcome_of l entries) (sym starts.resumes))
+    outcome-up l entries f = outcome-by l entries (f ∙ ap (outcome_of l entries) (sym (from-starts key root h q b starts)))

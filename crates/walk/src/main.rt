@@ -11,15 +11,11 @@ ghost use Rattle.walk_spec.specs.Walk.{call_in, Printed};
 
 use call_draws::MOST_LEAVES;
 use input_calls::{call_in, read_record};
-use input_opening::{open_input, print_short};
+use input_opening::{Store, open_input, print, whole};
 use state_spec::State;
 use text_writer::LONGEST_LINE;
 use walk_input::{LARGEST_TREE, LONGEST_RECORD, tree_lent};
 use walk_lines::line;
-use walk_spec::Arrived;
-
-// The descriptor of the standard output.
-const STDOUT_FILENO: i32 = 1;
 
 // What a call of the input leaves: the state, and the length of its line.
 #[derive(Clone, Copy)]
@@ -36,68 +32,38 @@ fn walk_call(state: State, tree: &mut [u8], input: &[u8], out: &mut [u8]) -> Wal
 {
     let mut trace = [0u16; MOST_LEAVES];
     let made = call_in(state, tree, input, &mut trace);
-    let reply = made.reply;
-    let length = line(reply, made.leaves, &trace, out);
-    let left = made.state;
+    let length = line(made.reply, made.leaves, &trace, out);
     Walked {
-        state: left,
+        state: made.state,
         length,
     }
 }
 
-// The state after one more call of the input, and whether to read on.
-#[derive(Clone, Copy)]
-struct Read {
-    state: State,
-    more: bool,
-}
-
-// Reads a call, in pieces of any length, makes it and prints its line.
-fn read_call(state: State, tree: &mut [u8]) -> Read
-    requires { (1 ≤ state.size) × (state.size ≤ largest_size) }
-    ensures { result.state.size ≡ state.size }
-{
+// Reads a call, in pieces of any length, makes it and prints its line. The store that it leaves, if more is to be read.
+fn read_call(store: Store, tree: &mut [u8]) -> Option<Store> {
+    let state = store.state;
     let mut input = [0u8; LONGEST_RECORD];
-    match read_record(state.structure, state.size, &mut input) {
-        Arrived::End => Read { state, more: false },
-        Arrived::Short => {
-            print_short();
-            Read { state, more: false }
-        }
-        Arrived::Whole => {
-            let mut out = [0u8; LONGEST_LINE];
-            let walked = walk_call(state, tree, &input, &mut out);
-            let length = walked.length;
-            let more = io::write_all(STDOUT_FILENO, &out[..length]);
-            let left = walked.state;
-            Read { state: left, more }
-        }
+    whole(read_record(state.structure, state.size, &mut input))?;
+    let mut out = [0u8; LONGEST_LINE];
+    let walked = walk_call(state, tree, &input, &mut out);
+    if print(&out[..walked.length]) {
+        Some(Store {
+            state: walked.state,
+        })
+    } else {
+        None
     }
 }
 
-// The calls up to the input's end. A proved loop has to end, and nothing says that an input does: the loop counts its
-// turns down from a number that no run uses up.
-fn read_calls(opened: State, tree: &mut [u8])
-    requires { (1 ≤ opened.size) × (opened.size ≤ largest_size) }
-{
-    let mut state = opened;
-    let mut turns = u64::MAX;
-    while turns > 0 {
-        let read = read_call(state, tree);
-        if !read.more {
-            return;
-        }
-        state = read.state;
-        turns -= 1;
-    }
+// The calls up to the input's end. A proved loop has to end, and nothing says that an input does: no run uses up the turns.
+fn read_calls(opened: Store, tree: &mut [u8]) {
+    let _ = (0..u64::MAX).try_fold(opened, |store, _| read_call(store, tree));
 }
 
 fn main() {
     let mut space = [0u8; LARGEST_TREE];
-    let state = open_input(&mut space);
-    if state.mark != 0 {
-        return;
+    if let Some(opened) = open_input(&mut space) {
+        let length = tree_lent(opened.state.size);
+        read_calls(opened, &mut space[..length]);
     }
-    let length = tree_lent(state.size);
-    read_calls(state, &mut space[..length]);
 }

@@ -14,7 +14,10 @@ use lent_numbers::read_numbers;
 use slot_spec::BUCKET_LENGTH;
 use tickets::TICKET_LENGTH;
 use tree_paths::tree_length;
-use walk_spec::Arrived;
+use walk_spec::Stop;
+
+// The descriptor of the standard input.
+const STDIN_FILENO: i32 = 0;
 
 // The structure byte and the size byte.
 pub const HEAD_LENGTH: usize = 2;
@@ -26,16 +29,22 @@ pub const LONGEST_RECORD: usize = TICKET_LENGTH + 2 * MOST_DRAWS;
 pub const LARGEST_TREE: usize = BUCKET_LENGTH * ((1 << (LARGEST_SIZE as usize + 1)) - 1);
 
 // How a part of the input came of which so many bytes were wanted.
-pub fn arrived(got: usize, wanted: usize) -> Arrived
+pub fn arrived(got: usize, wanted: usize) -> Result<(), Stop>
     ensures { result ≡ arrived_of got wanted }
 {
-    if got < wanted {
-        if got == 0 {
-            return Arrived::End;
-        }
-        return Arrived::Short;
+    if wanted <= got {
+        Ok(())
+    } else if got == 0 {
+        Err(Stop::End)
+    } else {
+        Err(Stop::Short)
     }
-    Arrived::Whole
+}
+
+// Reads a part of the input, in pieces of any length; how it came.
+pub fn read_part(part: &mut [u8]) -> Result<(), Stop> {
+    let got = io::read_full(STDIN_FILENO, part);
+    arrived(got, part.len())
 }
 
 // The length of the tree that an opening is lent.
@@ -43,9 +52,10 @@ pub fn tree_lent(size: u8) -> usize
     ensures { (result ≡ tree_lent size) × (result ≤ largest_tree) }
 {
     if in_range(size, LARGEST_SIZE) {
-        return tree_length(size as usize);
+        tree_length(usize::from(size))
+    } else {
+        0
     }
-    0
 }
 
 // The bytes of one call.

@@ -1,11 +1,11 @@
 -- The walk program's whole output for an input.
-use Rattle.std.specs.Prelude.{ℕ, zero, suc, ◌+◌, ◌*◌, ◌≡◌, Bool, true, false, List, [], ◌∷◌, ◌++◌, eqb, length, take, drop, replicate}
+use Rattle.std.specs.Prelude.{ℕ, zero, suc, ◌*◌, ◌≡◌, Bool, true, false, List, [], ◌∷◌, ◌++◌, eqb, length, take, drop, replicate, ⊤, Result, Ok, Err}
 use Rattle.state_spec.specs.declared.State.{State}
 use Rattle.state_spec.specs.Opening.{Opened, opened}
 use Rattle.call_spec.specs.Reply.{Refused}
 use Rattle.call_spec.specs.Store.{Ended, called}
-use Rattle.walk_spec.specs.declared.Arrived.{Arrived}
-use Rattle.walk_spec.specs.declared.Arrived.TheVariants.{Whole, End, Short}
+use Rattle.walk_spec.specs.declared.Stop.{Stop}
+use Rattle.walk_spec.specs.declared.Stop.TheVariants.{End, Short}
 use Rattle.walk_spec.specs.Lines.{line_of, short_line}
 use Rattle.state_spec.specs.Fetching.{rounds_of, draws_of}
 use Rattle.host_spec.specs.Lengths.{tree_lent}
@@ -28,10 +28,10 @@ pub record Printed (e : Ended) (before : List ℕ) (s : State) (tree after : Lis
   pub line : after ≡ call_line e ++ drop end before
 
 -- The next call's line and what follows it, "short" where the input ends within the call, and nothing where it ends before.
-abbrev pub next_line : Arrived → State → (tree input : List ℕ) → (State → List ℕ → List ℕ → List ℕ) → List ℕ
-next_line End s tree input rest = []
-next_line Short s tree input rest = short_line
-next_line Whole s tree input rest =
+abbrev pub next_line : Result ⊤ Stop → State → (tree input : List ℕ) → (State → List ℕ → List ℕ → List ℕ) → List ℕ
+next_line (Err End) s tree input rest = []
+next_line (Err Short) s tree input rest = short_line
+next_line (Ok _) s tree input rest =
     call_line (call_in s tree input)
     ++ rest (call_in s tree input).state (call_in s tree input).tree (drop (record_length s.structure s.size) input)
 

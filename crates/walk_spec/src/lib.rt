@@ -1,10 +1,9 @@
 // The walk program's input and output: definitions.
 #![tactic(auto)]
 
-// How a part of the input came: whole, or the input ended before it or within it.
-#[derive(Clone, Copy)]
-pub enum Arrived {
-    Whole,
+// Why a part of the input did not come whole: the input ended before it or within it.
+#[derive(Clone, Copy, PartialEq, Eq)]
+pub enum Stop {
     End,
     Short,
 }

@@ -1,14 +1,10 @@
--- `bench_calls_main::make_calls` is safe and ends, and what it made calls of lies within the block. The loop's invariant: every lent buffer is as long
--- as it was, and the next call starts within what the block holds.
-use Prim.Native.Nat.{◌+◌, ◌-◌, ◌*◌, ◌≤◌}
-use mathlib.Core.Path.{◌≡◌}
-use lib.ListN.{length}
+-- `bench_calls_main::make_calls` is safe: each part of the block is as long as a ticket and its tape.
+use Rattle.std.proofs.Common.{◌≡◌, ◌+◌, ◌*◌, length}
+use Rattle.std.specs.Slice.Iter.{chunks_exact_size}
 use Rattle.bench_calls_main.proofs.make_calls.Given as goal
 
-abbrev pub invariant-loop-at : goal.invariant-loop-at
-invariant-loop-at l =
-    (length l.tree ≡ length l.initial.tree) × (length l.tape ≡ length l.initial.tape) × (length l.trace ≡ length l.initial.trace) × (l.wanted ≡ 13 + 2 * length l.tape) × (l.at ≤ l.held)
-
-abbrev pub decreases-loop-at : goal.decreases-loop-at
-decreases-loop-at l =
-    l.held - l.at
+abbrev pub invariant-loop-bytes : goal.invariant-loop-bytes
+invariant-loop-bytes l =
+    (goal.iterator-loop-bytes).can_next l.bytes-iterator
+    × (goal.iterator-loop-bytes).is_finite l.bytes-iterator
+    × (chunks_exact_size l.bytes-iterator ≡ 13 + 2 * length l.tape)

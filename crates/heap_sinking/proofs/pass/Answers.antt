@@ -10,7 +10,7 @@ use Rattle.heap_sinking.proofs.pass.Goals as goal
 pub node_at-v-requires : goal.node_at-v-requires
 node_at-v-requires c =
     let some = sinks-some _ c.args.value c.smaller-l.result.low (way_to c.args.way.position) (sym (c.sinks.ensures _) ∙ c.if-sinks.true) in
-    (c.requires.0, omega (arith, some, (c.smaller-l.ensures.inside places c.requires.3.left c.requires.3.right).0))
+    omega (arith, some, (c.smaller-l.ensures.inside places c.requires.1.left c.requires.1.right).0)
 
 pub returns-then-sinks : goal.returns-then-sinks
 returns-then-sinks c =

@@ -5,4 +5,4 @@ use Rattle.heap_spans.proofs.list_both.Goals as goal
 pub list_span-requires : goal.list_span-requires
 list_span-requires c =
     let first = c.list_first-more.ensures in
-    (c.requires.0, first.long, c.requires.2, c.requires.4, omega (arith, c.requires.5, first_counted _ _ c.args.first first))
+    (c.requires.0, c.requires.2, omega (arith, c.requires.3, first_counted _ _ c.args.first first))

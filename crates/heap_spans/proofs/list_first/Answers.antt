@@ -6,4 +6,4 @@ pub returns : goal.returns
 returns c =
     let a = c.args in
     let node = c.set_node in
-    lists-then a.made.now a.count (lists-node a.made.now c.requires.1 a.count (omega (arith, c.requires.4)) node.ensures.0 node.ensures.1) c.list_span.ensures
+    lists-then a.made.now a.count (lists-node a.made.now c.told-made a.count (omega (arith, c.requires.2)) node.ensures.0 node.ensures.1) c.list_span.ensures

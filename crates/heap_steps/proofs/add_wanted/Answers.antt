@@ -10,14 +10,14 @@ pub returns-then-count-way : goal.returns-then-count-way
 returns-then-count-way c =
     let a = c.args in
     let way = c.way_to-way in
-    λ value tag. rw (add-stops value tag a.entries a.limit a.root a.held.now a.count c.requires.0 c.requires.1 (omega (arith, c.if-entries-limit.true)) way.result way.ensures.0 way.ensures.1 c.if-count-way.true)
+    λ value tag. rw (add-stops value tag a.entries a.limit a.root a.held.now a.count c.told-held c.requires (omega (arith, c.if-entries-limit.true)) way.result way.ensures.0 way.ensures.1 c.if-count-way.true)
     (ap some c.next_on.ensures)
 
 pub returns-else-count-way : goal.returns-else-count-way
 returns-else-count-way c =
     let a = c.args in
     let way = c.way_to-way in
-    λ value tag. sym (add-ends value tag a.entries a.limit a.root a.held.now a.count c.requires.0 c.requires.1 (omega (arith, c.if-entries-limit.true)) way.result way.ensures.0 way.ensures.1 c.if-count-way.false)
+    λ value tag. sym (add-ends value tag a.entries a.limit a.root a.held.now a.count c.told-held c.requires (omega (arith, c.if-entries-limit.true)) way.result way.ensures.0 way.ensures.1 c.if-count-way.false)
 
 pub returns-else-entries-limit : goal.returns-else-entries-limit
 returns-else-entries-limit c =

@@ -1,4 +1,4 @@
-use mathlib.Core.Path.{refl, sym, ap}
+use mathlib.Core.Path.{refl, ap}
 use mathlib.Core.Option.{some}
 use Rattle.leaf_spec.specs.Convert.{to_link}
 use Rattle.node_rows.specs.Held.{held_in, nodes_of}
@@ -8,22 +8,23 @@ use Rattle.heap_steps.proofs.take_wanted.Goals as goal
 pub returns-then-entries-eq0 : goal.returns-then-entries-eq0
 returns-then-entries-eq0 c =
     let a = c.args in
-    (rw (take-empty a.entries (to_link a.root) (nodes_of (held_in a.held.now a.count)) c.if-entries-eq0.true), c.requires.1)
+    rw (take-empty a.entries (to_link a.root) (nodes_of (held_in a.held.now a.count)) c.if-entries-eq0.true)
 
-pub returns-then-count-last : goal.returns-then-count-last
-returns-then-count-last c =
+pub returns-then-count-way : goal.returns-then-count-way
+returns-then-count-way c =
     let a = c.args in
     let way = c.way_to-way in
-    (rw (take-stops a.entries a.root a.held.now a.count c.requires.0 c.requires.2 c.if-entries-eq0.false way.result way.ensures.0 way.ensures.1 c.if-count-last.true) (ap some c.next_on.ensures), c.requires.1)
+    rw (take-stops a.entries a.root a.held.now a.count c.told-held c.requires c.if-entries-eq0.false way.result way.ensures.0 way.ensures.1 c.if-count-way.true) (ap some c.next_on.ensures)
 
-pub returns-then-last-eq0 : goal.returns-then-last-eq0
-returns-then-last-eq0 c =
+pub returns-then-way-eq0 : goal.returns-then-way-eq0
+returns-then-way-eq0 c =
     let a = c.args in
     let way = c.way_to-way in
-    (rw (take_last a.entries a.root a.held.now a.count c.requires.0 c.requires.2 c.if-entries-eq0.false way.result way.ensures.0 way.ensures.1 c.if-count-last.false c.if-last-eq0.true refl), c.requires.1)
+    rw (take_last a.entries a.root a.held.now a.count c.told-held c.requires c.if-entries-eq0.false way.result way.ensures.0 way.ensures.1 c.if-count-way.false c.if-way-eq0.true refl)
 
 pub returns : goal.returns
 returns c =
     let a = c.args in
     let way = c.way_to-way in
-    (sym (take-wants a.entries a.root a.held.now a.count c.requires.0 c.requires.2 c.if-entries-eq0.false way.result way.ensures.0 way.ensures.1 c.if-count-last.false c.if-last-eq0.false c.node_at-z.ensures c.sink-r.ensures), c.sink-r.ensures.long)
+    rw c.err.ensures.value
+    (take-wants a.entries a.root a.held.now a.count c.told-held c.requires c.if-entries-eq0.false way.result way.ensures.0 way.ensures.1 c.if-count-way.false c.if-way-eq0.false c.node_at-z.ensures c.sink.new.made c.sink.result c.sink.ensures)

@@ -5,5 +5,5 @@ use Rattle.map_balance.proofs.lean.Goals as goal
 pub overflow_sub-result : goal.overflow_sub-result
 overflow_sub-result c = rw c.balance-b.ensures (balance-fits (to_node c.args.n))
 
-pub returns : goal.returns
-returns c = rw (c.balance-b.ensures, c.if-left.false) (balance-negated (to_node c.args.n))
+pub returns-else-left : goal.returns-else-left
+returns-else-left c = rw (c.balance-b.ensures, c.if-left.false) (balance-negated (to_node c.args.n))

@@ -2,27 +2,29 @@ use mathlib.Core.Path.{refl}
 use Rattle.method_spec.specs.Prog.{done}
 use Rattle.method_spec.specs.Map.{get_step}
 use Rattle.leaf_spec.specs.Convert.{to_link}
-use Rattle.operation_spec.specs.Method.{to_want}
+use Rattle.operations.specs.ResumeLaws.{handed-on}
 use Rattle.map_operations.specs.BottomLaws.{get-is, get-gap, get-hit, starts-missing, starts-gap, starts-hit, hit-low}
 use Rattle.map_operations.proofs.get.Goals as goal
 
-pub returns-in-Missing : goal.returns-in-Missing
-returns-in-Missing c =
+pub returns-in_err-d : goal.returns-in_err-d
+returns-in_err-d c =
     let a = c.args in
     rw (get-is a.key a.entries (to_link a.root))
-    (starts-missing c.requires.1 c.descend-d.ensures (λ x. done (get_step a.entries x)) c.in-Missing.is c.unfinished.ensures)
+    (handed-on _ _ c.from_residual.result c.from_residual.ensures (starts-missing (λ x. done (get_step a.entries x)) c.in_err-d.field-0.0 c.in_err-d.ensures))
 
-pub returns-in-Gap : goal.returns-in-Gap
-returns-in-Gap c =
+pub returns-in-None : goal.returns-in-None
+returns-in-None c =
     let a = c.args in
+    let down = c.in_ok-d.ensures in
     rw (get-is a.key a.entries (to_link a.root))
-    (starts-gap c.requires.1 c.descend-d.ensures (λ x. done (get_step a.entries x)) c.in-Gap.is c.at_gap.ensures
-    c.descend-d.ensures.low refl (get-gap _ a.entries (to_link c.descend-d.result.want.link)))
+    (starts-gap c.requires down (λ x. done (get_step a.entries x)) c.in-None.is c.at_gap.ensures
+    down.low refl (get-gap _ a.entries _))
 
-pub returns-in-Hit : goal.returns-in-Hit
-returns-in-Hit c =
+pub returns-in-Some : goal.returns-in-Some
+returns-in-Some c =
     let a = c.args in
-    let e = c.in-Hit.is in
+    let down = c.in_ok-d.ensures in
+    let e = c.in-Some.is in
     rw (get-is a.key a.entries (to_link a.root))
-    (starts-hit c.requires.1 c.descend-d.ensures (λ x. done (get_step a.entries x)) e c.node_at-n.ensures c.at_node.ensures
-    (hit-low c.requires.1 c.descend-d.ensures e c.node_at-n.ensures, (tt, tt)) refl (get-hit _ a.entries (to_want c.descend-d.result.want) _))
+    (starts-hit c.requires down (λ x. done (get_step a.entries x)) e c.at_node.ensures
+    (hit-low c.requires down e, (tt, tt)) refl (get-hit _ a.entries _ _))

@@ -1,49 +1,59 @@
 use mathlib.Core.Path.{refl}
 use Rattle.method_spec.specs.Map.{remove_step}
 use Rattle.leaf_spec.specs.Convert.{to_link}
-use Rattle.operation_spec.specs.Method.{to_want}
-use Rattle.map_operations.specs.BottomLaws.{remove-is, remove-gap, remove-left, remove-right, starts-missing, starts-gap, starts-hit, starts-past, hit-low}
+use Rattle.operations.specs.ResumeLaws.{handed-on}
+use Rattle.map_operations.specs.BottomLaws.{remove-is, remove-gap, remove-left, remove-right, starts-missing, starts-gap, starts-hit, misses-past, starts-past, hit-low, hit-held}
 use Rattle.map_operations.proofs.remove.Goals as goal
 
-pub returns-then-left-eq0 : goal.returns-then-left-eq0
-returns-then-left-eq0 c =
+pub returns-in_err-d : goal.returns-in_err-d
+returns-in_err-d c =
     let a = c.args in
-    let e = c.in-Hit.is in
-    let is = c.node_at-n.ensures in
     rw (remove-is a.key a.entries (to_link a.root))
-    (starts-hit c.requires.1 c.descend-d.ensures (remove_step a.entries) e is c.taken_out.ensures
-    (hit-low c.requires.1 c.descend-d.ensures e is).1 refl
-    (rw c.one_less-fewer.ensures (remove-left _ a.entries (to_want c.descend-d.result.want) _ c.if-left-eq0.true)))
+    (handed-on _ _ c.from_residual.result c.from_residual.ensures (starts-missing (remove_step a.entries) c.in_err-d.field-0.0 c.in_err-d.ensures))
 
-pub returns-then-right-eq0 : goal.returns-then-right-eq0
-returns-then-right-eq0 c =
+pub returns-in_default : goal.returns-in_default
+returns-in_default c =
     let a = c.args in
-    let e = c.in-Hit.is in
-    let is = c.node_at-n.ensures in
+    let down = c.in_ok-d.ensures in
     rw (remove-is a.key a.entries (to_link a.root))
-    (starts-hit c.requires.1 c.descend-d.ensures (remove_step a.entries) e is c.taken_out-then-right-eq0.ensures
-    (hit-low c.requires.1 c.descend-d.ensures e is).0 refl
-    (rw c.one_less-fewer.ensures
-    (remove-right _ a.entries (to_want c.descend-d.result.want) _ c.if-left-eq0.false c.if-right-eq0.true)))
+    (starts-gap c.requires down (remove_step a.entries) c.in_default.is c.at_gap.ensures
+    down.low refl (remove-gap _ a.entries _))
 
-pub returns-in-Missing : goal.returns-in-Missing
-returns-in-Missing c =
+pub returns-then-n-eq0 : goal.returns-then-n-eq0
+returns-then-n-eq0 c =
     let a = c.args in
+    let down = c.in_ok-d.ensures in
+    let e = c.in-Some.is in
     rw (remove-is a.key a.entries (to_link a.root))
-    (starts-missing c.requires.1 c.descend-d.ensures (remove_step a.entries) c.in-Missing.is c.unfinished.ensures)
+    (starts-hit c.requires down (remove_step a.entries) e c.taken_out.ensures
+    (hit-low c.requires down e).1 refl
+    (rw c.one_less-fewer.ensures (remove-left _ a.entries _ _ c.if-n-eq0.true)))
 
-pub returns-in-Gap : goal.returns-in-Gap
-returns-in-Gap c =
+pub returns-then-n-eq0-2 : goal.returns-then-n-eq0-2
+returns-then-n-eq0-2 c =
     let a = c.args in
+    let down = c.in_ok-d.ensures in
+    let e = c.in-Some.is in
     rw (remove-is a.key a.entries (to_link a.root))
-    (starts-gap c.requires.1 c.descend-d.ensures (remove_step a.entries) c.in-Gap.is c.at_gap.ensures
-    c.descend-d.ensures.low refl (remove-gap _ a.entries (to_link c.descend-d.result.want.link)))
+    (starts-hit c.requires down (remove_step a.entries) e c.taken_out-then-n-eq0-2.ensures
+    (hit-low c.requires down e).0 refl
+    (rw c.one_less-fewer.ensures (remove-right _ a.entries _ _ c.if-n-eq0.false c.if-n-eq0-2.true)))
 
-pub returns-else-right-eq0 : goal.returns-else-right-eq0
-returns-else-right-eq0 c =
+pub returns-in_err-last : goal.returns-in_err-last
+returns-in_err-last c =
     let a = c.args in
-    let is = c.node_at-n.ensures in
+    let down = c.in_ok-d.ensures in
+    let is = hit-held c.requires down c.in-Some.is in
     rw (remove-is a.key a.entries (to_link a.root))
-    (starts-past c.requires.1 a.entries c.descend-d.ensures c.in-Hit.is
-    (rw is at c.if-left-eq0.false) (rw is at c.if-right-eq0.false) c.next_larger-y.ensures
-    (rw (c.one_less-fewer.ensures, is) at c.past_found.ensures))
+    (handed-on _ _ c.from_residual-in_err-last.result c.from_residual-in_err-last.ensures
+    (misses-past c.requires a.entries down c.in-Some.is (rw is at c.if-n-eq0.false) (rw is at c.if-n-eq0-2.false)
+    c.in_err-last.field-0.0 c.in_err-last.ensures))
+
+pub returns : goal.returns
+returns c =
+    let a = c.args in
+    let down = c.in_ok-d.ensures in
+    let is = hit-held c.requires down c.in-Some.is in
+    rw (remove-is a.key a.entries (to_link a.root))
+    (starts-past c.requires a.entries down c.in-Some.is (rw is at c.if-n-eq0.false) (rw is at c.if-n-eq0-2.false) c.in_ok-last.ensures
+    (rw (c.one_less-fewer.ensures, is) at (c.past_found.ensures a.count)))

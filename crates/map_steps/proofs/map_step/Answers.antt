@@ -2,16 +2,15 @@ use Rattle.node_rows.specs.Held.{held_in}
 use Rattle.map_steps.specs.OutcomeLaws.{unmade, from-climbing, from-climbed}
 use Rattle.map_steps.proofs.map_step.Goals as goal
 
-pub returns-in-Some-still : goal.returns-in-Some-still
-returns-in-Some-still c =
-    let up = c.climb-c.ensures in
+pub returns-in_default-climb : goal.returns-in_default-climb
+returns-in_default-climb c =
     let a = c.args in
-    unmade a.root a.entries c.climb-c.new.made up.long c.no_nodes-in-Some-still.ensures
-    (from-climbing a.key a.root (held_in a.held.now a.count) a.b c.in_default.is up c.in-Some-still.is)
+    rw c.in-Ok.is
+    (unmade a.root a.entries c.climb.new.made c.no_nodes-in_default-climb.ensures
+    (from-climbing a.key a.root (held_in a.held.now a.count) c.in-Ok.b c.in_default-climb.field-0 c.in_default-climb.ensures))
 
 pub returns : goal.returns
 returns c =
-    let a = c.args in (
-      from-climbed a.key a.root (held_in a.held.now a.count) a.b c.in_default.is c.climb-c.ensures a.entries c.in_default-still.is c.finish.ensures.0,
-      c.finish.ensures.1,
-    )
+    let a = c.args in
+    rw c.in-Ok.is
+    (from-climbed a.key a.root (held_in a.held.now a.count) c.in-Ok.b c.in-Ok-climb.ensures a.entries c.finish.ensures.0, c.finish.ensures.1)

@@ -7,9 +7,9 @@ use Rattle.map_steps.proofs.map_wanted.Goals as goal
 pub returns-then-not-b : goal.returns-then-not-b
 returns-then-not-b c =
     let a = c.args in
-    (sym (from-resting a.key a.root (held_in a.held.now a.count) a.b c.in_default.is (not-true a.b.rotating c.if-not-b.true)), c.requires.1)
+    rw c.in-Ok.is (sym (from-resting a.key a.root (held_in a.held.now a.count) c.in-Ok.b (not-true c.in-Ok.b.rotating c.if-not-b.true)))
 
-pub returns : goal.returns
-returns c =
+pub returns-else-not-b : goal.returns-else-not-b
+returns-else-not-b c =
     let a = c.args in
-    (sym (from-rising a.key a.root (held_in a.held.now a.count) a.b c.in_default.is c.climb-c.ensures), c.climb-c.ensures.long)
+    rw (c.in-Ok.is, c.err.ensures.value) (from-rising a.key a.root (held_in a.held.now a.count) c.in-Ok.b c.climb.new.made c.climb.result c.climb.ensures)

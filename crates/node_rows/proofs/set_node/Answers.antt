@@ -13,5 +13,5 @@ returns c =
     let a = c.args in (
       ap (λ (x : Slot). nodes_from (stored a.row.now (4 * a.i) x)) c.slot_of-x.ensures.1
           ∙ row_put a.i a.row.now a.n (node-ranges a.n (search rules)) (omega (arith, c.requires)),
-      stored-length a.row.now (4 * a.i) c.slot_of-x.result ∙ c.requires.0,
+      stored-length a.row.now (4 * a.i) c.slot_of-x.result ∙ c.told-row,
     )

@@ -16,6 +16,6 @@ returns c =
     rw (
       dequeue-oldest a.entries (to_link a.root) (to_node a.oldest) c.if-entries-eq0.false,
       ← c.one_less.ensures,
-      ← c.root_after_out-link.ensures,
+      ← c.root_after_out.ensures,
     )
     (ap done c.none_made-2.ensures)

@@ -12,4 +12,4 @@ returns-then-entries-limit c =
 pub returns : goal.returns
 returns c =
     let a = c.args in
-    c.next_ahead-next.ensures ∙ sym (ahead-one a.spares.second a.entries a.limit (to_ahead a.spares.ahead) c.if-entries-limit.false)
+    c.next_ahead.ensures ∙ sym (ahead-one a.spares.second a.entries a.limit (to_ahead a.spares.ahead) c.if-entries-limit.false)

@@ -1,21 +1,22 @@
 -- `queue_steps::queue_test` meets its contract, test by test.
-use Prim.Native.Nat.{ℕ}
-use mathlib.Core.Path.{sym, ◌∙◌, ap}
-use lib.Dec.{eqb}
+use mathlib.Core.Path.{sym}
+use borrow.Author.Tests.{ne_eqb}
 use native.Mathlib.Numerals.{add-one}
 use Rattle.leaf_spec.specs.Convert.{to_node}
 use Rattle.operation_spec.specs.Method.{to_want}
 use Rattle.queue_steps.specs.FetchTestLaws.{not-one-high, right-link, key-after}
 use Rattle.queue_steps.proofs.queue_test.Goals as goal
 
-pub returns-then-left-ne1 : goal.returns-then-left-ne1
-returns-then-left-ne1 c = let a = c.args in sym (not-one-high (to_want a.want) (to_node a.n) c.if-left-ne1.true)
+pub returns-then-n-ne1 : goal.returns-then-n-ne1
+returns-then-n-ne1 c = let a = c.args in sym (not-one-high (to_want a.want) (to_node a.n) c.if-n-ne1.true)
 
-pub returns-then-right-ne0 : goal.returns-then-right-ne0
-returns-then-right-ne0 c = let a = c.args in sym (right-link (to_want a.want) (to_node a.n) c.if-left-ne1.false c.if-right-ne0.true)
-
-pub returns : goal.returns
-returns c =
+pub returns-then-n-eq0 : goal.returns-then-n-eq0
+returns-then-n-eq0 c =
     let a = c.args in
-    ap (λ (next : ℕ). eqb a.n.left.key next) (add-one a.n.key)
-    ∙ sym (key-after (to_want a.want) (to_node a.n) c.if-left-ne1.false c.if-right-ne0.false)
+    rw (c.from.ensures, c.from-then-n-eq0.ensures, add-one a.n.key)
+    (sym (key-after (to_want a.want) (to_node a.n) c.if-n-ne1.false c.if-n-eq0.true))
+
+pub returns-else-n-eq0 : goal.returns-else-n-eq0
+returns-else-n-eq0 c =
+    let a = c.args in
+    rw (ne_eqb a.n.right.height 0 c.if-n-eq0.false) (sym (right-link (to_want a.want) (to_node a.n) c.if-n-ne1.false c.if-n-eq0.false))

@@ -3,6 +3,7 @@ use native.Mathlib.Numerals.{add-one}
 use mathlib.Core.Path.{sym, ◌∙◌, ap}
 use Rattle.method_spec.specs.Prog.{done}
 use Rattle.leaf_spec.specs.Convert.{to_link}
+use Rattle.operations.specs.LinkLaws.{no-link}
 use Rattle.stack_steps.specs.StackLaws.{push-full, push-one}
 use Rattle.stack_steps.proofs.push.Goals as goal
 
@@ -14,4 +15,4 @@ returns-then-entries-limit c =
 pub returns : goal.returns
 returns c =
     let a = c.args in
-    rw (push-one a.value a.tag a.entries a.limit (to_link a.root) c.if-entries-limit.false, c.no_link.ensures, add-one a.entries)
+    rw (push-one a.value a.tag a.entries a.limit (to_link a.root) c.if-entries-limit.false, c.link_one.ensures, no-link c.default.result c.default.ensures, c.from.ensures, add-one a.entries)

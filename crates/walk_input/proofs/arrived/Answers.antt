@@ -1,16 +1,16 @@
 -- `walk_input::arrived` meets its contract, test by test.
-use borrow.Author.Tests.{lt-ltb, le-ltb, eq-eqb, ne_eqb}
+use Rattle.std.proofs.Common.{lt-ltb, le-ltb, eq-eqb, ne_eqb}
 use Rattle.walk_spec.specs.Input.{arrived_of}
 use Rattle.walk_input.proofs.arrived.Goals as goal
 
+pub returns-then-wanted-got : goal.returns-then-wanted-got
+unfolding arrived_of
+returns-then-wanted-got c = rw (le-ltb _ _ c.if-wanted-got.true)
+
 pub returns-then-got-eq0 : goal.returns-then-got-eq0
 unfolding arrived_of
-returns-then-got-eq0 c = rw (lt-ltb _ _ c.if-got-wanted.true, eq-eqb _ _ c.if-got-eq0.true)
+returns-then-got-eq0 c = rw (lt-ltb _ _ c.if-wanted-got.false, eq-eqb _ _ c.if-got-eq0.true)
 
-pub returns-then-got-wanted : goal.returns-then-got-wanted
+pub returns-else-got-eq0 : goal.returns-else-got-eq0
 unfolding arrived_of
-returns-then-got-wanted c = rw (lt-ltb _ _ c.if-got-wanted.true, ne_eqb _ _ c.if-got-eq0.false)
-
-pub returns : goal.returns
-unfolding arrived_of
-returns c = rw (le-ltb _ _ c.if-got-wanted.false)
+returns-else-got-eq0 c = rw (lt-ltb _ _ c.if-wanted-got.false, ne_eqb _ _ c.if-got-eq0.false)

@@ -7,9 +7,11 @@ use Rattle.heap_descent.proofs.fetch_test.heap_test.Goals as goal
 pub returns-then-link_good : goal.returns-then-link_good
 returns-then-link_good c =
     let a = c.args in
-    c.link_good-then-link_good.ensures ∙ sym (left-link-good a.entries (to_want a.want) (to_node a.n) (cc))
+    (rw c.from-position.ensures at c.link_good-then-link_good.ensures)
+    ∙ sym (left-link-good a.entries (to_want a.want) (to_node a.n) (sym (rw c.from-position.ensures at c.link_good.ensures) ∙ c.if-link_good.true))
 
-pub returns : goal.returns
-returns c =
+pub returns-else-link_good : goal.returns-else-link_good
+returns-else-link_good c =
     let a = c.args in
-    sym (left-link-bad a.entries (to_want a.want) (to_node a.n) (cc))
+    c.if-link_good.false
+    ∙ sym (left-link-bad a.entries (to_want a.want) (to_node a.n) (sym (rw c.from-position.ensures at c.link_good.ensures) ∙ c.if-link_good.false))

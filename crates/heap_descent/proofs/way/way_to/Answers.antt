@@ -5,4 +5,4 @@ use Rattle.heap_descent.proofs.way.way_to.Goals as goal
 
 pub returns : goal.returns
 returns c =
-    (refl, way-leads c.args.position (search rules))
+    (refl, rw c.from-zeros.ensures (way-leads c.args.position (search rules)))

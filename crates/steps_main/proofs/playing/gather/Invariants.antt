@@ -1,6 +1,6 @@
 -- `steps_main::playing::gather` meets its contract. The invariant: the memory has room as said, and the held nodes are low. A node that
 -- passed its test is as low as the link to it, which is as low as the root link and the held nodes.
-use Prim.Native.Nat.{◌-◌, ◌≤◌}
+use Prim.Native.Nat.{◌≤◌}
 use mathlib.Core.Path.{◌≡◌}
 use lib.ListN.{length}
 use Rattle.node_rows.specs.Row.{words}
@@ -10,7 +10,3 @@ use Rattle.steps_main.proofs.playing.gather.Given as goal
 abbrev pub invariant-loop-count : goal.invariant-loop-count
 invariant-loop-count l =
     (l.m.count ≤ 16) × (LowHeld l.memory.root l.held l.count × (length l.made ≡ words))
-
-abbrev pub decreases-loop-count : goal.decreases-loop-count
-decreases-loop-count l =
-    33 - l.count

@@ -8,7 +8,6 @@ use call_core::call_row;
 use call_draws::{rounds_of, spare_of};
 use call_spec::{Called, Refusal};
 use fitness::{Head, head_refusal};
-use round_close::greater;
 use slot_row::ROW_LENGTH;
 use stash::places::{load_place, saved_place};
 use state_places::zero_place;
@@ -82,7 +81,7 @@ pub fn call(state: State, tree: &mut [u8], ticket: &[u8], tape: &[u16], trace: &
     };
     // The state that is left. Past the nodes that wait now and those that waited before, its places are unused already.
     let m = r.waiting;
-    let end = greater(m, n);
+    let end = m.max(n);
     let mut left = state;
     let mut j = 0;
     while j < end {

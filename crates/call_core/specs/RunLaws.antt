@@ -33,7 +33,8 @@ use Rattle.call_spec.specs.declared.Refusal.{Refusal}
 use Rattle.call_spec.specs.declared.Refusal.TheVariants.{Closed, Unfit, TreeLength, TicketLength, UnknownKind, ShortTape, ShortTrace, Damage, Overflow, Full, NoKeyLeft, StrayField}
 use Rattle.call_spec.specs.Reply.{number_of}
 use Rattle.call_spec.specs.Store.{Ended}
-use Rattle.replies.specs.Answered.{IsMark, mark_of}
+use Rattle.replies.specs.Answered.{mark_of}
+use Rattle.round_close.specs.Fault.{mark_of as fault_mark}
 use Rattle.stash_laws.specs.WaitingLaws.{waiting-length}
 use Rattle.one_round.specs.OneRound.{going}
 use Rattle.want_rounds.specs.declared.Job.{Job}
@@ -153,12 +154,12 @@ module _ {j : Job} {n : ℕ} {row tree tape trace : List ℕ} (ok : Runs j n row
     run-few = omega (arith, came.counted, came.upto, at_most j draw is_leaf begins)
 
     -- ---- a fetch round closed the store
-    module _ (marked : f.mark ≡ 0 → ⊥) where
-      closed-by : fetched_by k F op draw store ≡ shut f.mark mid
-      closed-by = all-fetched ∙ came.outcome ∙ stops-here f.mark mid (after (program_of j) ns) marked
+    module _ (marked : fault_mark f.fault ≡ 0 → ⊥) where
+      closed-by : fetched_by k F op draw store ≡ shut (fault_mark f.fault) mid
+      closed-by = all-fetched ∙ came.outcome ∙ stops-here (fault_mark f.fault) mid (after (program_of j) ns) marked
 
-      left_is : bucket_call k F op draw store ≡ closing f.mark j.entries (to_link j.root) (to_ahead j.spares.ahead) mid
-      left_is = left-shut k F op draw store f.mark mid closed-by
+      left_is : bucket_call k F op draw store ≡ closing (fault_mark f.fault) j.entries (to_link j.root) (to_ahead j.spares.ahead) mid
+      left_is = left-shut k F op draw store (fault_mark f.fault) mid closed-by
 
       peak-shut : call_peak k F op draw store ≡ f.peak
       unfolding puts_after
@@ -169,7 +170,7 @@ module _ {j : Job} {n : ℕ} {row tree tape trace : List ℕ} (ok : Runs j n row
       pub run-shuts : Shuts f row'
       unfolding closing
       run-shuts =
-          let keeps = (fetch-closing k begins.some_size small op begins.op_fits draw is_leaf store begins.fit begins.key_left f.mark mid (rw (← begins.rounds-are) closed-by)).2 in
+          let keeps = (fetch-closing k begins.some_size small op begins.op_fits draw is_leaf store begins.fit begins.key_left (fault_mark f.fault) mid (rw (← begins.rounds-are) closed-by)).2 in
           let room : length (join leaf_format (fetch.moved_nodes hs) mid.waiting) ≤ places_for k = rw (← begins.rounds-are, left_is, closing) at keeps.room in
           let a = joined_length (fetch.moved_nodes hs) mid.waiting in
           let b = length-map hs (λ (h : fetch.Held). fetch.moved_node hs h.node) in
@@ -178,17 +179,11 @@ module _ {j : Job} {n : ℕ} {row tree tape trace : List ℕ} (ok : Runs j n row
             room = omega (arith, room, a, b, waiting-length came.rests.holds, begins.small, came.counted);
           }
 
-      -- Its mark is one that a round ends with.
-      shut-mark : IsMark f.mark
-      shut-mark =
-          let c = fetch-closing k begins.some_size small op begins.op_fits draw is_leaf store begins.fit begins.key_left f.mark mid (rw (← begins.rounds-are) closed-by) in
-          inr (rw c.0 at c.1.mark)
-
-      pub run-ends-shut : {cause : Refusal} → number_of cause ≡ f.mark → {r : Ran} {row'' : List ℕ} → ShutAs j f cause hs row' row'' r → RanAs j n row tree tape trace row'' tree' trace' r
+      pub run-ends-shut : {cause : Refusal} → number_of cause ≡ fault_mark f.fault → {r : Ran} {row'' : List ℕ} → ShutAs j f cause hs row' row'' r → RanAs j n row tree tape trace row'' tree' trace' r
       unfolding closing
       run-ends-shut {cause} met {r} e =
           let fits : f.leaves ≤ length trace' = omega (arith, came.no_more, came.trace-sized, long) in
-          let l = closing f.mark j.entries (to_link j.root) (to_ahead j.spares.ahead) mid in
+          let l = closing (fault_mark f.fault) j.entries (to_link j.root) (to_ahead j.spares.ahead) mid in
           let rest : drop (length (take f.leaves trace')) trace' ≡ drop (length (take f.leaves trace')) trace =
           rw (numbers-first f.leaves trace' fits) came.untouched in
           record {
@@ -200,16 +195,8 @@ module _ {j : Job} {n : ℕ} {row tree tape trace : List ℕ} (ok : Runs j n row
                 ∙ ap₂ (ending_with j.structure k trace) (sym left_is) (sym peak-shut);
           }
 
-    -- The mark of the fetch rounds.
-    pub fetched-mark : IsMark f.mark
-    fetched-mark = go (ℕ_discrete f.mark 0)
-      where
-        go : Dec (f.mark ≡ 0) → IsMark f.mark
-        go (yes e) = inl e
-        go (no d) = shut-mark d
-
     -- ---- all fetch rounds went on
-    module _ (went : f.mark ≡ 0) where
+    module _ (went : fault_mark f.fault ≡ 0) where
       over : Done (after (program_of j) ns)
       over = is-done (after (program_of j) ns) (came.finished went)
 
@@ -221,7 +208,7 @@ module _ {j : Job} {n : ℕ} {row tree tape trace : List ℕ} (ok : Runs j n row
 
       fetched-all : fetched_by k F op draw store ≡ on mid (done O)
       fetched-all =
-          all-fetched ∙ came.outcome ∙ goes_on_lem f.mark mid (after (program_of j) ns) went
+          all-fetched ∙ came.outcome ∙ goes_on_lem (fault_mark f.fault) mid (after (program_of j) ns) went
           ∙ ap (on mid) (over.is ∙ ap done made)
 
       pub run-finishes : Finishes j f (nodes_held hs) row' tree'

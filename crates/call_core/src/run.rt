@@ -63,12 +63,10 @@ pub fn run(
     let f = fetch_rounds(
         job, w, n, tree, &mut held, &mut froms, &mut made, &mut keys, tape, trace, &mut from,
     );
-    if let Some(cause) = cause_of(f.mark) {
+    if let Some(cause) = cause_of(f.fault) {
         return shut(job, f, cause, w, &mut held, &froms);
     }
-    finish(
-        job, f, w, tree, &held, &mut made, &keys, tape, trace, &mut from,
-    )
+    finish(job, f, w, tree, &held, &mut made, tape, trace, &mut from)
 }
 
 // The rounds and the step of a stack or a queue: its one node is held by value.
@@ -83,11 +81,10 @@ pub fn run_short(
     requires { Runs job n w.old tree.old tape.now trace.old × (one_fetch (structure_asked job.op) ≡ true) }
     ensures { RanAs job n w.old tree.old tape.now trace.old w.new tree.new trace.new result }
 {
-    let keys = [0u32; MOST_HELD];
     let mut from = [0u32; PATH_SLOTS];
-    let r = short_fetch(job, w, n, tree, &keys, tape, trace, &mut from);
-    if let Some(cause) = cause_of(r.fetched.mark) {
+    let r = short_fetch(job, w, n, tree, tape, trace, &mut from);
+    if let Some(cause) = cause_of(r.fetched.fault) {
         return shut_short(job, r, cause, w);
     }
-    finish_short(job, r, w, tree, &keys, tape, trace, &mut from)
+    finish_short(job, r, w, tree, tape, trace, &mut from)
 }

@@ -24,7 +24,7 @@ use Rattle.call_spec.specs.Reply.{number_of, to_reply}
 use Rattle.call_spec.specs.Store.{Ended, replied}
 use Rattle.stash.specs.Stash.{saved}
 use Rattle.stash_laws.specs.Waiting.{waiting_in, Holds}
-use Rattle.one_round.specs.OneRound.{going, Lent}
+use Rattle.one_round.specs.OneRound.{going}
 use Rattle.idle_rounds.specs.declared.idle.Idle.{Idle}
 use Rattle.put_rounds.specs.Put.{Stepped, Puts}
 use Rattle.want_rounds.specs.declared.Job.{Job}
@@ -107,15 +107,12 @@ finished_by j draw o g = after_puts (ahead_of j) o (put_rounds j.size draw j.rou
 abbrev pub listed_puts : Job → (ℕ → ℕ) → Outcome ℕ → Going → List (Round (Outcome ℕ))
 listed_puts j draw o g = rounds_from (structure_in j) j.entries j.size draw j.rounds j.puts (done o) g
 
--- What the put rounds of a call need, and what they are lent.
+-- What the put rounds of a call need.
 pub record CanPut (j : Job) (m : ℕ) (row tree : List ℕ) : Type 0 where
   pub some-rounds : 1 ≤ j.rounds
   pub few-rounds : j.rounds ≤ 33
   pub key_left : KeyLeft (to_op j.op) j.spares.ahead.key
   pub after-step : Stepped j.size m row tree
-
-abbrev pub PutLent : Job → (keys tape trace from : List ℕ) → Type 0
-PutLent j keys tape trace from = Lent keys 0 from × LongEnough j tape trace
 
 -- What the step and the put rounds need: the nodes that wait then are proper and have room.
 pub record Finishes (j : Job) (f : Fetched) (ns : List (Node ℕ)) (row tree : List ℕ) : Type 0 where

@@ -19,7 +19,6 @@ use Rattle.leaf_spec.specs.Leaf.{leaf_format}
 use Rattle.bucket_call_spec.specs.Fetch as fetch
 use Rattle.bucket_call_spec.specs.Fetch.{Going, Round, on, shut, closing, revealing, written, too_many, held_keys, at_close, idle_round}
 use Rattle.bucket_call_spec.specs.Call.{after_puts, put_rounds}
-use Rattle.none_lost_laws.specs.Putting.{puts-shut, puts-on}
 use Rattle.bucket_call_spec.specs.Peak.{peak_of}
 use Rattle.slot_spec.specs.declared.Link as link
 use Rattle.slot_spec.specs.declared.Ahead as ahead
@@ -41,7 +40,8 @@ use Rattle.put_rounds.specs.Put.{Puts}
 use Rattle.idle_rounds.specs.IdleLaws.{goes_on_lem, stops-here}
 use Rattle.call_ending.specs.declared.Ran.{Ran}
 use Rattle.call_ending.specs.Ending.{left_by, ending_with, outcome_of, outcome_with, stepped_by, ahead_of, ShutAs, CanPut, Finishes, finished_by, listed_puts, FinishedAs}
-use Rattle.replies.specs.Answered.{answered, IsMark}
+use Rattle.replies.specs.Answered.{answered}
+use Rattle.round_close.specs.Fault.{mark_of}
 use Rattle.operation_spec.specs.declared.Full.{Full}
 
 -- ---- parts alike
@@ -90,47 +90,6 @@ closing-none : (mark entries : ℕ) (l : Link ℕ) (a : Ahead ℕ) (n : ℕ) (ro
 unfolding closing join fetch.moved_link
 closing-none mark entries l a n row tree leaves = refl
 
--- ---- the mark of put rounds
--- A round closes a store only with 8 or 9.
-module _ {A : Type 0} where
-  abbrev Marked : Round A → Type 0
-  Marked (on g p) = Unit {0}
-  Marked (shut m g) = (m ≡ 8) ⊎ (m ≡ 9)
-
-  close-marks : (b : Bool) (g : Going) (p : Prog ℕ A) → Marked (pick b (shut 9 g) (on g p))
-  close-marks true g p = inr refl
-  close-marks false g p = tt
-
-  idle-marks : (k leaf : ℕ) (p : Prog ℕ A) (g : Going) → Marked (idle_round k leaf p g)
-  unfolding idle_round at_close
-  idle-marks k leaf p g = go (read_half leaf_format k g.tree leaf none (held_keys g) g.waiting)
-    where
-      go : (o : Option (Hand (Node ℕ)))
-          → Marked (elim o [ none ↦ shut 8 (revealing leaf g) | some h ↦ at_close (written k leaf h.waiting g.held g) p ])
-      go none = inl refl
-      go (some h) = close-marks (too_many (written k leaf h.waiting g.held g)) (written k leaf h.waiting g.held g) p
-
-puts-marks : (k : ℕ) (draw : ℕ → ℕ) (n d : ℕ) (o : Outcome ℕ) (g : Going) → Marked (put_rounds k draw n d o g)
-unfolding put_rounds
-puts-marks k draw zero d o g = tt
-puts-marks k draw (suc n) d o g = go (λ h. puts-marks k draw n (suc d) o h) (idle_round k (draw d) (done o) g) refl (idle-marks k (draw d) (done o) g)
-  where
-    go : ((h : Going) → Marked (put_rounds k draw n (suc d) o h)) → (x : Round (Outcome ℕ)) → idle_round k (draw d) (done o) g ≡ x → Marked x
-        → Marked (put_rounds k draw (suc n) d o g)
-    go later (shut m h) e mark = rw (puts-shut k draw n d o g m h e) mark
-    go later (on h q) e mark = rw (puts-on k draw n d o g q h e) (later h)
-
--- So the put rounds of a call end with one of the three marks.
-pub puts-mark : {k n : ℕ} {draw : ℕ → ℕ} {F first : ℕ} {row tree trace row' tree' trace' : List ℕ} {r : Idle} (o : Outcome ℕ)
-    → Puts k n draw F first row tree trace row' tree' trace' r → IsMark r.mark
-puts-mark {k} {n} {draw} {F} {first} {row} {tree} {row' = row'} {tree' = tree'} {r = r} o p = go (ℕ_discrete r.mark 0)
-  where
-    go : Dec (r.mark ≡ 0) → IsMark r.mark
-    go (yes e) = inl e
-    go (no d) =
-        let end = going r.waiting row' tree' [] ([] ++ draws_from draw r.shown first) in
-        inr (rw (p.rounds [] o ∙ stops-here r.mark end (done o) d) at (puts-marks k draw F first o (going n row tree [] [])))
-
 -- The put rounds, of the m nodes that wait after a step that came to such an outcome.
 module _ (j : Job) (draw : ℕ → ℕ) (l : link.Link) (entries : ℕ) (answer : Result told.Answer Full) (ns : List (Node ℕ)) (m : ℕ) {row tree : List ℕ} (trace : List ℕ)
     (long : 2 * j.rounds ≤ length trace) (a : ahead.Ahead) (known : to_ahead a ≡ ahead_of j)
@@ -163,8 +122,8 @@ module _ (j : Job) (draw : ℕ → ℕ) (l : link.Link) (entries : ℕ) (answer 
       ∙ sets-eq draws trace j.rounds (omega (arith, many, puts.no_more))
       ∙ ap (λ (d : ℕ). leaves' ++ drop d trace) (ap (λ (n : ℕ). j.rounds + n) many ∙ sym leaves-many)
 
-  kept-as : {mark : ℕ} → mark ≡ r.mark
-      → saved j.structure j.size r.mark entries l a (waiting_in r.waiting row')
+  kept-as : {mark : ℕ} → mark ≡ mark_of r.fault
+      → saved j.structure j.size (mark_of r.fault) entries l a (waiting_in r.waiting row')
       ≡ saved j.structure j.size mark entries l (from_ahead (ahead_of j)) (waiting_in r.waiting row')
   kept-as e = saved-same {ws = waiting_in r.waiting row'} (sym e) refl refl (ap from_ahead known) refl
 
@@ -176,35 +135,35 @@ module _ (j : Job) (draw : ℕ → ℕ) (l : link.Link) (entries : ℕ) (answer 
     same-peak = raised ∙ ap (max peak) (sym (puts.peaked _ j.entries (take j.rounds trace) O))
 
     abbrev ran : Result told.Answer Refusal → Ran
-    ran p = record { mark = r.mark; entries = entries; root = l; ahead = a; waiting = r.waiting; reply = p; leaves = j.rounds + r.shown; peak = peak' }
+    ran p = record { mark = mark_of r.fault; entries = entries; root = l; ahead = a; waiting = r.waiting; reply = p; leaves = j.rounds + r.shown; peak = peak' }
 
     abbrev EndsAs : Result told.Answer Refusal → Type 0
     EndsAs p = left_by j.structure j.size (ran p) row' tree' trace' ≡ ending_with j.structure j.size trace (finished_by j draw O g) most
 
     -- A put round closed the store.
-    put-shuts : (p : Result told.Answer Refusal) → (r.mark ≡ 0 → ⊥) → to_reply p ≡ Refused r.mark → EndsAs p
+    put-shuts : (p : Result told.Answer Refusal) → (mark_of r.fault ≡ 0 → ⊥) → to_reply p ≡ Refused (mark_of r.fault) → EndsAs p
     unfolding after_puts replied
     put-shuts p marked q =
         ended_same (kept-as refl) q (sym leaves-many) same-peak refl trace-is
         ∙ ap (λ (x : fetch.CallLeft). ending_with j.structure j.size trace x most)
         (sym
-        (ap (after_puts (ahead_of j) O) (puts.rounds (take j.rounds trace) O ∙ stops-here r.mark end (done O) marked)
-        ∙ closing-none r.mark entries (to_link l) (ahead_of j) r.waiting row' tree' leaves'))
+        (ap (after_puts (ahead_of j) O) (puts.rounds (take j.rounds trace) O ∙ stops-here (mark_of r.fault) end (done O) marked)
+        ∙ closing-none (mark_of r.fault) entries (to_link l) (ahead_of j) r.waiting row' tree' leaves'))
 
     -- They all went on.
-    put-answers : (p : Result told.Answer Refusal) → r.mark ≡ 0 → to_reply p ≡ reply_of (to_step_answer answer) → EndsAs p
+    put-answers : (p : Result told.Answer Refusal) → mark_of r.fault ≡ 0 → to_reply p ≡ reply_of (to_step_answer answer) → EndsAs p
     unfolding after_puts replied
     put-answers p went q =
         ended_same (kept-as (sym went)) q (sym leaves-many) same-peak refl trace-is
-        ∙ ap (λ (x : fetch.CallLeft). ending_with j.structure j.size trace x most) (sym (ap (after_puts (ahead_of j) O) (puts.rounds (take j.rounds trace) O ∙ goes_on_lem r.mark end (done O) went)))
+        ∙ ap (λ (x : fetch.CallLeft). ending_with j.structure j.size trace x most) (sym (ap (after_puts (ahead_of j) O) (puts.rounds (take j.rounds trace) O ∙ goes_on_lem (mark_of r.fault) end (done O) went)))
 
-    pub put-ends : (p : Result told.Answer Refusal) → to_reply p ≡ answered r.mark (to_step_answer answer)
+    pub put-ends : (p : Result told.Answer Refusal) → to_reply p ≡ answered (mark_of r.fault) (to_step_answer answer)
         → FinishedAs j draw peak (outcome_with l entries answer ns) (going m row tree [] (take j.rounds trace)) trace row' tree' trace' (ran p)
-    put-ends p q = record { holds = puts.holds; enough = omega arith; ends = go (ℕ_discrete r.mark 0) }
+    put-ends p q = record { holds = puts.holds; enough = omega arith; ends = go (ℕ_discrete (mark_of r.fault) 0) }
       where
-        go : Dec (r.mark ≡ 0) → EndsAs p
-        go (yes e) = put-answers p e (q ∙ rw (eq-eqb r.mark 0 e))
-        go (no d) = put-shuts p d (q ∙ rw (ne_eqb r.mark 0 d))
+        go : Dec (mark_of r.fault ≡ 0) → EndsAs p
+        go (yes e) = put-answers p e (q ∙ rw (eq-eqb (mark_of r.fault) 0 e))
+        go (no d) = put-shuts p d (q ∙ rw (ne_eqb (mark_of r.fault) 0 d))
 
 -- The nodes of the step, which came to that outcome, joined those waiting.
 module _ (j : Job) (f : Fetched) (ns : List (Node ℕ)) {row tree : List ℕ} (b : Finishes j f ns row tree) {row' : List ℕ} {m : ℕ} (holds : Holds m row')

@@ -1,5 +1,5 @@
 -- The reply of a call whose step gave an answer.
-use Rattle.std.specs.Prelude.{ℕ, eqb, ◌≡◌, ◌⊎◌, Option, Some, None}
+use Rattle.std.specs.Prelude.{ℕ, eqb, Option, Some, None}
 use Rattle.list_spec.specs.Choice.{pick}
 use Rattle.method_spec.specs.Answer.{Answer}
 use Rattle.call_spec.specs.declared.Refusal.{Refusal}
@@ -9,10 +9,6 @@ use Rattle.call_spec.specs.Store.{reply_of}
 -- The reply where the put rounds came to a mark.
 abbrev pub answered : ℕ → Answer → Reply
 answered mark a = pick (eqb mark 0) (reply_of a) (Refused mark)
-
--- The marks with which a round ends: 0 where it went on, 8 damage, 9 overflow.
-abbrev pub IsMark : ℕ → Type 0
-IsMark m = (m ≡ 0) ⊎ ((m ≡ 8) ⊎ (m ≡ 9))
 
 -- The mark of a store closed for a cause, if it was.
 abbrev pub mark_of : Option Refusal → ℕ

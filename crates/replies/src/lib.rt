@@ -4,19 +4,21 @@
 ghost use Rattle.std.specs.Prelude.{◌≡◌};
 ghost use Rattle.operation_spec.specs.Method.{to_step_answer};
 ghost use Rattle.call_spec.specs.Reply.{to_reply};
-ghost use Rattle.replies.specs.Answered.{answered, mark_of, IsMark};
+ghost use Rattle.round_close.specs.Fault.{mark_of as fault_mark};
+ghost use Rattle.replies.specs.Answered.{answered, mark_of};
 
 use call_spec::Refusal;
 use operation_spec::{Answer, Full};
+use round_close::Fault;
 
-// The cause for which a round closed the store with that mark, if it did: 8 damage, 9 overflow.
-pub fn cause_of(mark: u8) -> Option<Refusal>
-    ensures { IsMark mark → mark_of result ≡ mark }
+// The cause for which a round closed the store, if one did.
+pub fn cause_of(fault: Option<Fault>) -> Option<Refusal>
+    ensures { mark_of result ≡ fault_mark fault }
 {
-    match mark {
-        0 => None,
-        8 => Some(Refusal::Damage),
-        _ => Some(Refusal::Overflow),
+    match fault {
+        None => None,
+        Some(Fault::Damage) => Some(Refusal::Damage),
+        Some(Fault::Overflow) => Some(Refusal::Overflow),
     }
 }
 

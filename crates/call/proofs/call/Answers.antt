@@ -157,7 +157,7 @@ loop-j-preserved c =
     let r : Ran = c.in-Ok.r in
     let made : CallsAs (head_of c.args.state) _ _ _ _ _ _ _ _ (Ok r) = rw c.in-Ok.is at c.call_row.ensures in
     let sized : length s.places ≡ 101 = search rules in
-    let in-places : c.greater-end.result ≤ 101 = omega (arith, c.greater-end.ensures, b.1, made.waits.few) in (
+    let in-places : c.max-end.result ≤ 101 = omega (arith, c.max-end.ensures, b.1, made.waits.few) in (
       omega arith,
       saved-more r.waiting _ made.waits s st.fit sized l.j l.left c.saved_place.result
           (omega (arith, c.loop-j-test.true, in-places)) l.invariant.1 c.saved_place.ensures,
@@ -173,7 +173,7 @@ returns c =
     let r : Ran = c.in-Ok.r in
     let made : CallsAs (head_of c.args.state) _ _ _ _ _ _ _ _ (Ok r) = rw c.in-Ok.is at c.call_row.ensures in
     let sized : length a.state.places ≡ 101 = search rules in
-    let in-places : c.greater-end.result ≤ 101 = omega (arith, c.greater-end.ensures, b.1, made.waits.few) in
+    let in-places : c.max-end.result ≤ 101 = omega (arith, c.max-end.ensures, b.1, made.waits.few) in
     changed a.state a.tree.now a.ticket.now a.tape.now a.trace.now st r made
     (saved-all r.waiting _ made.waits a.state st.fit sized l.j l.left r.mark r.entries r.root
-    r.ahead l.invariant.1 (omega arith) (omega (arith, c.greater-end.ensures)) (omega (arith, in-places, l.invariant.0)))
+    r.ahead l.invariant.1 (omega arith) (omega (arith, c.max-end.ensures)) (omega (arith, in-places, l.invariant.0)))

@@ -12,7 +12,7 @@ use Rattle.operation_spec.specs.declared.Answer.TheVariants.{Found, Absent, Repl
 use Rattle.call_spec.specs.Reply.{Reply, Answered, Refused}
 use Rattle.call_spec.specs.Store.{reply_meaning}
 use Rattle.host_spec.specs.Result.{reply_number, reply_value, result_value}
-use Rattle.walk_spec.specs.Lines.{blank, newline, digit, leading, decimal, numbers, reply_word, value_or_zero, reply_shown, line_of, longest_line, most_leaves, Put}
+use Rattle.walk_spec.specs.Lines.{blank, newline, digit, leading, decimal, numbers, ascii, reply_word, value_or_zero, reply_shown, line_of, longest_line, most_leaves, Put}
 
 -- ---- how long numbers are
 leading_length : (more n k : ℕ) → n < 10 ^ k → length (leading more n) ≤ k
@@ -239,3 +239,11 @@ module _ (text : List ℕ) (v : ℕ) (leaves : List ℕ) {a b c d e : List ℕ} 
 pub line-is : (reply : Reply) (leaves : List ℕ) → line_with (reply_word reply) (reply_shown reply) leaves ≡ line_of reply leaves
 unfolding line_of
 line-is reply leaves = refl
+
+shown-refused : (n : ℕ) → reply_shown (Refused n) ≡ n
+shown-refused zero = refl
+shown-refused (suc n) = rw (ne_eqb (suc n) 0 (λ e. omega (arith, e)))
+
+pub refused-is : (n : ℕ) → line_with (ascii "refused") n [] ≡ line_of (Refused n) []
+unfolding line_of
+refused-is n = rw (shown-refused n)

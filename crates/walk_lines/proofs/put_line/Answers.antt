@@ -5,7 +5,7 @@ use Rattle.walk_laws.specs.LinesLaws.{line_with, value_room, leaves-room, line-p
 use Rattle.walk_lines.proofs.put_line.Goals as goal
 
 -- The word is put at the buffer's start.
-started : {word text shown b : List ℕ} {a : List ℕ} {at end : ℕ} → (shown ≡ a) × (at ≡ 0) → Put word at shown b end → Put word 0 a b end
+started : {word shown b : List ℕ} {a : List ℕ} {at end : ℕ} → (shown ≡ a) × (at ≡ 0) → Put word at shown b end → Put word 0 a b end
 started fresh p = rw (fresh.0, fresh.1) at p
 
 pub put-requires : goal.put-requires

@@ -4,13 +4,13 @@
 // standard error instead.
 #![tactic(auto)]
 
-ghost use Rattle.std.specs.Prelude.{◌*◌, ◌≤◌, ◌<◌, length};
+ghost use Rattle.std.specs.Prelude.{◌*◌, ◌≤◌, length};
 ghost use Rattle.io.specs.Counts.{IsPrefixLen};
 ghost use Rattle.store_records.specs.Records.{most_bytes};
 
 use readout_outcomes::read_into;
 use state_spec::State;
-use store_records::{Came, HEAD_LENGTH, MOST_BYTES, read_record, state_of};
+use store_records::{HEAD_LENGTH, MOST_BYTES, NoRecord, read_record, state_of};
 
 // The descriptors of the standard input, output and error.
 const STDIN_FILENO: i32 = 0;
@@ -19,26 +19,13 @@ const STDOUT_FILENO: i32 = 1;
 
 const STDERR_FILENO: i32 = 2;
 
-fn wide(x: u8) -> u64
-    ensures { result < 256 }
-{
-    x as u64
-}
-
-fn number_of(b: &[u8; 4]) -> u64 {
-    wide(b[0]) + 256 * wide(b[1]) + 65536 * wide(b[2]) + 16777216 * wide(b[3])
-}
-
 // Reads the store out so many times. The length of the last file.
 fn repeat(state: State, tree: &[u8], out: &mut [u8], times: u64) -> usize
     ensures { IsPrefixLen result out.new }
 {
     let mut length = 0;
-    let mut i = 0;
-    while i < times {
-        let outcome = read_into(state, tree, out);
-        length = outcome.length;
-        i += 1;
+    for _ in 0..times {
+        length = read_into(state, tree, out).unwrap_or(0);
     }
     length
 }
@@ -48,10 +35,8 @@ fn sum_of(file: &[u8]) -> u64
     ensures { result ≤ 255 * most_bytes }
 {
     let mut sum = 0;
-    let mut i = 0;
-    while i < file.len() {
-        sum += wide(file[i]);
-        i += 1;
+    for byte in file {
+        sum += u64::from(*byte);
     }
     sum
 }
@@ -80,17 +65,12 @@ fn run_with(state: State, tree: &[u8], room: usize, times: u64)
 fn run_record(times: u64) {
     let mut head = [0u8; HEAD_LENGTH];
     let mut space = [0u8; MOST_BYTES];
-    let read = read_record(&mut head, &mut space);
-    let came = read.came;
-    match came {
-        Came::Whole => {
-            let tree = read.tree;
-            run_with(state_of(&head), &space[..tree], read.room, times);
-        }
-        Came::Short => {
+    match read_record(&mut head, &mut space) {
+        Ok(lengths) => run_with(state_of(&head), &space[..lengths.tree], lengths.room, times),
+        Err(NoRecord::Short) => {
             io::write_all(STDERR_FILENO, b"the input ends within a record\n");
         }
-        Came::Long => {
+        Err(NoRecord::Long) => {
             io::write_all(STDERR_FILENO, b"a record is too long\n");
         }
     }
@@ -98,10 +78,9 @@ fn run_record(times: u64) {
 
 fn main() {
     let mut times = [0u8; 4];
-    let got = io::read_full(STDIN_FILENO, &mut times);
-    if got < 4 {
+    if io::read_full(STDIN_FILENO, &mut times) < times.len() {
         io::write_all(STDERR_FILENO, b"the input has no count\n");
         return;
     }
-    run_record(number_of(&times));
+    run_record(u64::from(u32::from_le_bytes(times)));
 }

@@ -3,12 +3,13 @@
 // and so does a record that is too long, with a message on the standard error.
 #![tactic(auto)]
 
-ghost use Rattle.std.specs.Prelude.{◌≡◌, ◌≤◌, length};
+ghost use Rattle.std.specs.Prelude.{◌≤◌};
 ghost use Rattle.store_records.specs.Records.{most_bytes};
 
-use readout_outcomes::{Outcome, read_into};
+use readout_outcomes::read_into;
+use readout_spec::NoFile;
 use state_spec::State;
-use store_records::{Came, HEAD_LENGTH, MOST_BYTES, read_record, state_of};
+use store_records::{HEAD_LENGTH, MOST_BYTES, NoRecord, read_record, state_of};
 
 // The descriptors of the standard output and error.
 const STDOUT_FILENO: i32 = 1;
@@ -18,18 +19,14 @@ const STDERR_FILENO: i32 = 2;
 // What an output buffer holds at first.
 const FILLED: u8 = 165;
 
-// The number in one byte, the length in four.
-fn told(outcome: Outcome) -> [u8; 5]
-    ensures { 5 ≡ length result }
-{
-    let length = outcome.length;
-    [
-        outcome.number,
-        (length % 256) as u8,
-        (length / 256 % 256) as u8,
-        (length / 65536 % 256) as u8,
-        (length / 16777216 % 256) as u8,
-    ]
+// The number of a refusal, 0 if there is none, in one byte, and the file's length, 0 if there is none, in four.
+fn told(outcome: Result<usize, NoFile>) -> [u8; 5] {
+    let (number, length) = match outcome {
+        Ok(length) => (0, length),
+        Err(cause) => (cause as u8, 0),
+    };
+    let [a, b, c, d, ..] = length.to_le_bytes();
+    [number, a, b, c, d]
 }
 
 // Reads a store out, and writes what that gave. Whether it could be written.
@@ -48,30 +45,22 @@ fn answer_with(state: State, tree: &[u8], room: usize) -> bool
 // Reads a record and answers it. Whether to read on.
 fn answer_next(space: &mut [u8]) -> bool {
     let mut head = [0u8; HEAD_LENGTH];
-    let read = read_record(&mut head, space);
-    let came = read.came;
-    match came {
-        Came::Short => false,
-        Came::Long => {
+    match read_record(&mut head, space) {
+        Ok(lengths) => answer_with(state_of(&head), &space[..lengths.tree], lengths.room),
+        Err(NoRecord::Short) => false,
+        Err(NoRecord::Long) => {
             io::write_all(STDERR_FILENO, b"a record is too long\n");
             false
-        }
-        Came::Whole => {
-            let tree = read.tree;
-            answer_with(state_of(&head), &space[..tree], read.room)
         }
     }
 }
 
-// The records up to the input's end. A proved loop has to end, and nothing says that an input does: the loop counts its
-// turns down from a number that no run uses up.
+// The records up to the input's end. A proved loop has to end, and nothing says that an input does: no run uses up so many turns.
 fn main() {
     let mut space = [0u8; MOST_BYTES];
-    let mut turns = u64::MAX;
-    while turns > 0 {
+    for _ in 0..u64::MAX {
         if !answer_next(&mut space) {
             return;
         }
-        turns -= 1;
     }
 }

@@ -2,54 +2,37 @@
 #![tactic(auto)]
 
 ghost use Rattle.std.specs.Prelude.{◌≡◌, ◌<◌, length};
-ghost use Rattle.file_facts.specs.Modes.{there, regular, same_file, permission_bits};
+ghost use Rattle.file_facts.specs.Modes.{regular, same_file, permission_bits};
 
 use std::fs::Metadata;
 use std::os::unix::fs::MetadataExt;
 use std::rt::Files;
 use std::{fs, str};
 
-// The file's device and its number there; its kind and its permissions. The mode 0 says that there is no file: none has it.
-#[derive(Clone, Copy)]
+// The file's device and its number there; its kind and its permissions.
+#[derive(Clone, Copy, PartialEq, Eq)]
 pub struct Facts {
     pub device: u64,
     pub number: u64,
     pub mode: u32,
 }
 
-fn blank() -> Facts {
-    Facts {
-        device: 0,
-        number: 0,
-        mode: 0,
+impl From<Metadata> for Facts {
+    fn from(found: Metadata) -> Facts {
+        Facts {
+            device: found.dev(),
+            number: found.ino(),
+            mode: found.mode(),
+        }
     }
 }
 
-fn filled(found: Metadata) -> Facts {
-    Facts {
-        device: found.dev(),
-        number: found.ino(),
-        mode: found.mode(),
-    }
-}
-
-// A name that is no text leads to no file that the library can reach.
-pub fn facts_of(files: &impl Files, name: &[u8]) -> Facts
+// None where there is no file. A name that is no text leads to no file that the library can reach.
+pub fn facts_of(files: &impl Files, name: &[u8]) -> Option<Facts>
     requires { length name.now < 4096 }
 {
-    let Ok(path) = str::from_utf8(name) else {
-        return blank();
-    };
-    match fs::metadata(files, path) {
-        Ok(found) => filled(found),
-        Err(_) => blank(),
-    }
-}
-
-pub fn is_there(facts: Facts) -> bool
-    ensures { result ≡ there facts }
-{
-    facts.mode != 0
+    let path = str::from_utf8(name).ok()?;
+    fs::metadata(files, path).ok().map(Facts::from)
 }
 
 pub fn is_regular(facts: Facts) -> bool
@@ -58,19 +41,11 @@ pub fn is_regular(facts: Facts) -> bool
     facts.mode / 4096 % 16 == 8
 }
 
+// Whether both lead to one file, whatever its mode was.
 pub fn are_same(a: Facts, b: Facts) -> bool
     ensures { result ≡ same_file a b }
 {
-    if !is_there(a) {
-        return false;
-    }
-    if !is_there(b) {
-        return false;
-    }
-    if a.device != b.device {
-        return false;
-    }
-    a.number == b.number
+    a.device == b.device && a.number == b.number
 }
 
 pub fn permissions(facts: Facts) -> u32

@@ -5,12 +5,13 @@
 
 mod reasons;
 
-ghost use Rattle.std.specs.Prelude.{◌++◌, ◌+◌, ◌≤◌, length};
+ghost use Rattle.std.specs.Prelude.{◌≡◌, ◌≤◌, length};
+ghost use Rattle.std.specs.Result.{result_ok};
 ghost use Rattle.io.specs.Counts.{IsPrefixLen};
-ghost use Rattle.walk_spec.specs.Lines.{Put};
 ghost use Rattle.named_files.specs.Names.{longest_name, longest_program, longest_addition};
 
 pub use reasons::say_failed;
+use std::env::{Env, FillError};
 use std::fs::{OpenFile, OpenOptions};
 use std::io::{Error, ErrorKind, Write};
 use std::os::unix::fs::OpenOptionsExt;
@@ -40,54 +41,87 @@ const TAKEN: i32 = 17;
 
 const NO_TEXT: i32 = 84;
 
-// One text after the other, from the start of `out`. How long they are.
-fn join(a: &[u8], b: &[u8], out: &mut [u8]) -> usize
-    requires { length a.now + length b.now ≤ length out.old }
-    ensures prefix_len { IsPrefixLen result out.new }
-    ensures put { Put (a.now ++ b.now) 0 out.old out.new result }
-{
-    let mut text = Text::new(out);
-    text.put(a);
-    text.put(b);
-    text.end
+// What failed has been said.
+#[derive(Clone, Copy, PartialEq, Eq)]
+pub struct Said;
+
+// The name of a file that a program reads or makes, and the program's own name with a colon and a blank.
+#[derive(Clone, Copy)]
+pub struct Named<'a> {
+    pub program: &'a [u8],
+    pub name: &'a [u8],
+    ghost short: { (length program.now ≤ longest_program) × (length name.now ≤ longest_name) },
 }
 
-// Says what failed, and why.
-pub fn fail(program: &[u8], what: &[u8], name: &[u8], error: &Error)
-    requires { (length program.now ≤ longest_program) × (length what.now ≤ longest_addition) × (length name.now ≤ longest_name) }
-{
-    let mut start = [0u8; LONGEST_PROGRAM + LONGEST_ADDITION];
-    let before = join(program, what, &mut start);
-    let mut text = [0u8; LONGEST_PROGRAM + LONGEST_ADDITION + LONGEST_NAME];
-    let length = join(&start[..before], name, &mut text);
-    say_failed(&text[..length], error);
+impl Named<'_> {
+    // Says what failed, and why.
+    pub fn fail(self, what: &[u8], error: &Error)
+        requires { length what.now ≤ longest_addition }
+    {
+        let mut space = [0u8; LONGEST_PROGRAM + LONGEST_ADDITION + LONGEST_NAME];
+        let mut text = Text::new(&mut space);
+        text.put(self.program);
+        text.put(what);
+        text.put(self.name);
+        let length = text.end;
+        say_failed(&space[..length], error);
+    }
+
+    // What was done, if it was; what failed is said.
+    pub fn said<T>(self, done: Result<T, Error>, what: &[u8]) -> Result<T, Said>
+        requires { length what.now ≤ longest_addition }
+        ensures { result_ok result ≡ result_ok done }
+    {
+        match done {
+            Ok(value) => Ok(value),
+            Err(error) => {
+                self.fail(what, &error);
+                Err(Said)
+            }
+        }
+    }
+
+    // The name that a temporary file beside the name is asked for: the letters at its end are replaced. How long it is.
+    pub fn temp_name(self, out: &mut [u8; LONGEST_TEMP]) -> usize
+        ensures { IsPrefixLen result out.new }
+    {
+        let mut text = Text::new(out);
+        text.put(self.name);
+        text.put(b".XXXXXX");
+        text.end
+    }
+
+    // Makes the temporary file beside the name.
+    pub fn create_beside<F: Files>(self, files: &F, temp: &mut [u8]) -> Result<F::File, Said> {
+        self.said(create_temp(files, temp), b"cannot create a file beside ")
+    }
+
+    // Writes all the bytes to the file that is to have the name.
+    pub fn write(self, file: &mut impl Write, bytes: &[u8]) -> Result<(), Said> {
+        self.said(file.write_all(bytes), b"cannot write ")
+    }
+
+    // Closes the file that is to have the name: all that was written has reached the device.
+    pub fn finish(self, file: impl OpenFile + Drop) -> Result<(), Said> {
+        self.said(file.sync_all(), b"cannot write ")
+    }
+
+    // The temporary file takes the name.
+    pub fn take_name(self, files: &impl Files, temp: &[u8]) -> Result<(), Said> {
+        self.said(rename(files, temp, self.name), b"cannot rename a file to ")
+    }
 }
 
 // A name as the library takes it, which knows names that are text alone.
 pub fn path_of(name: &[u8]) -> Result<&str, Error> {
-    match str::from_utf8(name) {
-        Ok(path) => Ok(path),
-        Err(_) => Err(Error::from_raw_os_error(NO_TEXT)),
-    }
-}
-
-// The name that a temporary file beside a name is asked for: the letters at its end are replaced. How long it is.
-pub fn temp_name(name: &[u8], out: &mut [u8]) -> usize
-    requires { (length name.now ≤ longest_name) × (longest_name + longest_addition ≤ length out.old) }
-    ensures { IsPrefixLen result out.new }
-{
-    join(name, b".XXXXXX", out)
+    str::from_utf8(name).map_err(|_| Error::from_raw_os_error(NO_TEXT))
 }
 
 // The last six letters of a name become the digits of a number.
 fn number_last(temp: &mut [u8], n: u32) {
     let mut rest = n;
-    let mut at = temp.len();
-    let mut left: usize = 6;
-    while left > 0 && at > 0 {
-        at -= 1;
-        left -= 1;
-        temp[at] = b'0' + (rest % 10) as u8;
+    for letter in temp.iter_mut().rev().take(6) {
+        *letter = b'0' + (rest % 10) as u8;
         rest /= 10;
     }
 }
@@ -105,81 +139,18 @@ fn create_new<F: Files>(files: &F, temp: &[u8]) -> Result<F::File, Error> {
 
 // Makes a file of the first such name that no file has. `temp` then is its name.
 fn create_temp<F: Files>(files: &F, temp: &mut [u8]) -> Result<F::File, Error> {
-    let mut i = 0;
-    while i < MOST_TEMPS {
+    for i in 0..MOST_TEMPS {
         number_last(temp, i);
         match create_new(files, temp) {
-            Ok(file) => return Ok(file),
-            Err(error) => {
-                if error.kind() != ErrorKind::AlreadyExists {
-                    return Err(error);
-                }
-            }
+            Err(error) if error.kind() == ErrorKind::AlreadyExists => {}
+            done => return done,
         }
-        i += 1;
     }
     Err(Error::from_raw_os_error(TAKEN))
 }
 
-// Makes the temporary file beside a name, if it can.
-pub fn create_beside<F: Files>(
-    files: &F,
-    temp: &mut [u8],
-    program: &[u8],
-    name: &[u8],
-) -> Option<F::File>
-    requires { (length program.now ≤ longest_program) × (length name.now ≤ longest_name) }
-{
-    match create_temp(files, temp) {
-        Ok(file) => Some(file),
-        Err(error) => {
-            fail(program, b"cannot create a file beside ", name, &error);
-            None
-        }
-    }
-}
-
-// Writes bytes to the file that is to have the name. Whether it could write them all.
-pub fn write(file: &mut impl Write, bytes: &[u8], program: &[u8], name: &[u8]) -> bool
-    requires { (length program.now ≤ longest_program) × (length name.now ≤ longest_name) }
-{
-    match file.write_all(bytes) {
-        Ok(()) => true,
-        Err(error) => {
-            fail(program, b"cannot write ", name, &error);
-            false
-        }
-    }
-}
-
-// Closes the file that is to have the name. Whether all that was written has reached the device.
-pub fn finish(file: impl OpenFile + Drop, program: &[u8], name: &[u8]) -> bool
-    requires { (length program.now ≤ longest_program) × (length name.now ≤ longest_name) }
-{
-    match file.sync_all() {
-        Ok(()) => true,
-        Err(error) => {
-            fail(program, b"cannot write ", name, &error);
-            false
-        }
-    }
-}
-
 fn rename(files: &impl Files, temp: &[u8], name: &[u8]) -> Result<(), Error> {
     fs::rename(files, path_of(temp)?, path_of(name)?)
-}
-
-// The temporary file takes the name. Whether it could.
-pub fn take_name(files: &impl Files, temp: &[u8], program: &[u8], name: &[u8]) -> bool
-    requires { (length program.now ≤ longest_program) × (length name.now ≤ longest_name) }
-{
-    match rename(files, temp, name) {
-        Ok(()) => true,
-        Err(error) => {
-            fail(program, b"cannot rename a file to ", name, &error);
-            false
-        }
-    }
 }
 
 // Removes a file that a program has made, if it can.
@@ -187,4 +158,10 @@ pub fn remove(files: &impl Files, name: &[u8]) {
     if let Ok(path) = path_of(name) {
         let _ = fs::remove_file(files, path);
     }
+}
+
+// Whether there is an argument of this number, of any length.
+pub fn has_argument(rt: &impl Env, i: usize) -> bool {
+    let mut none = [0u8; 1];
+    !matches!(rt.arg(i, &mut none), Err(FillError::NotPresent))
 }

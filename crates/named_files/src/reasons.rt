@@ -20,14 +20,12 @@ fn put_reason(error: &Error, out: &mut [u8]) {
 fn reason_length(text: &[u8]) -> usize
     ensures { IsPrefixLen result text.now }
 {
-    let mut i = 0;
-    while i < text.len() {
-        if text[i] == 0 || text[i..].starts_with(b" (os error ") {
+    for (i, letter) in text.iter().enumerate() {
+        if *letter == 0 || text[i..].starts_with(b" (os error ") {
             return i;
         }
-        i += 1;
     }
-    i
+    text.len()
 }
 
 // Writes a line to the standard error: what failed, a colon and the reason.

@@ -13,7 +13,7 @@ use walk_spec::Stop;
 const STDIN_FILENO: i32 = 0;
 
 // What a store is opened with.
-#[derive(Clone, Copy)]
+#[derive(Clone, Copy, PartialEq, Eq, Default)]
 pub struct Head {
     pub structure: u8,
     pub size: u8,
@@ -22,13 +22,9 @@ pub struct Head {
 // Reads the input's first bytes. An input without them has size 0, which every opening refuses.
 pub fn read_head() -> Head {
     let mut head = [0u8; HEAD_LENGTH];
-    let got = io::read_full(STDIN_FILENO, &mut head);
-    if got < HEAD_LENGTH {
+    if io::read_full(STDIN_FILENO, &mut head) < HEAD_LENGTH {
         say_short();
-        return Head {
-            structure: 0,
-            size: 0,
-        };
+        return Head::default();
     }
     Head {
         structure: head[0],

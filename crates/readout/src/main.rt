@@ -7,12 +7,9 @@ mod input;
 mod messages;
 mod new_file;
 
-ghost use Rattle.std.specs.Prelude.{◌≤◌, length};
-ghost use Rattle.named_files.specs.Names.{longest_name};
-
 use input::{read_calls, read_head};
 use messages::{say_no_file, say_usage};
-use named_files::{LONGEST_NAME, say_failed};
+use named_files::{LONGEST_NAME, Named, has_argument, say_failed};
 use opening::open;
 use readout_outcomes::read_into;
 use readout_spec::{COUNT_WIDTH, INDEX_WIDTH, MOST_ITEMS, VALUE_WIDTH};
@@ -30,10 +27,8 @@ const LARGEST_FILE: usize = COUNT_WIDTH + (INDEX_WIDTH + VALUE_WIDTH) * MOST_ITE
 const TOO_LONG: i32 = 36;
 
 // The file goes to the name's new file, or with no name to the standard output.
-fn put(rt: &(impl Files + Print), file: &[u8], name: &[u8])
-    requires { length name.now ≤ longest_name }
-{
-    if name.len() != 0 {
+fn put(rt: &(impl Files + Print), file: &[u8], name: Option<Named>) {
+    if let Some(name) = name {
         return new_file::put(rt, file, name);
     }
     if let Err(error) = rt.write_all(file) {
@@ -41,22 +36,16 @@ fn put(rt: &(impl Files + Print), file: &[u8], name: &[u8])
     }
 }
 
-fn read_out_to(rt: &(impl Files + Print), state: State, tree: &[u8], name: &[u8])
-    requires { length name.now ≤ longest_name }
-{
+fn read_out_to(rt: &(impl Files + Print), state: State, tree: &[u8], name: Option<Named>) {
     let mut out = [0u8; LARGEST_FILE];
-    let outcome = read_into(state, tree, &mut out);
-    if outcome.number != 0 {
-        return say_no_file(outcome.number);
+    match read_into(state, tree, &mut out) {
+        Ok(length) => put(rt, &out[..length], name),
+        Err(cause) => say_no_file(cause),
     }
-    let length = outcome.length;
-    put(rt, &out[..length], name);
 }
 
 // Opens a store, makes the calls and reads the store out as it is then.
-fn run(rt: &(impl Files + Print), name: &[u8])
-    requires { length name.now ≤ longest_name }
-{
+fn run(rt: &(impl Files + Print), name: Option<Named>) {
     let head = read_head();
     let mut space = [0u8; LARGEST_TREE];
     let length = tree_lent(head.size);
@@ -69,31 +58,23 @@ fn run(rt: &(impl Files + Print), name: &[u8])
     read_out_to(rt, state, tree, name);
 }
 
-// Whether there is an argument of this number, of any length.
-fn has_argument(rt: &impl Env, i: usize) -> bool {
-    let mut none = [0u8; 1];
-    match rt.arg(i, &mut none) {
-        Ok(_) => true,
-        Err(FillError::TooLong) => true,
-        Err(FillError::NotPresent) => false,
-    }
-}
-
 fn main(rt: HostRuntime) {
     let mut space = [0u8; LONGEST_NAME];
     if has_argument(&rt, 2) {
         return say_usage();
     }
     match rt.arg(1, &mut space) {
-        Err(FillError::NotPresent) => run(&rt, b""),
+        Err(FillError::NotPresent) => run(&rt, None),
         Err(FillError::TooLong) => {
             say_failed(b"readout: the name", &Error::from_raw_os_error(TOO_LONG));
         }
+        Ok(0) => say_usage(),
         Ok(length) => {
-            if length == 0 {
-                return say_usage();
-            }
-            run(&rt, &space[..length]);
+            let name = Named {
+                program: b"readout: ",
+                name: &space[..length],
+            };
+            run(&rt, Some(name));
         }
     }
 }

@@ -5,12 +5,12 @@ ghost use Rattle.std.specs.Prelude.{◌≡◌, ◌+◌, ◌*◌, ◌≤◌, leng
 ghost use Rattle.std.proofs.lemmas.List.Edits.{sets};
 ghost use Rattle.slot_spec.specs.Tree.{slot_length};
 ghost use Rattle.readout_spec.specs.Seen.{most_items};
-ghost use Rattle.readout_spec.specs.ReadOut.{read_out_leaving};
+ghost use Rattle.readout_spec.specs.ReadOut.{read_out_leaving, to_read_out};
 ghost use Rattle.survey_laws.specs.Items.{slots_in, good_order, first_sorted, taken_items, cleared, all_keys, all_marks, items_file, slots_file, fitting};
 
 use merge_sort::sort;
 use readout_parts::{put_index, put_number, put_report, put_values, reported};
-use readout_spec::{COUNT_WIDTH, INDEX_WIDTH, MOST_ITEMS, REPORT_WIDTH, ReadOut, VALUE_WIDTH};
+use readout_spec::{COUNT_WIDTH, INDEX_WIDTH, MOST_ITEMS, NoFile, REPORT_WIDTH, VALUE_WIDTH};
 use slot_spec::SLOT_LENGTH;
 use store_survey::{clear_marks, first_of_each, good_items, survey};
 
@@ -60,7 +60,7 @@ fn take_items(keys: &[u64], slots: usize, marks: &mut [u8], taken: &mut [u16]) -
     take_sorted(keys, &mut order[..good], marks, taken)
 }
 
-// The file of the items taken and the marks left, or 15 where the buffer is too short for it.
+// The file of the items taken and the marks left, or none where the buffer is too short for it.
 fn write_file(
     tree: &[u8],
     waiting: &[u8],
@@ -68,57 +68,41 @@ fn write_file(
     taken: &[u16],
     marks: &[u8],
     out: &mut [u8],
-) -> ReadOut
+) -> Result<usize, NoFile>
     requires { (length taken.now ≤ most_items) × (length marks.now ≤ most_items) }
-    ensures { read_out_leaving result out.new ≡ fitting (items_file tree.now waiting.now keys.now taken.now marks.now) out.old }
+    ensures { read_out_leaving (to_read_out result) out.new ≡ fitting (items_file tree.now waiting.now keys.now taken.now marks.now) out.old }
 {
     let values = COUNT_WIDTH + INDEX_WIDTH * taken.len();
     let report = values + VALUE_WIDTH * taken.len();
     let end = report + REPORT_WIDTH * reported(marks);
     if out.len() < end {
-        return ReadOut::Refused(15);
+        return Err(NoFile::ShortBuffer);
     }
     put_number(&mut out[..COUNT_WIDTH], taken.len() as u64);
     put_index(&mut out[COUNT_WIDTH..values], keys, taken);
     put_values(&mut out[values..report], tree, waiting, taken);
     put_report(&mut out[report..end], marks);
-    ReadOut::Written(end)
-}
-
-// Reads out with the lent rows for keys, marks and items taken, whose content before and after means nothing.
-fn read_out_with(
-    size: usize,
-    tree: &[u8],
-    waiting: &[u8],
-    keys: &mut [u64],
-    marks: &mut [u8],
-    taken: &mut [u16],
-    out: &mut [u8],
-) -> ReadOut
-    requires { (size ≤ 16) × (length tree.now ≡ slot_length * slots_in tree.now) × (length waiting.now ≡ slot_length * slots_in waiting.now) × (length keys.old ≡ slots_in tree.now + slots_in waiting.now) × (length marks.old ≡ length keys.old) × (length keys.old ≤ most_items) × (most_items ≤ length taken.old) }
-    ensures { read_out_leaving result out.new ≡ fitting (slots_file size tree.now waiting.now) out.old }
-{
-    survey_all(size, tree, waiting, keys, marks);
-    let count = take_items(keys, tree.len() / SLOT_LENGTH, marks, taken);
-    write_file(tree, waiting, keys, &taken[..count], marks, out)
+    Ok(end)
 }
 
 // Reads out a tree of that size and the slots of the waiting nodes.
-pub fn read_out_slots(size: usize, tree: &[u8], waiting: &[u8], out: &mut [u8]) -> ReadOut
+pub fn read_out_slots(
+    size: usize,
+    tree: &[u8],
+    waiting: &[u8],
+    out: &mut [u8],
+) -> Result<usize, NoFile>
     requires { (size ≤ 16) × (length tree.now ≡ slot_length * slots_in tree.now) × (length waiting.now ≡ slot_length * slots_in waiting.now) × (slots_in tree.now + slots_in waiting.now ≤ most_items) }
-    ensures { read_out_leaving result out.new ≡ fitting (slots_file size tree.now waiting.now) out.old }
+    ensures { read_out_leaving (to_read_out result) out.new ≡ fitting (slots_file size tree.now waiting.now) out.old }
 {
-    let n = tree.len() / SLOT_LENGTH + waiting.len() / SLOT_LENGTH;
+    let slots = tree.len() / SLOT_LENGTH;
+    let n = slots + waiting.len() / SLOT_LENGTH;
     let mut keys = [0u64; MOST_ITEMS];
     let mut marks = [0u8; MOST_ITEMS];
     let mut taken = [0u16; MOST_ITEMS];
-    read_out_with(
-        size,
-        tree,
-        waiting,
-        &mut keys[..n],
-        &mut marks[..n],
-        &mut taken,
-        out,
-    )
+    let keys = &mut keys[..n];
+    let marks = &mut marks[..n];
+    survey_all(size, tree, waiting, keys, marks);
+    let count = take_items(keys, slots, marks, &mut taken);
+    write_file(tree, waiting, keys, &taken[..count], marks, out)
 }

@@ -1,11 +1,11 @@
--- A file that was written lies within the output buffer, and what is returned as two numbers: what the definition of reading out says of them.
-use Rattle.std.specs.Prelude.{◌≡◌, refl, Bool, true, false, not, List, ℕ, ◌≤◌, eqb, ltb, length}
+-- A file that was written lies within the output buffer: what the definition of reading out says.
+use Rattle.std.specs.Prelude.{◌≡◌, Bool, Result, Ok, Err, IfOk, true, false, not, List, ℕ, ◌≤◌, eqb, ltb, length}
 use Rattle.std.proofs.Common.{sym, ◌∙◌, ap, arith, length-append}
 use Rattle.slot_spec.specs.Tree.{tree_length}
 use Rattle.state_spec.specs.declared.State.{State}
-use Rattle.readout_spec.specs.declared.ReadOut.{ReadOut}
-use Rattle.readout_spec.specs.declared.ReadOut.TheVariants.{Written, Refused}
-use Rattle.readout_spec.specs.ReadOut.{ReadOutLeft, read_out, file_of, closed_mark, known, read_out_leaving, read_out_refusing, writing, read_out_number, length_of}
+use Rattle.readout_spec.specs.declared.NoFile.{NoFile}
+use Rattle.readout_spec.specs.ReadOut.{Written}
+use Rattle.readout_spec.specs.ReadOut.{ReadOutLeft, read_out, file_of, closed_mark, known, read_out_leaving, read_out_refusing, writing, to_read_out}
 use Rattle.list_spec.specs.Choice.{pick}
 
 record Fits (l : ReadOutLeft) : Type 0 where
@@ -30,22 +30,8 @@ all_fit s tree out =
     (either-fits (ltb (length out) (length (file_of s tree))) (refused-fits 15 out) (written-fits (file_of s tree) out))))
 
 -- ---- from the contract's equation
-module _ (s : State) (tree before after : List ℕ) (r : ReadOut) (is : read_out_leaving r after ≡ read_out s tree before) where
-  pub file-within : (n : ℕ) → r ≡ Written n → n ≤ length after
-  file-within n e =
-      rw (ap (λ (l : ReadOutLeft). l.out) is) ((all_fit s tree before).within n (sym (ap (λ (l : ReadOutLeft). l.result) is) ∙ e))
-
-  result-is : r ≡ (read_out s tree before).result
-  result-is = ap (λ (l : ReadOutLeft). l.result) is
-
-  pub bytes-are : after ≡ (read_out s tree before).out
-  bytes-are = ap (λ (l : ReadOutLeft). l.out) is
-
-  -- The two numbers, of a file and of a refusal.
-  pub written-numbers : (n : ℕ) → r ≡ Written n → (0 ≡ read_out_number (read_out s tree before).result) × (n ≡ length_of (read_out s tree before).result)
-  unfolding read_out_number length_of
-  written-numbers n e = rw (← result-is, e) (refl, refl)
-
-  pub refused-numbers : (n : ℕ) → r ≡ Refused n → (n ≡ read_out_number (read_out s tree before).result) × (0 ≡ length_of (read_out s tree before).result)
-  unfolding read_out_number length_of
-  refused-numbers n e = rw (← result-is, e) (refl, refl)
+pub file-within : (s : State) (tree before after : List ℕ) (r : Result ℕ NoFile) → read_out_leaving (to_read_out r) after ≡ read_out s tree before
+    → IfOk r (λ n. n ≤ length after)
+file-within s tree before after (Ok n) is =
+    rw (ap (λ (l : ReadOutLeft). l.out) is) ((all_fit s tree before).within n (sym (ap (λ (l : ReadOutLeft). l.result) is)))
+file-within s tree before after (Err e) is = tt

@@ -1,28 +1,18 @@
-// What a read-out answers, as two numbers, for programs.
+// Reading a closed store out, for programs.
 #![tactic(auto)]
 
-ghost use Rattle.std.specs.Prelude.{◌≡◌};
+ghost use Rattle.std.specs.Prelude.{◌≡◌, IfOk};
 ghost use Rattle.io.specs.Counts.{IsPrefixLen};
-ghost use Rattle.readout_spec.specs.ReadOut.{read_out, read_out_number, length_of};
+ghost use Rattle.readout_spec.specs.ReadOut.{read_out_leaving, to_read_out, read_out};
 
-use readout_spec::ReadOut;
+use readout_spec::NoFile;
 use state_spec::State;
 use store_readout::read_out;
 
-// 0 and the length of the file that was written, or the number of a refusal and 0.
-#[derive(Clone, Copy)]
-pub struct Outcome {
-    pub number: u8,
-    pub length: usize,
-}
-
 // Reads a closed store out into `out`: a file's length is within it.
-pub fn read_into(state: State, tree: &[u8], out: &mut [u8]) -> Outcome
-    ensures prefix_len { IsPrefixLen result.length out.new }
-    ensures number_value { (result.number ≡ read_out_number (read_out state tree.now out.old).result) × (result.length ≡ length_of (read_out state tree.now out.old).result) × (out.new ≡ (read_out state tree.now out.old).out) }
+pub fn read_into(state: State, tree: &[u8], out: &mut [u8]) -> Result<usize, NoFile>
+    ensures prefix_len { IfOk result (λ n. IsPrefixLen n out.new) }
+    ensures left { read_out_leaving (to_read_out result) out.new ≡ read_out state tree.now out.old }
 {
-    match read_out(state, tree, out) {
-        ReadOut::Written(length) => Outcome { number: 0, length },
-        ReadOut::Refused(number) => Outcome { number, length: 0 },
-    }
+    read_out(state, tree, out)
 }

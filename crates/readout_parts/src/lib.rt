@@ -19,11 +19,9 @@ pub fn put_number(part: &mut [u8], n: u64)
     ensures { part.new ≡ bytes (length part.old) n }
 {
     let mut rest = n;
-    let mut i = 0;
-    while i < part.len() {
-        part[i] = (rest % 256) as u8;
-        rest = rest / 256;
-        i += 1;
+    for byte in part.iter_mut() {
+        *byte = (rest % 256) as u8;
+        rest /= 256;
     }
 }
 
@@ -36,17 +34,11 @@ fn put_pair(part: &mut [u8], width: usize, first: u64, second: u64)
     put_number(&mut part[width..], second);
 }
 
-// The bytes of an item as words: one of the tree, or a waiting one.
+// The bytes of an item as words: one of the tree, or a waiting one; zero for a number past them.
 fn load_item(tree: &[u8], waiting: &[u8], i: u16) -> Slot
     ensures { slot_bytes result ≡ item_bytes tree.now waiting.now i }
 {
-    let none = Slot {
-        a: 0,
-        b: 0,
-        c: 0,
-        d: 0,
-    };
-    let at = i as usize;
+    let at = usize::from(i);
     let slots = tree.len() / SLOT_LENGTH;
     if at < slots {
         return load(tree, SLOT_LENGTH * at);
@@ -55,9 +47,10 @@ fn load_item(tree: &[u8], waiting: &[u8], i: u16) -> Slot
     if waits < waiting.len() / SLOT_LENGTH {
         return load(waiting, SLOT_LENGTH * waits);
     }
-    none
+    Slot::default()
 }
 
+#[tactic(auto, unfolding(slot_spec::specs::Slot::node_of))]
 fn item_value(tree: &[u8], waiting: &[u8], i: u16) -> u64
     ensures { result ≡ value_in tree.now waiting.now i }
 {
@@ -70,14 +63,16 @@ pub fn put_index(part: &mut [u8], keys: &[u64], taken: &[u16])
     ensures { part.new ≡ index (values_start (length taken.now)) (map (key_in keys.now) taken.now) }
 {
     let start = COUNT_WIDTH + INDEX_WIDTH * taken.len();
-    let mut i = 0;
-    while i < taken.len() {
-        let a = INDEX_WIDTH * i;
-        let e = a + INDEX_WIDTH;
+    for (i, item) in taken.iter().enumerate() {
+        let at = INDEX_WIDTH * i;
         let offset = start + VALUE_WIDTH * i;
-        let key = key_at(keys, taken[i]);
-        put_pair(&mut part[a..e], KEY_WIDTH, key, offset as u64);
-        i += 1;
+        let key = key_at(keys, *item);
+        put_pair(
+            &mut part[at..at + INDEX_WIDTH],
+            KEY_WIDTH,
+            key,
+            offset as u64,
+        );
     }
 }
 
@@ -86,13 +81,10 @@ pub fn put_values(part: &mut [u8], tree: &[u8], waiting: &[u8], taken: &[u16])
     requires { length part.old ≡ value_width * length taken.now }
     ensures { part.new ≡ values_part (map (value_in tree.now waiting.now) taken.now) }
 {
-    let mut i = 0;
-    while i < taken.len() {
-        let a = VALUE_WIDTH * i;
-        let e = a + VALUE_WIDTH;
-        let value = item_value(tree, waiting, taken[i]);
-        put_number(&mut part[a..e], value);
-        i += 1;
+    for (i, item) in taken.iter().enumerate() {
+        let at = VALUE_WIDTH * i;
+        let value = item_value(tree, waiting, *item);
+        put_number(&mut part[at..at + VALUE_WIDTH], value);
     }
 }
 
@@ -100,15 +92,7 @@ pub fn put_values(part: &mut [u8], tree: &[u8], waiting: &[u8], taken: &[u16])
 pub fn reported(marks: &[u8]) -> usize
     ensures { (result ≡ length (omitted_by 0 marks.now)) × (result ≤ length marks.now) }
 {
-    let mut count = 0;
-    let mut i = 0;
-    while i < marks.len() {
-        if marks[i] != 0 {
-            count += 1;
-        }
-        i += 1;
-    }
-    count
+    marks.iter().filter(|mark| **mark != 0).count()
 }
 
 // The report: the place and the reason of each item with a mark.
@@ -116,16 +100,17 @@ pub fn put_report(part: &mut [u8], marks: &[u8])
     requires { (length part.old ≡ report_width * length (omitted_by 0 marks.now)) × (length marks.now ≤ most_items) }
     ensures { part.new ≡ report_part (omitted_by 0 marks.now) }
 {
-    let mut a = 0;
-    let mut i = 0;
-    while i < marks.len() {
-        let reason = marks[i];
-        if reason != 0 {
-            let e = a + REPORT_WIDTH;
-            let place = SLOT_LENGTH * i;
-            put_pair(&mut part[a..e], PLACE_WIDTH, place as u64, reason as u64);
-            a = e;
+    let mut at = 0;
+    for (i, mark) in marks.iter().enumerate() {
+        if *mark != 0 {
+            let line = &mut part[at..at + REPORT_WIDTH];
+            put_pair(
+                line,
+                PLACE_WIDTH,
+                (SLOT_LENGTH * i) as u64,
+                u64::from(*mark),
+            );
+            at += REPORT_WIDTH;
         }
-        i += 1;
     }
 }

@@ -1,11 +1,11 @@
 -- Reading out: the outcome, and every byte of the lent output buffer. State and tree are only read.
-use Rattle.std.specs.Prelude.{ℕ, Bool, not, ◌&&◌, ◌||◌, List, ◌++◌, eqb, leb, ltb, length, drop}
+use Rattle.std.specs.Prelude.{ℕ, Bool, not, ◌&&◌, ◌||◌, List, ◌++◌, Result, Ok, Err, eqb, leb, ltb, length, drop}
 use Rattle.list_spec.specs.Choice.{pick}
 use Rattle.slot_spec.specs.Tree.{tree_length}
 use Rattle.state_spec.specs.declared.State.{State}
 use Rattle.state_spec.specs.Fit.{in_range, largest_structure, largest_size, places}
-use Rattle.readout_spec.specs.declared.ReadOut.{ReadOut}
-use Rattle.readout_spec.specs.declared.ReadOut.TheVariants.{Written, Refused}
+use Rattle.readout_spec.specs.declared.NoFile.{NoFile}
+use Rattle.readout_spec.specs.declared.NoFile.TheVariants.{Unfit, TreeLength, NotClosed, ShortBuffer}
 use Rattle.readout_spec.specs.Taken.{entries, report}
 use Rattle.readout_spec.specs.File.{file}
 
@@ -24,6 +24,11 @@ known s =
     in_range s.structure largest_structure && (in_range s.size largest_size && leb s.count places)
 
 -- ---- the operation
+-- What reading out brings: the length of the file that was written, or the number of a refusal.
+pub data ReadOut : Type 0 where
+  Written : (length : ℕ) → ReadOut
+  Refused : (number : ℕ) → ReadOut
+
 pub record ReadOutLeft : Type 0 where
   pub result : ReadOut
   pub out : List ℕ
@@ -47,7 +52,19 @@ read_out s tree out =
     (pick (not (eqb (length tree) (tree_length s.size))) (read_out_refusing 3 out)
     (pick (ltb (length out) (length (file_of s tree))) (read_out_refusing 15 out) (writing (file_of s tree) out))))
 
--- ---- what is returned, as two numbers
+-- ---- what a function returns
+-- The refusals' numbers.
+abbrev pub number_of : NoFile → ℕ
+number_of Unfit = 2
+number_of TreeLength = 3
+number_of NotClosed = 14
+number_of ShortBuffer = 15
+
+abbrev pub to_read_out : Result ℕ NoFile → ReadOut
+to_read_out (Ok n) = Written n
+to_read_out (Err e) = Refused (number_of e)
+
+-- ---- as two numbers
 -- 0 where a file was written, or the number of the refusal.
 unfoldable pub read_out_number : ReadOut → ℕ
 read_out_number (Written n) = 0

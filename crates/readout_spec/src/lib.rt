@@ -25,9 +25,13 @@ pub const INDEX_WIDTH: usize = KEY_WIDTH + OFFSET_WIDTH;
 
 pub const REPORT_WIDTH: usize = PLACE_WIDTH + REASON_WIDTH;
 
-// What reading out brings: the length of the file that was written, or the number of a refusal.
-#[derive(Clone, Copy)]
-pub enum ReadOut {
-    Written(usize),
-    Refused(u8),
+// Why a store is not read out, with the number that a host gets.
+#[derive(Clone, Copy, PartialEq, Eq)]
+pub enum NoFile {
+    // Structure or size is unknown, or more nodes wait than there are places.
+    Unfit = 2,
+    TreeLength = 3,
+    // The mark is neither 8 nor 9.
+    NotClosed = 14,
+    ShortBuffer = 15,
 }

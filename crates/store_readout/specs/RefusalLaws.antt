@@ -1,15 +1,17 @@
 -- What a refusal's number says of the checks, and that a store that none refuses is read out from its slots.
-use Rattle.std.specs.Prelude.{◌≡◌, Bool, not, ◌&&◌, List, ℕ, ◌≤◌, ltb, leb, length}
+use Rattle.std.specs.Prelude.{◌≡◌, Bool, not, ◌&&◌, List, [], ℕ, ◌≤◌, ltb, leb, length}
 use Rattle.std.proofs.Math.Path.{refl}
 use Rattle.std.proofs.Math.Bool.{true, false, and-eq-true_iff}
-use Rattle.std.proofs.Common.{arith}
+use Rattle.std.proofs.Common.{sym, ◌∙◌, arith}
 use Rattle.std.proofs.Math.Dec.{eqb}
 use borrow.Author.Tests.{eqb-true, leb-true}
 use Rattle.list_spec.specs.Choice.{pick}
 use Rattle.slot_spec.specs.Tree.{tree_length}
 use Rattle.state_spec.specs.declared.State.{State}
 use Rattle.state_spec.specs.Fit.{in_range, largest_structure, largest_size, places}
-use Rattle.readout_spec.specs.ReadOut.{closed_mark, known, read_out_refusing, read_out, file_of}
+use Rattle.readout_spec.specs.declared.NoFile.{NoFile}
+use Rattle.readout_spec.specs.declared.NoFile.TheVariants.{Unfit, TreeLength, NotClosed, ShortBuffer}
+use Rattle.readout_spec.specs.ReadOut.{number_of, closed_mark, known, read_out_refusing, read_out, file_of}
 use Rattle.survey_laws.specs.Items.{fitting}
 use Rattle.store_readout.specs.Refusal.{known_numbers, refusal_of}
 
@@ -54,3 +56,28 @@ module _ (s : State) (tree out : List ℕ) where
       go true false c e f none = let z : ⊥ = omega (arith, none) in absurd z
       go true true false e f none = let z : ⊥ = omega (arith, none) in absurd z
       go true true true e f none = (e, eqb-true (length tree) (tree_length s.size) f, refl)
+
+-- A refusal has a number.
+pub some_number : (e : NoFile) → number_of e ≡ 0 → ⊥
+some_number Unfit h = omega (arith, h)
+some_number TreeLength h = omega (arith, h)
+some_number NotClosed h = omega (arith, h)
+some_number ShortBuffer h = omega (arith, h)
+
+-- What is returned where a check refuses.
+pub refused-so : (s : State) (tree out : List ℕ) (e : NoFile) → number_of e ≡ refusal_of s.mark s.structure s.size s.count (length tree)
+    → read_out_refusing (number_of e) out ≡ read_out s tree out
+refused-so s tree out e h = rw h (refused s tree out (λ z. some_number e (h ∙ z)))
+
+-- What is known where none does.
+pub record Passed (s : State) (tree : List ℕ) : Type 0 where
+  pub small : s.size ≤ largest_size
+  pub few : s.count ≤ places
+  pub sized : length tree ≡ tree_length s.size
+  pub is : (out : List ℕ) → read_out s tree out ≡ fitting (file_of s tree) out
+
+pub passed-so : (s : State) (tree : List ℕ) → 0 ≡ refusal_of s.mark s.structure s.size s.count (length tree) → Passed s tree
+passed-so s tree none =
+    let p = λ (out : List ℕ). passed s tree out (sym none) in
+    let k = known-size s.structure s.size s.count (p []).0 in
+    record { small = k.0; few = k.1; sized = (p []).1; is = λ out. (p out).2 }

@@ -1,15 +1,15 @@
 // Closed stores as records, for the programs that test and time reading out: tests/README.md has a record's layout.
 #![tactic(auto)]
 
-ghost use Rattle.std.specs.Prelude.{◌≡◌, ◌≤◌, length};
+ghost use Rattle.std.specs.Prelude.{◌≤◌, IfOk};
 ghost use Rattle.io.specs.Counts.{IsPrefixLen};
-ghost use Rattle.store_records.specs.Records.{head_length, most_bytes};
+ghost use Rattle.store_records.specs.Records.{most_bytes};
 
 use slot_fields::node_of;
 use slot_spec::{Ahead, Link, SLOT_LENGTH, Slot};
 use slot_words::load;
-use state_places::no_place;
 use state_spec::{PLACES, Place, State};
+use std::array;
 
 // The descriptor of the standard input.
 const STDIN_FILENO: i32 = 0;
@@ -26,59 +26,34 @@ pub const HEAD_LENGTH: usize = NUMBERS_LENGTH + PLACES * SLOT_LENGTH;
 // The most bytes of a tree, and of an output buffer.
 pub const MOST_BYTES: usize = 65536;
 
-// How a record came. One that the input does not hold whole is short; one whose tree or output buffer has too many bytes is long.
-#[derive(Clone, Copy)]
-pub enum Came {
-    Whole,
+// Why no record came: the input does not hold it whole, or its tree or its output buffer has too many bytes.
+#[derive(Clone, Copy, PartialEq, Eq)]
+pub enum NoRecord {
     Short,
     Long,
 }
 
-// How a record came, and the lengths of its tree and of its output buffer: 0 if it is not whole.
-#[derive(Clone, Copy)]
-pub struct Read {
-    pub came: Came,
+// The lengths of a record's tree and of its output buffer.
+#[derive(Clone, Copy, PartialEq, Eq)]
+pub struct Lengths {
     pub tree: usize,
     pub room: usize,
 }
 
-fn no_record(came: Came) -> Read
-    ensures { (result.tree ≡ 0) × (result.room ≡ 0) }
-{
-    Read {
-        came,
-        tree: 0,
-        room: 0,
-    }
-}
-
 // The state's place that stands in a slot.
 fn place_of(x: Slot) -> Place {
-    let node = node_of(x);
     Place {
         full: x.a % 256 == 1,
-        node,
+        node: node_of(x),
     }
 }
 
-fn places_of(head: &[u8]) -> [Place; 101]
-    requires { length head.now ≡ head_length }
-{
-    let mut places = [no_place(); 101];
-    let mut at = NUMBERS_LENGTH;
-    let mut i = 0;
-    while i < PLACES {
-        places[i] = place_of(load(head, at));
-        at += SLOT_LENGTH;
-        i += 1;
-    }
-    places
+fn places_of(head: &[u8; HEAD_LENGTH]) -> [Place; PLACES] {
+    array::from_fn(|i| place_of(load(head, NUMBERS_LENGTH + SLOT_LENGTH * i)))
 }
 
 // The state of a record. Its numbers are the first words.
-pub fn state_of(head: &[u8]) -> State
-    requires { length head.now ≡ head_length }
-{
+pub fn state_of(head: &[u8; HEAD_LENGTH]) -> State {
     let x = load(head, 0);
     let root = Link {
         height: (x.a / 16777216 % 256) as u8,
@@ -90,7 +65,6 @@ pub fn state_of(head: &[u8]) -> State
         key: (y.a % 4294967296) as u32,
         tag: (y.a / 4294967296 % 65536) as u16,
     };
-    let places = places_of(head);
     State {
         mark: (x.a % 256) as u8,
         structure: (x.a / 256 % 256) as u8,
@@ -99,39 +73,33 @@ pub fn state_of(head: &[u8]) -> State
         root,
         ahead,
         count: (x.a / 281474976710656) as u16,
-        places,
+        places: places_of(head),
     }
 }
 
 // Reads a tree of so many bytes to the start of `space`.
-fn read_tree(tree: usize, room: usize, space: &mut [u8]) -> Read
-    ensures { IsPrefixLen result.tree space.new × (result.room ≤ most_bytes) }
+fn read_tree(lengths: Lengths, space: &mut [u8]) -> Result<Lengths, NoRecord>
+    ensures { IfOk result (λ l. IsPrefixLen l.tree space.new × (l.room ≤ most_bytes)) }
 {
+    let Lengths { tree, room } = lengths;
     if space.len() < tree || MOST_BYTES < room {
-        return no_record(Came::Long);
+        return Err(NoRecord::Long);
     }
-    let got = io::read_full(STDIN_FILENO, &mut space[..tree]);
-    if got < tree {
-        return no_record(Came::Short);
+    if io::read_full(STDIN_FILENO, &mut space[..tree]) < tree {
+        return Err(NoRecord::Short);
     }
-    Read {
-        came: Came::Whole,
-        tree,
-        room,
-    }
+    Ok(lengths)
 }
 
 // Reads a record from the standard input: what stands before its tree into `head`, and its tree to the start of `space`.
-pub fn read_record(head: &mut [u8], space: &mut [u8]) -> Read
-    requires { length head.old ≡ head_length }
-    ensures { IsPrefixLen result.tree space.new × (result.room ≤ most_bytes) }
+pub fn read_record(head: &mut [u8; HEAD_LENGTH], space: &mut [u8]) -> Result<Lengths, NoRecord>
+    ensures { IfOk result (λ l. IsPrefixLen l.tree space.new × (l.room ≤ most_bytes)) }
 {
-    let got = io::read_full(STDIN_FILENO, head);
-    if got < HEAD_LENGTH {
-        return no_record(Came::Short);
+    if io::read_full(STDIN_FILENO, head) < HEAD_LENGTH {
+        return Err(NoRecord::Short);
     }
     let lengths = load(head, AHEAD_START).b;
     let tree = (lengths % 4294967296) as usize;
     let room = (lengths / 4294967296) as usize;
-    read_tree(tree, room, space)
+    read_tree(Lengths { tree, room }, space)
 }

@@ -1,7 +1,9 @@
 -- The lengths of the file's parts, and each part as one line and the rest: what code that writes it line by line goes by.
-use Rattle.std.specs.Prelude.{◌≡◌, refl, List, [], ◌∷◌, ◌++◌, map, ℕ, suc, ◌+◌, ◌-◌, ◌*◌, ◌/◌, ◌%◌, ◌≤◌, ◌<◌, length, get_or, set, take, drop}
+use Rattle.std.specs.Prelude.{◌≡◌, refl, Bool, true, false, not, cond, eqb, count_by, List, [], ◌∷◌, ◌++◌, map, ℕ, suc, ◌+◌, ◌-◌, ◌*◌, ◌/◌, ◌%◌, ◌≤◌, ◌<◌, length, get_or, set, take, drop}
 use Rattle.std.proofs.Common.{sym, ◌∙◌, ap, append_assoc, append-nil, add-one, arith, length-append, length-take, length-drop, drop_of_length-le, drop-cons, take_at, drop_at, take-suc-set, take_all, eq-eqb, ne_eqb}
 use Rattle.std.proofs.lemmas.List.{length-map}
+use Rattle.std.proofs.lemmas.List.Sums.{sum_by-cons}
+use Rattle.list_spec.specs.Choice.{pick}
 use Rattle.slot_spec.specs.LittleEndian.{bytes}
 use Rattle.slot_laws.specs.LittleEndianLaws.{length-bytes}
 use Rattle.readout_spec.specs.Seen.{slot_place}
@@ -95,6 +97,19 @@ omitted-more marks i h e = rw (add-one i, drop-cons marks i 0 h, ne_eqb (get_or 
 pub omitted-none : (marks : List ℕ) (i : ℕ) → length marks ≤ i → omitted_from marks i ≡ []
 unfolding omitted_by
 omitted-none marks i h = ap (omitted_by i) (drop_of_length-le marks h)
+
+-- As many are reported as there are marks that are not 0.
+pub omitted_count : (i : ℕ) (marks : List ℕ) → length (omitted_by i marks) ≡ count_by (λ m. not (eqb m 0)) marks
+unfolding omitted_by
+omitted_count i [] = refl
+omitted_count i (m ∷ ms) =
+    go (eqb m 0) (omitted_count (suc i) ms) ∙ sym (sum_by-cons (λ x. cond (not (eqb x 0)) 1 0) m ms)
+  where
+    go : (b : Bool) → length (omitted_by (suc i) ms) ≡ count_by (λ x. not (eqb x 0)) ms
+        → length (pick b (omitted_by (suc i) ms) (record { place = slot_place i; reason = m } ∷ omitted_by (suc i) ms))
+        ≡ cond (not b) 1 0 + count_by (λ x. not (eqb x 0)) ms
+    go true e = omega arith
+    go false e = omega arith
 
 omission-more : (marks : List ℕ) (i : ℕ) → i < length marks → (get_or marks i 0 ≡ 0 → ⊥)
     → report_part (omitted_from marks i)

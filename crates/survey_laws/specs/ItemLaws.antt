@@ -1,11 +1,12 @@
 -- The loops over numbered items, turn by turn: what is done and the definition on the rest is the definition on all.
-use Rattle.std.specs.Prelude.{◌≡◌, refl, Bool, true, false, List, [], ◌∷◌, ◌++◌, eqb, length, get_or, take, drop, set}
+use Rattle.std.specs.Prelude.{◌≡◌, refl, Bool, true, false, List, [], ◌∷◌, ◌++◌, eqb, length, get_or, take, drop, set, Option, None, Some}
 use Rattle.std.proofs.Common.{sym, ◌∙◌, ap, append-nil, drop_of_length-le, take_all, drop-cons, take-suc-set}
 use Prim.Native.Nat.{ℕ, suc, ◌+◌, ◌-◌, ◌≤◌, ◌<◌}
 use native.Mathlib.Omega.{arith}
 use Rattle.std.proofs.lemmas.List.Edits.{sets}
 use Rattle.std.proofs.Math.Seq.{append_snoc, set_out}
 use borrow.Author.Tests.{eq-eqb, ne_eqb}
+use Rattle.std.specs.Option.{option_eq}
 use Rattle.list_spec.specs.Choice.{pick}
 use Rattle.readout_spec.specs.Taken.{is_repeated}
 use Rattle.survey_laws.specs.Items.{row_from, good_from, heads_after, heads, cleared}
@@ -99,6 +100,28 @@ heads-start key order taken some =
 pub heads-end : (key : ℕ → ℕ) (order : List ℕ) (last i : ℕ) → length order ≤ i → heads_after key last (drop i order) ≡ []
 unfolding heads_after
 heads-end key order last i over = rw (drop_of_length-le order over)
+
+-- The first of each key of what follows an item with the last key, or of a row.
+abbrev pub heads_from : (key : ℕ → ℕ) (last : Option ℕ) → List ℕ → List ℕ
+heads_from key None order = heads key order
+heads_from key (Some k) order = heads_after key k order
+
+module _ (key : ℕ → ℕ) (order : List ℕ) (i : ℕ) (within : i < length order) where
+  pub head-put : (last : Option ℕ) → option_eq eqb last (Some (key (get_or order i 0))) ≡ false
+      → heads_from key last (drop i order) ≡ get_or order i 0 ∷ heads_from key (Some (key (get_or order i 0))) (drop (i + 1) order)
+  unfolding heads
+  head-put None other = let h : i + 1 ≡ suc i = omega arith in rw (drop-cons order i 0 within, h)
+  head-put (Some k) other = turn key order k i within false other
+
+  pub head-kept : (last : Option ℕ) → option_eq eqb last (Some (key (get_or order i 0))) ≡ true
+      → heads_from key last (drop i order) ≡ heads_from key last (drop (i + 1) order)
+  head-kept None same = let z : ◌≡◌ {A = ℕ} 0 1 = cc in absurd (omega arith)
+  head-kept (Some k) same = turn key order k i within true same
+
+pub heads-past : (key : ℕ → ℕ) (order : List ℕ) (last : Option ℕ) (i : ℕ) → length order ≤ i → heads_from key last (drop i order) ≡ []
+unfolding heads
+heads-past key order None i over = rw (drop_of_length-le order over)
+heads-past key order (Some k) i over = heads-end key order k i over
 
 -- ---- the marks of the items taken
 pub clear_next : (taken marks : List ℕ) (i : ℕ) → i < length taken

@@ -15,7 +15,7 @@ ghost use Rattle.named_files.specs.Names.{longest_name};
 use checks::may_replace;
 use file_facts::facts_of;
 use messages::{say_empty, say_usage};
-use named_files::{LONGEST_NAME, fail, path_of, say_failed};
+use named_files::{LONGEST_NAME, Named, has_argument, path_of, say_failed};
 use std::env::{Env, FillError};
 use std::fs;
 use std::io::{Error, Print};
@@ -30,36 +30,31 @@ fn open_read<F: Files>(files: &F, name: &[u8]) -> Result<F::File, Error> {
     fs::open(files, path_of(name)?)
 }
 
-fn run(rt: &(impl Files + Print), old: &[u8], new: &[u8])
-    requires { (length old.now ≤ longest_name) × (length new.now ≤ longest_name) }
-{
-    match open_read(rt, old) {
-        Ok(mut file) => {
-            let facts = facts_of(rt, old);
-            if may_replace(rt, facts, old, new) {
-                new_file::copy(rt, &mut file, facts, old, new);
-            }
+fn run(rt: &(impl Files + Print), old: Named, new: Named) {
+    if let Ok(mut file) = old.said(open_read(rt, old.name), b"cannot open ") {
+        let facts = facts_of(rt, old.name);
+        if may_replace(rt, facts, old, new) {
+            new_file::copy(rt, &mut file, facts, old, new);
         }
-        Err(error) => fail(b"ticket_copy: ", b"cannot open ", old, &error),
     }
 }
 
-// Whether there is an argument of this number, of any length.
-fn has_argument(rt: &impl Env, i: usize) -> bool {
-    let mut none = [0u8; 1];
-    match rt.arg(i, &mut none) {
-        Ok(_) => true,
-        Err(FillError::TooLong) => true,
-        Err(FillError::NotPresent) => false,
+// A name of this program's messages.
+fn named(name: &[u8]) -> Named
+    requires { length name.now ≤ longest_name }
+{
+    Named {
+        program: b"ticket_copy: ",
+        name,
     }
 }
 
 // Why an argument did not come.
 fn reason(error: FillError) -> Error {
-    match error {
-        FillError::NotPresent => Error::from_raw_os_error(MISSING),
-        FillError::TooLong => Error::from_raw_os_error(TOO_LONG),
-    }
+    Error::from_raw_os_error(match error {
+        FillError::NotPresent => MISSING,
+        FillError::TooLong => TOO_LONG,
+    })
 }
 
 // Puts an argument at the start of a buffer. How long it is; where it does not come, that is said.
@@ -90,5 +85,9 @@ fn main(rt: HostRuntime) {
     if old_length == 0 || new_length == 0 {
         return say_empty();
     }
-    run(&rt, &old_space[..old_length], &new_space[..new_length]);
+    run(
+        &rt,
+        named(&old_space[..old_length]),
+        named(&new_space[..new_length]),
+    );
 }

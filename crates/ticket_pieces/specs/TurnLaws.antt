@@ -1,6 +1,6 @@
 -- What each turn of the loops adds.
 use Rattle.std.specs.Prelude.{◌≡◌, refl, Bool, true, false, List, [], ◌∷◌, ◌++◌, ℕ, suc, ◌+◌, ◌-◌, ◌*◌, ◌/◌, ◌<◌, ◌≤◌, length, take, drop, get_or, set}
-use Rattle.std.proofs.Common.{sym, ◌∙◌, ap, append_assoc, append-nil, arith, take-append-drop, drop_of_length-le, length-append, length-take, length-drop, length-take-le, take_all, take-suc, take-add, take_at, get_or-take, get_or-drop}
+use Rattle.std.proofs.Common.{sym, ◌∙◌, ap, append_assoc, append-nil, arith, take-append-drop, drop_of_length-le, length-append, length-take, length-drop, length-take-le, take_all, take-suc, take-add, take_at, drop_at, get_or-take, get_or-drop}
 use Rattle.std.proofs.lemmas.List.{get_or-replicate}
 use Rattle.std.proofs.lemmas.List.Edits.{sets, sets-eq}
 use Rattle.std.proofs.Math.Seq.{take-length, drop-length}
@@ -13,69 +13,27 @@ use Rattle.ticket_copy_laws.specs.CopyLaws.{field-length, other_length, whole_co
 use Rattle.ticket_copy_laws.specs.PieceLaws.{piecewise, one-ticket, short-end}
 use Rattle.tickets.specs.AskedLaws.{first_byte}
 
--- ---- a field
-field-byte : (used : Bool) (field : List ℕ) (i : ℕ) → i < length field → get_or (field_copy used field) i 0 ≡ pick used (get_or field i 0) 0
-field-byte true field i h = refl
-field-byte false field i h = get_or-replicate (length field) i 0 0 h
-
-abbrev pub field_of : (used : Bool) → List ℕ → (from to : ℕ) → List ℕ
-field_of used s from to = field_copy used (take (to - from) (drop from s))
-
-pub field-none : (used : Bool) (s : List ℕ) (from to : ℕ) (out : List ℕ) → out ≡ sets out from (take (from - from) (field_of used s from to))
-field-none used s from to out = let e : from - from ≡ 0 = omega arith in rw e
-
-module _ (used : Bool) (s : List ℕ) (from to : ℕ) (most : to ≤ length s) where
-  abbrev field : List ℕ
-  field = field_of used s from to
-
-  part_length : length (take (to - from) (drop from s)) ≡ to - from
-  part_length = simp (length-take, length-drop) (omega arith)
-
-  written-length : length field ≡ to - from
-  written-length = field-length used (take (to - from) (drop from s)) ∙ part_length
-
-  module _ (before out : List ℕ) (i : ℕ) (low : from ≤ i) (done : out ≡ sets before from (take (i - from) field)) where
-    pub field-more : i < to → (b : ℕ) → b ≡ pick used (get_or s i 0) 0 → set out i b ≡ sets before from (take (i + 1 - from) field)
-    field-more h b e =
-        let n : i + 1 - from ≡ suc (i - from) = omega arith in
-        let m : from + (i - from) ≡ i = omega arith in
-        let l : i - from < length field = omega (arith, written-length) in
-        let k : length (take (i - from) field) ≡ i - from = length-take-le (i - from) field (omega arith) in
-        let g : get_or (take (to - from) (drop from s)) (i - from) 0 ≡ get_or s i 0 =
-        get_or-take (to - from) (drop from s) (i - from) 0 (omega arith) ∙ get_or-drop from s (i - from) 0 ∙ ap (λ (j : ℕ). get_or s j 0) m in
-        let f : get_or field (i - from) 0 ≡ b =
-        field-byte used (take (to - from) (drop from s)) (i - from) (omega (arith, part_length)) ∙ rw g (sym e) in
-        rw (n, take-suc field (i - from) 0 l, f, sets-append before from (take (i - from) field) (b ∷ []), k, m, done)
-
-    pub field-done : to ≤ i → out ≡ sets before from field
-    field-done h = done ∙ ap (sets before from) (take_all (i - from) field (omega (arith, written-length)))
-
 -- ---- a ticket
-sets-all : (out vs : List ℕ) → length vs ≡ length out → sets out 0 vs ≡ vs
-sets-all out vs h =
-    let e : 0 + length vs ≡ length out = omega arith in
-    sets-eq vs out 0 (omega arith) ∙ rw (e, drop-length out) (append-nil vs)
+-- The list with other bytes from a place up to another.
+abbrev pub put_part : (from to : ℕ) → List ℕ → List ℕ → List ℕ
+put_part from to out part = take from out ++ (part ++ drop (to - from) (drop from out))
 
 -- The kind, the key and the value.
-pub ticket-written : (t o o1 o2 o3 : List ℕ) (used : Uses) → length t ≡ 13 → length o ≡ 13 → used ≡ fields_used (get_or t 0 0)
-    → o1 ≡ sets o 0 (field_of true t 0 1) → o2 ≡ sets o1 1 (field_of used.key t 1 5) → o3 ≡ sets o2 5 (field_of used.value t 5 13) → o3 ≡ ticket_copy t
-ticket-written t o o1 o2 o3 used h l e e1 e2 e3 =
+pub ticket-written : (t o a b c : List ℕ) (used : Uses) → length t ≡ 13 → length o ≡ 13 → used ≡ fields_used (get_or t 0 0)
+    → a ≡ take 1 t → b ≡ field_copy used.key (take 4 (drop 1 t)) → c ≡ field_copy used.value (take 8 (drop 5 t))
+    → put_part 5 13 (put_part 1 5 (a ++ drop 1 o) b) c ≡ ticket_copy t
+ticket-written t o a b c used h l e ea eb ec =
     let u : used ≡ fields_used (kind_in t) = e ∙ ap fields_used (first_byte t (omega arith)) in
-    let k = field_of used.key t 1 5 in
-    let v = field_of used.value t 5 13 in
-    let a : length (take 1 t) ≡ 1 = length-take 1 t ∙ omega arith in
-    let b : length k ≡ 4 = written-length used.key t 1 5 (omega arith) in
-    let c : length v ≡ 8 = written-length used.value t 5 13 (omega arith) in
-    let n : length (take 1 t ++ (k ++ v)) ≡ length o = rw (length-append, length-append) (omega arith) in
-    let p : sets (sets o 0 (take 1 t)) 1 (k ++ v) ≡ o3 = sets-append (sets o 0 (take 1 t)) 1 k v ∙ rw (b, ← e1, ← e2, e3) in
-    let q : sets o 0 (take 1 t ++ (k ++ v)) ≡ o3 = sets-append o 0 (take 1 t) (k ++ v) ∙ rw a p in
-    sym q ∙ sets-all o (take 1 t ++ (k ++ v)) n ∙ sym (whole_copy t h ∙ rw u)
-
--- Bytes of another length.
-pub others-written : (t o o1 : List ℕ) → length o ≡ length t → (length t ≡ 13 → ⊥) → o1 ≡ sets o 0 (field_of true t 0 (length t)) → o1 ≡ ticket_copy t
-others-written t o o1 h n e =
-    let z : length t - 0 ≡ length t = omega arith in
-    e ∙ rw (z, take-length t) (sets-all o t (sym h)) ∙ sym (other_length t n)
+    let na : length a ≡ 1 = ap length ea ∙ length-take 1 t ∙ omega arith in
+    let nb : length b ≡ 4 = ap length eb ∙ field-length used.key (take 4 (drop 1 t)) ∙ simp (length-take, length-drop) (omega arith) in
+    let n : length (a ++ b) ≡ 5 = length-append a b ∙ omega arith in
+    let rest = drop 4 (drop 1 o) in
+    let z : drop 8 rest ≡ [] = drop_of_length-le rest {i = 8} (simp length-drop (omega arith)) in
+    let second : put_part 1 5 (a ++ drop 1 o) b ≡ (a ++ b) ++ rest =
+    rw (take_at a (drop 1 o) 1 na, drop_at a (drop 1 o) 1 na) (sym (append_assoc a b rest)) in
+    let third : put_part 5 13 (put_part 1 5 (a ++ drop 1 o) b) c ≡ a ++ (b ++ c) =
+    rw (second, take_at (a ++ b) rest 5 n, drop_at (a ++ b) rest 5 n, z, append-nil c) (append_assoc a b c) in
+    third ∙ sym (whole_copy t h ∙ rw (← u, ea, eb, ec) refl)
 
 -- ---- a piece
 -- The bytes before a place are copied, all of whole tickets, and so many of those were changed.
@@ -87,10 +45,6 @@ pub record CopiedTo (piece : List ℕ) (at : ℕ) (out : List ℕ) (count : ℕ)
 pub piece-none : (piece out : List ℕ) → CopiedTo piece 0 out 0
 unfolding copied changed_among
 piece-none piece out = record { tickets = refl; bytes = refl; number = refl }
-
--- The list with other bytes from a place up to another.
-abbrev pub put_part : (from to : ℕ) → List ℕ → List ℕ → List ℕ
-put_part from to out part = take from out ++ (part ++ drop (to - from) (drop from out))
 
 module _ (piece out : List ℕ) (at count : ℕ) (same : length out ≡ length piece) (done : CopiedTo piece at out count) where
   module _ (part : List ℕ) (l : at + 13 ≤ length piece) (e : part ≡ ticket_copy (take (at + 13 - at) (drop at piece))) where

@@ -1,34 +1,22 @@
 // Tickets copied with their unused fields zeroed, one and a piece of a file.
 #![tactic(auto)]
 
-ghost use Rattle.std.specs.Prelude.{◌≡◌, ◌-◌, ◌≤◌, length, take, drop};
-ghost use Rattle.std.proofs.lemmas.List.Edits.{sets};
-ghost use Rattle.list_spec.specs.Choice.{pick};
+ghost use Rattle.std.specs.Prelude.{◌≡◌, length};
 ghost use Rattle.state_spec.specs.Ticket.{ticket_length};
 ghost use Rattle.ticket_copy_spec.specs.Copy.{field_copy, ticket_copy, changed, file_copy, changed_in};
 
 use tickets::TICKET_LENGTH;
 use unused_fields::{has_stray, uses};
 
-// A byte of a field, or 0 where the field is not used.
-fn kept(used: bool, byte: u8) -> u8
-    ensures { result ≡ pick used byte 0 }
+// A field, zeroed where it is not used.
+fn copy_field(used: bool, field: &[u8], out: &mut [u8])
+    requires { length out.old ≡ length field.now }
+    ensures { out.new ≡ field_copy used field.now }
 {
     if used {
-        return byte;
-    }
-    0
-}
-
-// The bytes from one place up to another, zeroed where they are a field that is not used. The other bytes of `out` stay.
-fn copy_field(used: bool, s: &[u8], out: &mut [u8], from: usize, to: usize)
-    requires { (from ≤ to) × (to ≤ length s.now) × (length out.old ≡ length s.now) }
-    ensures { out.new ≡ sets out.old from (field_copy used (take (to - from) (drop from s.now))) }
-{
-    let mut i = from;
-    while i < to {
-        out[i] = kept(used, s[i]);
-        i += 1;
+        out.copy_from_slice(field);
+    } else {
+        out.fill(0);
     }
 }
 
@@ -38,9 +26,9 @@ fn copy_whole(ticket: &[u8], out: &mut [u8]) -> bool
     ensures { (out.new ≡ ticket_copy ticket.now) × (result ≡ changed ticket.now) }
 {
     let used = uses(ticket[0]);
-    copy_field(true, ticket, out, 0, 1);
-    copy_field(used.key, ticket, out, 1, 5);
-    copy_field(used.value, ticket, out, 5, 13);
+    copy_field(true, &ticket[..1], &mut out[..1]);
+    copy_field(used.key, &ticket[1..5], &mut out[1..5]);
+    copy_field(used.value, &ticket[5..13], &mut out[5..13]);
     has_stray(ticket)
 }
 
@@ -52,14 +40,8 @@ pub fn copy_ticket(ticket: &[u8], out: &mut [u8]) -> bool
     if ticket.len() == TICKET_LENGTH {
         return copy_whole(ticket, out);
     }
-    copy_field(true, ticket, out, 0, ticket.len());
+    out.copy_from_slice(ticket);
     false
-}
-
-fn one_if(changed: bool) -> usize
-    ensures { (result ≡ pick changed 1 0) × (result ≤ 1) }
-{
-    if changed { 1 } else { 0 }
 }
 
 // All whole tickets of a piece of a file, and a short end after them. How many tickets were changed.
@@ -67,13 +49,15 @@ pub fn copy_piece(piece: &[u8], out: &mut [u8]) -> usize
     requires { length out.old ≡ length piece.now }
     ensures { (out.new ≡ file_copy piece.now) × (result ≡ changed_in piece.now) }
 {
-    let mut at = 0;
     let mut count = 0;
-    while TICKET_LENGTH <= piece.len() - at {
+    for i in 0..piece.len() / TICKET_LENGTH {
+        let at = TICKET_LENGTH * i;
         let next = at + TICKET_LENGTH;
-        count += one_if(copy_ticket(&piece[at..next], &mut out[at..next]));
-        at = next;
+        if copy_ticket(&piece[at..next], &mut out[at..next]) {
+            count += 1;
+        }
     }
-    copy_ticket(&piece[at..], &mut out[at..]);
+    let end = piece.len() - piece.len() % TICKET_LENGTH;
+    copy_ticket(&piece[end..], &mut out[end..]);
     count
 }

@@ -1,12 +1,7 @@
--- `store_readout::read_out` meets its contract. The invariant: the first i waiting places are put.
-use Prim.Native.Nat.{◌-◌}
+-- The checks are passed, and the first i waiting places are put.
+use Rattle.store_readout.specs.RefusalLaws.{Passed}
 use Rattle.store_readout.specs.PlacesLaws.{PutSo}
 use Rattle.store_readout.proofs.read_out.Given as goal
 
 abbrev pub invariant-loop-i : goal.invariant-loop-i
-invariant-loop-i l =
-    PutSo l.state.places l.state.count l.i l.waiting
-
-abbrev pub decreases-loop-i : goal.decreases-loop-i
-decreases-loop-i l =
-    l.state.count - l.i
+invariant-loop-i l = Passed l.state l.tree × PutSo l.state.places l.state.count l.i l.waiting

@@ -1,24 +1,26 @@
--- `ticket_pieces::copy_piece` meets its contract. The invariant: the tickets before a place are copied and counted.
-use mathlib.Core.Path.{◌∙◌}
-use native.Mathlib.Omega.{arith}
+-- `ticket_pieces::copy_piece` meets its contract.
+use Rattle.std.proofs.Common.{◌≡◌, refl, sym, ◌∙◌, true, false, add-zero, ◌+◌, ◌-◌, ◌*◌, ◌%◌, length, arith}
 use Rattle.ticket_pieces.specs.TurnLaws.{piece-none, piece-more, piece-done}
 use Rattle.ticket_pieces.proofs.copy_piece.Goals as goal
+use Rattle.ticket_pieces.proofs.copy_piece.Goals.{then-copy_ticket, else-copy_ticket}
 
-pub loop-at-init : goal.loop-at-init
-loop-at-init c =
-    let s = c in
-    (omega arith, s.requires, omega arith, piece-none s.args.piece.now s.args.out.now)
+pub loop-i-init : goal.loop-i-init
+loop-i-init c = (omega arith, piece-none c.args.piece.now c.args.out.now)
 
-pub loop-at-preserved : goal.loop-at-preserved
-loop-at-preserved c =
-    let l = c.loop-at in
-    let s = c in
+pub loop-i-preserved : goal.loop-i-preserved
+loop-i-preserved c =
+    let l = c.loop-i in
     let t = c.copy_ticket in
-    (omega arith, c.out-1.given.1 ∙ l.invariant.1, omega arith, piece-more s.args.piece.now l.out l.at l.count l.invariant.1 l.invariant.3 _ (omega arith) t.ensures.0 t.result t.ensures.1 c.one_if-count.result c.one_if-count.ensures.0)
+    let e : 13 * (l.i + 1) ≡ 13 * l.i + 13 = omega arith in
+    let more = piece-more c.args.piece.now l.out (13 * l.i) l.count (omega arith) l.invariant.1 _ (omega arith) t.ensures.0 in
+    elim c.if-copy_ticket.branch [
+      | then-copy_ticket w ↦ (omega (arith, w.count-is), rw (w.count-is, e) (more true (sym w.if-copy_ticket.true ∙ t.ensures.1) 1 refl))
+      | else-copy_ticket w ↦ (omega (arith, w.count-is), rw (w.count-is, e) (rw add-zero at (more false (sym w.if-copy_ticket.false ∙ t.ensures.1) 0 refl)))
+    ]
 
 pub returns : goal.returns
 returns c =
-    let l = c.loop-at in
-    let s = c in
-    let t = c.copy_ticket-2 in
-    piece-done s.args.piece.now l.out l.at l.count l.invariant.1 l.invariant.3 _ l.invariant.0 (omega arith) t.ensures.0
+    let l = c.loop-i in
+    let p = c.args.piece.now in
+    let e : length p - length p % 13 ≡ 13 * l.i = omega arith in
+    rw e (piece-done p l.out (13 * l.i) l.count (omega arith) l.invariant.1 _ (omega arith) (omega arith) (rw e at c.copy_ticket-2.ensures.0))

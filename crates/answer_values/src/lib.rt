@@ -2,19 +2,19 @@
 #![tactic(auto)]
 
 ghost use Rattle.std.specs.Prelude.{◌≡◌};
+ghost use Rattle.call_spec.specs.Reply.{to_reply};
 ghost use Rattle.walk_spec.specs.Lines.{reply_shown};
 
-use call_spec::Reply;
-use host_results::{number_of, value_of};
+use call_spec::Refusal;
+use host_results::value_of;
+use operation_spec::Answer;
 
 // The number of a refusal; else the answer's value, 0 if there is none.
-pub fn reply_shown(reply: Reply) -> u64
-    ensures { result ≡ reply_shown reply }
+pub fn reply_shown(reply: Result<Answer, Refusal>) -> u64
+    ensures { result ≡ reply_shown (to_reply reply) }
 {
-    let number = number_of(reply);
-    if number != 0 {
-        return number as u64;
+    match reply {
+        Ok(_) => value_of(reply).unwrap_or(0),
+        Err(refusal) => refusal as u64,
     }
-    let v = value_of(reply);
-    v.value
 }

@@ -2,13 +2,14 @@
 #![tactic(auto)]
 
 ghost use Rattle.std.specs.Prelude.{◌≡◌};
+ghost use Rattle.call_spec.specs.Reply.{Answered, to_reply};
 ghost use Rattle.walk_spec.specs.Lines.{reply_word};
 
-use call_spec::Reply;
+use call_spec::Refusal;
 use operation_spec::Answer;
 
 fn answer_word(answer: Answer) -> &'static [u8]
-    ensures { result.now ≡ reply_word (Reply.Answered answer) }
+    ensures { result.now ≡ reply_word (Answered answer) }
 {
     match answer {
         Answer::Found(_) => b"found",
@@ -26,11 +27,11 @@ fn answer_word(answer: Answer) -> &'static [u8]
     }
 }
 
-pub fn reply_word(reply: Reply) -> &'static [u8]
-    ensures { result.now ≡ reply_word reply }
+pub fn reply_word(reply: Result<Answer, Refusal>) -> &'static [u8]
+    ensures { result.now ≡ reply_word (to_reply reply) }
 {
     match reply {
-        Reply::Answered(answer) => answer_word(answer),
-        Reply::Refused(_) => b"refused",
+        Ok(answer) => answer_word(answer),
+        Err(_) => b"refused",
     }
 }

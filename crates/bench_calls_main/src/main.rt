@@ -7,7 +7,7 @@ ghost use Rattle.std.specs.Prelude.{◌≤◌, length};
 ghost use Rattle.state_spec.specs.Fit.{largest_size};
 
 use call_draws::{MOST_DRAWS, MOST_LEAVES, draws_of, rounds_of};
-use call_spec::{Called, Reply};
+use call_spec::{Called, Refusal};
 use checksums::join;
 use opening::open;
 use operation_spec::Answer;
@@ -51,10 +51,10 @@ fn join_answer(sum: u64, answer: Answer) -> u64 {
 }
 
 // The number of a reply's word, and its value or the number of the refusal.
-fn join_reply(sum: u64, reply: Reply) -> u64 {
+fn join_reply(sum: u64, reply: Result<Answer, Refusal>) -> u64 {
     match reply {
-        Reply::Answered(answer) => join_answer(sum, answer),
-        Reply::Refused(number) => join(join(sum, 0), number as u64),
+        Ok(answer) => join_answer(sum, answer),
+        Err(refusal) => join(join(sum, 0), refusal as u64),
     }
 }
 
@@ -82,7 +82,8 @@ fn make_calls(
     let left = calls.remainder().len();
     let mut made = Called {
         state: opened,
-        reply: Reply::Refused(0),
+        // No call yet: only the state is read.
+        reply: Ok(Answer::Empty),
         leaves: 0,
         peak: 0,
     };

@@ -3,16 +3,16 @@
 // bench/rounds.c does the same in C.
 #![tactic(auto)]
 
-ghost use Rattle.std.specs.Prelude.{◌≡◌, false, ◌≤◌, ◌<◌, length};
+ghost use Rattle.std.specs.Prelude.{◌≡◌, ◌≤◌, length};
 ghost use Rattle.io.specs.Counts.{IsPrefixLen};
-ghost use Rattle.word_round_laws.specs.SlotRow.{places, row_length, path_slots};
+ghost use Rattle.word_round_laws.specs.SlotRow.{places, row_length};
 ghost use Rattle.test_rounds.specs.Single.{Resting, Rests};
-ghost use Rattle.bench_rounds_main.specs.Run.{size, nodes, Ran};
+ghost use Rattle.bench_rounds_main.specs.Run.{size, Ran};
 
 use checksums::{join, xorshift};
 use path_reader::Wish;
 use path_slots::PATH_SLOTS;
-use slot_fields::no_link;
+use round_close::Fault;
 use slot_row::{ROW_LENGTH, get};
 use slot_spec::Node;
 use std::env::Env;
@@ -29,48 +29,20 @@ const TREE_LENGTH: usize = 65408;
 
 const SEED: u64 = 88172645463325252;
 
-// What many rounds leave: whether all went through, how many nodes wait, the random numbers' last state, and a checksum of the
-// leaves.
+// What many rounds leave: how many nodes wait, the random numbers' last state, and a checksum of the leaves.
 #[derive(Clone, Copy)]
 struct Turns {
-    ok: bool,
     waiting: usize,
     seed: u64,
     leaves: u64,
 }
 
-fn wide(x: u8) -> u64
-    ensures { result < 256 }
-{
-    x as u64
-}
-
-// A leaf of a tree of size 8 as a position tag.
-fn as_tag(leaf: u8) -> u16
-    ensures { result < 256 }
-{
-    leaf as u16
-}
-
-fn failed(seed: u64) -> Turns
-    ensures { result.ok ≡ false }
-{
-    Turns {
-        ok: false,
-        waiting: 0,
-        seed,
-        leaves: 0,
-    }
-}
-
 fn new_node(key: u32, tag: u8) -> Node {
-    let none = no_link();
     Node {
         key,
-        value: key as u64,
-        tag: tag as u16,
-        left: none,
-        right: none,
+        value: u64::from(key),
+        tag: u16::from(tag),
+        ..Node::default()
     }
 }
 
@@ -83,53 +55,50 @@ fn put_round(
     leaf: u8,
     from: &mut [u32; PATH_SLOTS],
 ) -> Closed
-    requires { Resting size n w.old tree.old × (length from.old ≡ path_slots) }
-    ensures { Rests size w.new tree.new result × (length from.new ≡ path_slots) }
+    requires { Resting size n w.old tree.old }
+    ensures { Rests size w.new tree.new result }
 {
     if !wait(w, n, SIZE, node) {
         return Closed {
-            mark: 9,
+            fault: Some(Fault::Overflow),
             waiting: n,
-            node,
+            node: None,
         };
     }
-    round(w, n + 1, tree, SIZE, leaf as usize, Wish::Nothing, from)
+    round(w, n + 1, tree, SIZE, usize::from(leaf), None, from)
 }
 
-// The nodes with keys 0 to 254 come to wait one by one, each followed by a round.
+// The nodes with keys 0 to 254 come to wait one by one, each followed by a round; `None` where a round failed.
 fn fill(
     w: &mut [u8],
     tree: &mut [u8],
     tags: &mut [u8; NODES],
     from: &mut [u32; PATH_SLOTS],
-) -> Turns
-    requires { Resting size 0 w.old tree.old × (length tags.old ≡ nodes) × (length from.old ≡ path_slots) }
-    ensures { Ran w.new tree.new tags.new from.new result }
+) -> Option<Turns>
+    requires { Resting size 0 w.old tree.old }
+    ensures { Ran w.new tree.new result }
 {
     let mut n = 0;
     let mut x = SEED;
-    let mut i = 0;
-    while i < NODES {
+    for i in 0..NODES {
         x = xorshift(x);
         let tag = (x % 256) as u8;
         tags[i] = tag;
         let leaf = (x / 256 % 256) as u8;
         let r = put_round(w, n, tree, new_node(i as u32, tag), leaf, from);
-        if r.mark != 0 {
-            return failed(x);
+        if r.fault.is_some() {
+            return None;
         }
         n = r.waiting;
-        i += 1;
     }
-    Turns {
-        ok: true,
+    Some(Turns {
         waiting: n,
         seed: x,
         leaves: 1,
-    }
+    })
 }
 
-// So many turns, each of a node that is chosen at random.
+// So many turns, each of a node that is chosen at random; `None` where a round failed.
 fn run(
     rounds: u64,
     w: &mut [u8],
@@ -138,53 +107,41 @@ fn run(
     tags: &mut [u8; NODES],
     seed: u64,
     from: &mut [u32; PATH_SLOTS],
-) -> Turns
-    requires { Resting size waiting w.old tree.old × (length tags.old ≡ nodes) × (length from.old ≡ path_slots) }
-    ensures { Ran w.new tree.new tags.new from.new result }
+) -> Option<Turns>
+    requires { Resting size waiting w.old tree.old }
+    ensures { Ran w.new tree.new result }
 {
     let mut n = waiting;
     let mut x = seed;
     let mut leaves = 1;
-    let mut i = 0;
-    while i < rounds {
+    for _turn in 0..rounds {
         x = xorshift(x);
         let key = (x / 4294967296 % 255) as usize;
         let tag = tags[key];
         let new_tag = (x % 256) as u8;
         tags[key] = new_tag;
-        leaves = join(leaves, wide(tag));
-        let r = take_round(
-            w,
-            n,
-            tree,
-            SIZE,
-            key as u32,
-            as_tag(tag),
-            as_tag(new_tag),
-            from,
-        );
-        if r.mark != 0 {
-            return failed(x);
+        leaves = join(leaves, u64::from(tag));
+        let wish = Wish {
+            key: key as u32,
+            tag: u16::from(tag),
+        };
+        let r = take_round(w, n, tree, SIZE, wish, u16::from(new_tag), from);
+        if r.fault.is_some() {
+            return None;
         }
         n = r.waiting;
-        i += 1;
     }
-    Turns {
-        ok: true,
+    Some(Turns {
         waiting: n,
         seed: x,
         leaves,
-    }
+    })
 }
 
 fn checksum_bytes(bytes: &[u8]) -> u64 {
-    let mut sum = 1;
-    let mut i = 0;
-    while i < bytes.len() {
-        sum = join(sum, wide(bytes[i]));
-        i += 1;
-    }
-    sum
+    bytes
+        .iter()
+        .fold(1, |sum, byte| join(sum, u64::from(*byte)))
 }
 
 // A checksum of the first n waiting nodes' words.
@@ -192,11 +149,9 @@ fn checksum_waiting(w: &[u8], n: usize) -> u64
     requires { (length w.now ≡ row_length) × (n ≤ places) }
 {
     let mut sum = 1;
-    let mut i = 0;
-    while i < n {
+    for i in 0..n {
         let x = get(w, i);
         sum = join(join(join(join(sum, x.a), x.b), x.c), x.d);
-        i += 1;
     }
     sum
 }
@@ -223,15 +178,13 @@ fn rounds_asked(rt: &impl Env) -> u64 {
     let mut text = [0u8; 16];
     let n = argument(rt, 1, &mut text);
     let mut rounds = 0;
-    let mut i = 0;
-    while i < n {
-        if text[i] < b'0' {
+    for c in &text[..n] {
+        if *c < b'0' {
             return rounds;
         }
         if rounds < 1000000000000 {
-            rounds = 10 * rounds + wide(text[i] - b'0');
+            rounds = 10 * rounds + u64::from(*c - b'0');
         }
-        i += 1;
     }
     rounds
 }
@@ -242,12 +195,11 @@ fn main(rt: HostRuntime) {
     let mut tree = [0u8; TREE_LENGTH];
     let mut tags = [0u8; NODES];
     let mut from = [0u32; PATH_SLOTS];
-    let filled = fill(&mut w, &mut tree, &mut tags, &mut from);
-    if !filled.ok {
+    let Some(filled) = fill(&mut w, &mut tree, &mut tags, &mut from) else {
         io::write_all(STDOUT_FILENO, b"a round failed\n");
         return;
-    }
-    let ran = run(
+    };
+    let Some(ran) = run(
         rounds,
         &mut w,
         filled.waiting,
@@ -255,11 +207,10 @@ fn main(rt: HostRuntime) {
         &mut tags,
         filled.seed,
         &mut from,
-    );
-    if !ran.ok {
+    ) else {
         io::write_all(STDOUT_FILENO, b"a round failed\n");
         return;
-    }
+    };
     line(b"rounds", rounds);
     line(b"leaves", ran.leaves);
     line(b"waiting", ran.waiting as u64);

@@ -1,19 +1,18 @@
 // A store's state as lent bytes: its head, and the slots of its waiting places.
 #![tactic(auto)]
 
-ghost use Rattle.std.specs.Prelude.{◌≡◌, true, ◌++◌, ◌≤◌, length, drop};
-ghost use Rattle.lent_bytes_spec.specs.StateBytes.{head_length, head_in, head_bytes, next_key, root_in, ahead_in, key_fits};
-ghost use Rattle.byte_states.specs.Refusal.{bytes_refusal};
+ghost use Rattle.std.specs.Prelude.{◌≡◌, ◌++◌, ◌≤◌, length, drop, IfOk};
+ghost use Rattle.lent_bytes_spec.specs.StateBytes.{head_length, head_in, head_bytes, next_key, root_in};
+ghost use Rattle.call_spec.specs.Reply.{refusal_number};
+ghost use Rattle.byte_states.specs.Refusal.{bytes_refusal, core_head};
 
-use fitness::head_refusal;
+use call_spec::Refusal;
+use fitness::{Head, head_refusal};
 use lent_bytes_spec::StateHead;
 use slot_spec::{Ahead, Link};
 use slot_words::{put_word, word};
 
 pub mod waiting;
-
-// The greatest key.
-const LAST_KEY: u64 = 4294967295;
 
 // The head of a byte state, from its two words.
 pub fn read_head(state: &[u8]) -> StateHead
@@ -58,54 +57,44 @@ fn next_key(h: StateHead) -> u64
     if h.structure != 4 {
         return 0;
     }
-    h.key as u64 + h.entries as u64
+    u64::from(h.key) + u64::from(h.entries)
 }
 
 // The root link. An empty queue's root key is no part of it.
-pub fn root_of(h: StateHead) -> Link
+fn root_of(h: StateHead) -> Link
     ensures { result ≡ root_in h }
 {
-    let mut key = h.key;
-    if h.structure == 4 {
-        if h.entries == 0 {
-            key = 0;
-        }
-    }
+    let emptied = h.structure == 4 && h.entries == 0;
     Link {
         height: h.height,
-        key,
+        key: if emptied { 0 } else { h.key },
         tag: h.tag,
     }
 }
 
-// What is known ahead.
-pub fn ahead_of(h: StateHead) -> Ahead
-    requires { key_fits h ≡ true }
-    ensures { result ≡ ahead_in h }
-{
-    Ahead {
-        key: next_key(h) as u32,
-        tag: h.ahead,
-    }
-}
-
-// The number with which the head of a byte state is refused: 1 closed, 2 unfit, 0 neither.
-pub fn refusal(h: StateHead) -> u8
-    ensures { result ≡ bytes_refusal h }
+// The head as the core takes it, of a state that is open and whose head fits: the causes 1 and 2, but for the slots.
+#[tactic(auto, unfolding(crate::specs::Refusal::bytes_refusal, fitness::specs::Refusal::head_refusal))]
+pub fn head_of(h: StateHead) -> Result<Head, Refusal>
+    ensures number { refusal_number result ≡ bytes_refusal h }
+    ensures head { IfOk result (λ head. head ≡ core_head h) }
 {
     if h.mark != 0 {
-        return 1;
+        return Err(Refusal::Closed);
     }
-    if next_key(h) > LAST_KEY {
-        return 2;
-    }
-    head_refusal(
-        h.mark,
-        h.structure,
-        h.size,
-        h.entries,
-        h.waiting,
-        root_of(h),
-        ahead_of(h),
-    )
+    let Ok(next) = u32::try_from(next_key(h)) else {
+        return Err(Refusal::Unfit);
+    };
+    let head = Head {
+        structure: h.structure,
+        size: h.size,
+        entries: h.entries,
+        root: root_of(h),
+        ahead: Ahead {
+            key: next,
+            tag: h.ahead,
+        },
+        waiting: h.waiting,
+    };
+    head_refusal(h.mark, head)?;
+    Ok(head)
 }

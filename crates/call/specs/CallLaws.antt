@@ -1,11 +1,12 @@
 -- A call on a state: refused by it, or made by the core over its head and the row of its waiting nodes.
-use Rattle.std.specs.Prelude.{◌≡◌, refl, Bool, true, false, ◌⊎◌, List, ℕ}
+use Rattle.std.specs.Prelude.{◌≡◌, refl, Bool, true, false, ◌⊎◌, Result, Ok, Err, List, ℕ}
 use Rattle.std.proofs.Common.{sym, ◌∙◌, ap, inl, inr, arith}
 use Rattle.state_spec.specs.declared.State.{State}
 use Rattle.state_spec.specs.Fit.{fits, places_fit, head_fits}
 use Rattle.state_laws.specs.FitLaws.{fits-parts}
 use Rattle.call_spec.specs.declared.Called.{Called}
-use Rattle.call_spec.specs.declared.Reply.TheVariants.{Refused}
+use Rattle.call_spec.specs.declared.Refusal.{Refusal}
+use Rattle.call_spec.specs.Reply.{number_of, refusal_number}
 use Rattle.call_spec.specs.Store.{refusing, called, call_ended_as}
 use Rattle.stash.specs.Stash.{Loaded, saved}
 use Rattle.stash_laws.specs.Waiting.{waiting_in}
@@ -43,9 +44,9 @@ module _ (s : State) where
     stands unmarked e loaded = record { head = refl; not-closed = unmarked; fit = fit-by-places e; loaded = loaded }
 
   module _ (tree ticket tape trace : List ℕ) where
-    pub refuses : {r : Called} {n : ℕ} → r ≡ record { state = s; reply = Refused n; leaves = 0; peak = 0 } → called s tree ticket tape trace ≡ refusing n s tree trace
-        → call_ended_as r tree trace ≡ called s tree ticket tape trace
-    refuses e h = ap (λ (c : Called). call_ended_as c tree trace) e ∙ sym h
+    pub refuses : (n : Refusal) → called s tree ticket tape trace ≡ refusing (number_of n) s tree trace
+        → call_ended_as (record { state = s; reply = Err n; leaves = 0; peak = 0 }) tree trace ≡ called s tree ticket tape trace
+    refuses n h = sym h
 
     -- The head is refused, with its number.
     pub head-refused : (number ≡ 0 → ⊥) → called s tree ticket tape trace ≡ refusing number s tree trace
@@ -58,12 +59,13 @@ module _ (s : State) where
         go (inr (inr x)) = absurd (h x.1.1)
 
     module _ {row row' tree' trace' : List ℕ} (st : StandsFor s (head_of s) row) (r : Ran)
-        (made : CallsAs (head_of s) row tree ticket tape trace row' tree' trace' r) where
-      -- The core refused.
-      pub kept : r.ran ≡ false → call_ended_as (record { state = s; reply = r.reply; leaves = r.leaves; peak = r.peak }) tree' trace' ≡ called s tree ticket tape trace
-      kept e = rw e at (made.calls s st)
-
+        (made : CallsAs (head_of s) row tree ticket tape trace row' tree' trace' (Ok r)) where
       -- It made its rounds, and what it left is saved.
-      pub changed : {left : State} → r.ran ≡ true → left ≡ saved s.structure s.size r.mark r.entries r.root r.ahead (waiting_in r.waiting row')
+      pub changed : {left : State} → left ≡ saved s.structure s.size r.mark r.entries r.root r.ahead (waiting_in r.waiting row')
           → call_ended_as (record { state = left; reply = r.reply; leaves = r.leaves; peak = r.peak }) tree' trace' ≡ called s tree ticket tape trace
-      changed e saved-so = ap (λ (x : State). call_ended_as (record { state = x; reply = r.reply; leaves = r.leaves; peak = r.peak }) tree' trace') saved-so ∙ (rw e at (made.calls s st))
+      changed saved-so = ap (λ (x : State). call_ended_as (record { state = x; reply = r.reply; leaves = r.leaves; peak = r.peak }) tree' trace') saved-so ∙ made.calls s st
+
+    -- The core refused.
+    pub kept : {row row' tree' trace' : List ℕ} → StandsFor s (head_of s) row → (n : Refusal) → CallsAs (head_of s) row tree ticket tape trace row' tree' trace' (Err n)
+        → call_ended_as (record { state = s; reply = Err n; leaves = 0; peak = 0 }) tree' trace' ≡ called s tree ticket tape trace
+    kept st n made = made.calls s st

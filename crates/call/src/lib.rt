@@ -4,11 +4,10 @@
 ghost use Rattle.std.specs.Prelude.{◌≡◌};
 ghost use Rattle.call_spec.specs.Store.{called, call_ended_as};
 
-use call_core::{Head, call_row};
+use call_core::call_row;
 use call_draws::{rounds_of, spare_of};
-use call_spec::{Called, Reply};
-use fitness::head_refusal;
-use round_close::greater;
+use call_spec::{Called, Refusal};
+use fitness::{Head, head_refusal};
 use slot_row::ROW_LENGTH;
 use stash::places::{load_place, saved_place};
 use state_places::zero_place;
@@ -20,21 +19,18 @@ use state_spec::{PLACES, State};
 pub fn call(state: State, tree: &mut [u8], ticket: &[u8], tape: &[u16], trace: &mut [u16]) -> Called
     ensures { call_ended_as result tree.new trace.new ≡ called state tree.old ticket.now tape.now trace.old }
 {
-    let root = state.root;
-    let ahead = state.ahead;
-    let number = head_refusal(
-        state.mark,
-        state.structure,
-        state.size,
-        state.entries,
-        state.count,
-        root,
-        ahead,
-    );
-    if number != 0 {
+    let head = Head {
+        structure: state.structure,
+        size: state.size,
+        entries: state.entries,
+        root: state.root,
+        ahead: state.ahead,
+        waiting: state.count,
+    };
+    if let Err(refusal) = head_refusal(state.mark, head) {
         return Called {
             state,
-            reply: Reply::Refused(number),
+            reply: Err(refusal),
             leaves: 0,
             peak: 0,
         };
@@ -50,7 +46,7 @@ pub fn call(state: State, tree: &mut [u8], ticket: &[u8], tape: &[u16], trace: &
         if !load_place(&mut w, i, p, size, least) {
             return Called {
                 state,
-                reply: Reply::Refused(2),
+                reply: Err(Refusal::Unfit),
                 leaves: 0,
                 peak: 0,
             };
@@ -63,38 +59,29 @@ pub fn call(state: State, tree: &mut [u8], ticket: &[u8], tape: &[u16], trace: &
         if !zero_place(q) {
             return Called {
                 state,
-                reply: Reply::Refused(2),
+                reply: Err(Refusal::Unfit),
                 leaves: 0,
                 peak: 0,
             };
         }
         i += 1;
     }
-    let head = Head {
-        structure: state.structure,
-        size: state.size,
-        entries: state.entries,
-        root,
-        ahead,
-        waiting: state.count,
-    };
     let rounds = rounds_of(state.structure, state.size);
     let draws = 2 * rounds + spare_of(state.structure);
-    let r = call_row(head, &mut w, tree, ticket, tape, trace, rounds, draws);
-    let reply = r.reply;
-    if !r.ran {
-        return Called {
-            state,
-            reply,
-            leaves: r.leaves,
-            peak: r.peak,
-        };
-    }
+    let r = match call_row(head, &mut w, tree, ticket, tape, trace, rounds, draws) {
+        Ok(r) => r,
+        Err(refusal) => {
+            return Called {
+                state,
+                reply: Err(refusal),
+                leaves: 0,
+                peak: 0,
+            };
+        }
+    };
     // The state that is left. Past the nodes that wait now and those that waited before, its places are unused already.
-    let after = r.root;
-    let known = r.ahead;
     let m = r.waiting;
-    let end = greater(m, n);
+    let end = m.max(n);
     let mut left = state;
     let mut j = 0;
     while j < end {
@@ -103,12 +90,12 @@ pub fn call(state: State, tree: &mut [u8], ticket: &[u8], tape: &[u16], trace: &
     }
     left.mark = r.mark;
     left.entries = r.entries;
-    left.root = after;
-    left.ahead = known;
+    left.root = r.root;
+    left.ahead = r.ahead;
     left.count = m as u16;
     Called {
         state: left,
-        reply,
+        reply: r.reply,
         leaves: r.leaves,
         peak: r.peak,
     }

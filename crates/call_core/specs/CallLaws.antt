@@ -1,5 +1,5 @@
 -- The checks of a call, one by one.
-use Rattle.std.specs.Prelude.{◌≡◌, refl, true, false, List, [], ◌∷◌, map, ℕ, suc, ◌+◌, ◌*◌, ◌^◌, ◌≤◌, ◌<◌, length, drop, get_or}
+use Rattle.std.specs.Prelude.{◌≡◌, refl, true, false, Ok, Err, Some, None, List, [], ◌∷◌, map, ℕ, suc, ◌+◌, ◌*◌, ◌^◌, ◌≤◌, ◌<◌, length, drop, get_or}
 use Rattle.std.proofs.Common.{sym, ◌∙◌, subst, append-nil, add-zero, arith, pow_mono}
 use Rattle.std.proofs.Math.Path.{ap}
 use mathlib.Core.List.Memᴰ
@@ -30,7 +30,6 @@ use Rattle.state_spec.specs.Fetching.{rounds_of, spare_of}
 use Rattle.leaf_spec.specs.Convert.{to_link, to_ahead, to_node}
 use Rattle.operation_spec.specs.declared.Op.{Op}
 use Rattle.operation_spec.specs.Method.{to_op, structure_asked}
-use Rattle.tickets.specs.declared.Asked.TheVariants.{Call, Unknown}
 use Rattle.tickets.specs.Asked.{from_op, from_asked, asked}
 use Rattle.call_spec.specs.Store.{refusing, store_of, by_rounds, checks, first_met, decided, called}
 use Rattle.fitness_laws.specs.FitState.{FitState, fit-state}
@@ -40,13 +39,14 @@ use Rattle.fitness_laws.specs.Tickets.{op_fits, key_left}
 use Rattle.stash.specs.Stash.{Loaded}
 use Rattle.want_rounds.specs.declared.Job.{Job}
 use Rattle.want_rounds.specs.Wanting.{store_at}
-use Rattle.call_spec.specs.declared.Reply.TheVariants.{Refused}
-use Rattle.call_core.specs.declared.Head.{Head}
+use Rattle.call_spec.specs.declared.Refusal.{Refusal}
+use Rattle.call_spec.specs.Reply.{number_of}
+use Rattle.fitness.specs.declared.Head.{Head}
 use Rattle.call_ending.specs.declared.Ran.{Ran}
 use Rattle.call_ending.specs.Ending.{left_by, ending_call}
 use Rattle.short_outcomes.specs.OneFetch.{one_fetch}
-use Rattle.short_outcomes.specs.OneFetchLaws.{clash, round-one, more-rounds}
-use Rattle.call_core.specs.Run.{StandsFor, Stands, left_of, CallsAs, job_for, Runs, RanAs}
+use Rattle.short_outcomes.specs.OneFetchLaws.{round-one, more-rounds}
+use Rattle.call_core.specs.Run.{StandsFor, Stands, CallsAs, job_for, Runs, RanAs}
 
 -- Numbers each of which is below 256 are bytes.
 pub bytes_of : (l : List ℕ) → ((i : ℕ) → get_or l i 0 < 256) → Bytes l
@@ -55,7 +55,7 @@ bytes_of [] h = tt
 bytes_of (b ∷ bs) h = (h 0, bytes_of bs (λ i. h (suc i)))
 
 -- ---- what a ticket asks
-pub unknown-none : {s : Structure} (o : Option (method.Op s)) → from_asked o ≡ Unknown → o ≡ none
+pub unknown-none : {s : Structure} (o : Option (method.Op s)) → from_asked o ≡ None → o ≡ none
 unfolding from_asked
 unknown-none none e = refl
 unknown-none (some op) e = let z : ◌≡◌ {A = ℕ} 0 1 = cc in absurd (omega arith)
@@ -65,7 +65,7 @@ pub record AsksFor (s : Structure) (o : Option (method.Op s)) (op : Op) : Type 0
   pub is : o ≡ some asks
   pub same : from_op asks ≡ op
 
-pub asks-for : {s : Structure} (o : Option (method.Op s)) (op : Op) → from_asked o ≡ Call op → AsksFor s o op
+pub asks-for : {s : Structure} (o : Option (method.Op s)) (op : Op) → from_asked o ≡ Some op → AsksFor s o op
 unfolding from_asked
 asks-for none op e = let z : ◌≡◌ {A = ℕ} 0 1 = cc in absurd (omega arith)
 asks-for (some a) op e = let d : from_op a ≡ op = cc in record { asks = a; is = refl; same = d }
@@ -130,7 +130,7 @@ pub record Checked (s : State) (op : Op) (F : ℕ) (tree ticket tape trace : Lis
   pub fit : fits s ≡ true
   pub tree-sized : length tree ≡ tree_length s.size
   pub ticket-sized : length ticket ≡ ticket_length
-  pub asks : asked s.structure ticket ≡ Call op
+  pub asks : asked s.structure ticket ≡ Some op
   pub clean : stray_fields ticket ≡ false
   pub keys : out_of_keys (to_op op) s.ahead.key ≡ false
   pub rounds-are : F ≡ rounds (numbered s.structure) s.size
@@ -171,11 +171,11 @@ module _ (s : State) (tree ticket tape trace : List ℕ) where
           unfolding called checks first_met
           past = rw (eq-eqb s.mark 0 not-closed, fit, eq-eqb (length tree) (tree_length s.size) sized, eq-eqb (length ticket) ticket_length whole)
 
-          pub refused-5 : asked s.structure ticket ≡ Unknown → called s tree ticket tape trace ≡ refusing 5 s tree trace
+          pub refused-5 : asked s.structure ticket ≡ None → called s tree ticket tape trace ≡ refusing 5 s tree trace
           unfolding checks first_met decided
           refused-5 h = past ∙ rw (unknown-none (op_in st ticket) h)
 
-          module _ (op : Op) (asks : asked s.structure ticket ≡ Call op) where
+          module _ (op : Op) (asks : asked s.structure ticket ≡ Some op) where
             a : AsksFor st (op_in st ticket) op
             a = asks-for (op_in st ticket) op asks
 
@@ -283,14 +283,13 @@ module _ {s : State} {op : Op} {F : ℕ} {tree ticket tape trace : List ℕ} (ok
       }
 
   -- What the rounds and the step left.
-  pub then-left : (r : Ran) (row' : List ℕ) {tree' trace' : List ℕ} → r.ran ≡ true
+  pub then-left : (r : Ran) (row' : List ℕ) {tree' trace' : List ℕ}
       → left_by s.structure k r row' tree' trace' ≡ ending_call s.structure k trace F (to_op op) (draw_of k tape) (store_at job n row tree)
-      → left_of s r row' tree' trace' ≡ called s tree ticket tape trace
-  then-left r row' ran q =
-      rw ran
-      (q
+      → left_by s.structure k r row' tree' trace' ≡ called s tree ticket tape trace
+  then-left r row' q =
+      q
       ∙ ap (ending_call s.structure k trace F (to_op op) (draw_of k tape)) same_store
-      ∙ sym (goes_on s tree ticket tape trace ok.not-closed ok.fit ok.tree-sized ok.ticket-sized op ok.asks ok.clean ok.keys F ok.rounds-are ok.tape-long ok.trace-long))
+      ∙ sym (goes_on s tree ticket tape trace ok.not-closed ok.fit ok.tree-sized ok.ticket-sized op ok.asks ok.clean ok.keys F ok.rounds-are ok.tape-long ok.trace-long)
 
 -- ---- by the head that the core is given
 some-spare : (x : Structure) → 1 ≤ spare x
@@ -328,11 +327,11 @@ module _ {s : State} {h : Head} {row : List ℕ} (st : StandsFor s h row) where
       gives-4 = refused-4 s tree ticket tape trace st.not-closed st.fit tree_is
 
       module _ (whole : length ticket ≡ ticket_length) where
-        pub gives-5 : asked h.structure ticket ≡ Unknown → Gives 5
+        pub gives-5 : asked h.structure ticket ≡ None → Gives 5
         gives-5 e = refused-5 s tree ticket tape trace st.not-closed st.fit tree_is whole (rw st.head at e)
 
-        module _ (op : Op) (asks : asked h.structure ticket ≡ Call op) where
-          asks-is : asked s.structure ticket ≡ Call op
+        module _ (op : Op) (asks : asked h.structure ticket ≡ Some op) where
+          asks-is : asked s.structure ticket ≡ Some op
           asks-is = rw st.head at asks
 
           pub gives-19 : stray_fields ticket ≡ true → Gives 19
@@ -391,21 +390,18 @@ head-runs st ok = rw st.head (can-run ok st.loaded)
 pub head-left : {s : State} {h : Head} {row : List ℕ} (st : StandsFor s h row) {op : Op} {F : ℕ} {tree ticket tape trace : List ℕ}
     → Checked s op F tree ticket tape trace → (r : Ran) (row' : List ℕ) {tree' trace' : List ℕ}
     → RanAs (job_for h.structure h.size h.entries h.root h.ahead op F tape) h.waiting row tree tape trace row' tree' trace' r
-    → left_of s r row' tree' trace' ≡ called s tree ticket tape trace
-head-left st ok r row' ran = let q = rw st.head at ran in then-left ok st.loaded r row' q.ran q.ends
+    → left_by s.structure s.size r row' tree' trace' ≡ called s tree ticket tape trace
+head-left st ok r row' ran = let q = rw st.head at ran in then-left ok st.loaded r row' q.ends
 
 -- ---- what the core returns
 module _ {h : Head} {row tree ticket tape trace : List ℕ} (st : Stands h row) where
   -- It refuses.
-  pub core-refuses : (n : ℕ) {r : Ran}
-      → r ≡ record { ran = false; mark = 0; entries = h.entries; root = h.root; ahead = h.ahead; waiting = h.waiting; reply = Refused n; leaves = 0; peak = 0 }
-      → ((s : State) → StandsFor s h row → called s tree ticket tape trace ≡ refusing n s tree trace)
-      → CallsAs h row tree ticket tape trace row tree trace r
-  core-refuses n e gives = rw e (record { calls = λ s x. sym (gives s x); holds = rw st.for.head st.for.loaded.holds; kept = λ z. refl })
+  pub core-refuses : (n : Refusal) → ((s : State) → StandsFor s h row → called s tree ticket tape trace ≡ refusing (number_of n) s tree trace)
+      → CallsAs h row tree ticket tape trace row tree trace (Err n)
+  core-refuses n gives = record { calls = λ s x. sym (gives s x); waits = refl }
 
   -- It ran.
   pub core-ran : {op : Op} {F : ℕ} → ((s : State) → StandsFor s h row → Checked s op F tree ticket tape trace) → (r : Ran) (row' : List ℕ) {tree' trace' : List ℕ}
       → RanAs (job_for h.structure h.size h.entries h.root h.ahead op F tape) h.waiting row tree tape trace row' tree' trace' r
-      → CallsAs h row tree ticket tape trace row' tree' trace' r
-  core-ran ok r row' ran =
-      record { calls = λ s x. head-left x (ok s x) r row' ran; holds = ran.holds; kept = λ e. clash (sym e ∙ ran.ran) }
+      → CallsAs h row tree ticket tape trace row' tree' trace' (Ok r)
+  core-ran ok r row' ran = record { calls = λ s x. head-left x (ok s x) r row' ran; waits = ran.holds }

@@ -1,6 +1,5 @@
 -- What the code of a call returns and leaves, as the definition of a call says it.
-use Rattle.std.specs.Prelude.{◌≡◌, true, false, List, ℕ, ◌+◌}
-use Rattle.list_spec.specs.Choice.{pick}
+use Rattle.std.specs.Prelude.{◌≡◌, true, Result, Ok, Err, List, ℕ, ◌+◌}
 use Rattle.slot_spec.specs.declared.Link.{Link}
 use Rattle.slot_spec.specs.declared.Ahead.{Ahead}
 use Rattle.method_spec.specs.Call.{capacity}
@@ -10,12 +9,14 @@ use Rattle.operation_spec.specs.Method.{to_op}
 use Rattle.state_spec.specs.declared.State.{State}
 use Rattle.state_spec.specs.Fit.{fits}
 use Rattle.state_spec.specs.Fetching.{spare_of}
-use Rattle.call_spec.specs.Store.{Ended, called}
-use Rattle.stash.specs.Stash.{Loaded, saved}
-use Rattle.stash_laws.specs.Waiting.{waiting_in, Holds}
+use Rattle.call_spec.specs.declared.Refusal.{Refusal}
+use Rattle.call_spec.specs.Reply.{number_of}
+use Rattle.call_spec.specs.Store.{Ended, refusing, called}
+use Rattle.stash.specs.Stash.{Loaded}
+use Rattle.stash_laws.specs.Waiting.{Holds}
 use Rattle.want_rounds.specs.declared.Job.{Job}
 use Rattle.want_rounds.specs.Wanting.{store_at, Begins, LongEnough}
-use Rattle.call_core.specs.declared.Head.{Head}
+use Rattle.fitness.specs.declared.Head.{Head}
 use Rattle.call_ending.specs.declared.Ran.{Ran}
 use Rattle.call_ending.specs.Ending.{left_by, ending_call}
 
@@ -37,24 +38,20 @@ pub record Stands (h : Head) (row : List ℕ) : Type 0 where
   pub state : State
   pub for : StandsFor state h row
 
--- What the core leaves of a state: the state itself, where it refused, else one with what waits then.
-abbrev pub left_of : State → Ran → (row tree trace : List ℕ) → Ended
-left_of s r row tree trace =
-    record {
-      state = pick r.ran (saved s.structure s.size r.mark r.entries r.root r.ahead (waiting_in r.waiting row)) s;
-      reply = r.reply;
-      leaves = r.leaves;
-      peak = r.peak;
-      tree = tree;
-      trace = trace;
-    }
+-- What the core leaves of a state: all as it came, where it refused, else a state with what waits then.
+abbrev pub left_of : State → Result Ran Refusal → (row tree trace : List ℕ) → Ended
+left_of s (Err n) row tree trace = refusing (number_of n) s tree trace
+left_of s (Ok r) row tree trace = left_by s.structure s.size r row tree trace
 
--- The core's promise: for every state that the head and the row stand for it is the call; what waits then is in the row; and where it refuses
--- the row is as it was.
-pub record CallsAs (h : Head) (row tree ticket tape trace row' tree' trace' : List ℕ) (r : Ran) : Type 0 where
+-- Where it refused the row is as it was; else what waits then is in it.
+abbrev pub row_left : Result Ran Refusal → (row row' : List ℕ) → Type 0
+row_left (Err n) row row' = row' ≡ row
+row_left (Ok r) row row' = Holds r.waiting row'
+
+-- The core's promise: for every state that the head and the row stand for it is the call.
+pub record CallsAs (h : Head) (row tree ticket tape trace row' tree' trace' : List ℕ) (r : Result Ran Refusal) : Type 0 where
   pub calls : (s : State) → StandsFor s h row → left_of s r row' tree' trace' ≡ called s tree ticket tape trace
-  pub holds : Holds r.waiting row'
-  pub kept : r.ran ≡ false → row' ≡ row
+  pub waits : row_left r row row'
 
 -- ---- its parts
 
@@ -80,7 +77,6 @@ pub record Runs (j : Job) (n : ℕ) (row tree tape trace : List ℕ) : Type 0 wh
 
 -- What they leave is what the definition of a call leaves.
 pub record RanAs (j : Job) (n : ℕ) (row tree tape trace row' tree' trace' : List ℕ) (r : Ran) : Type 0 where
-  pub ran : r.ran ≡ true
   pub holds : Holds r.waiting row'
   pub ends : left_by j.structure j.size r row' tree' trace'
       ≡ ending_call j.structure j.size trace j.rounds (to_op j.op) (draw_of j.size tape) (store_at j n row tree)

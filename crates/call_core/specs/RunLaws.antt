@@ -1,6 +1,7 @@
 -- The rounds and the step of a call, together: what the code leaves is what the definition leaves.
-use Rattle.std.specs.Prelude.{◌≡◌, List, [], take}
-use Rattle.std.proofs.Common.{sym, ◌∙◌}
+use Rattle.std.specs.Prelude.{◌≡◌, refl, Option, Some, None, List, [], take}
+use Rattle.std.proofs.Common.{sym, ◌∙◌, inl, inr}
+use Rattle.std.proofs.Math.Decide.{ℕ_discrete}
 use Rattle.std.proofs.Math.Path.{ap, ap₂}
 use Prim.Native.Nat.{ℕ, max, ◌+◌, ◌-◌, ◌^◌, ◌≤◌, ◌<◌}
 use native.Mathlib.Omega.{arith}
@@ -28,7 +29,12 @@ use Rattle.operation_spec.specs.declared.Op.{Op}
 use Rattle.operation_spec.specs.Method.{to_op, outcome_in}
 use Rattle.node_rows.specs.Held.{Held, nodes_of}
 use Rattle.node_rows.specs.Heights.{Lows}
+use Rattle.call_spec.specs.declared.Refusal.{Refusal}
+use Rattle.call_spec.specs.declared.Refusal.TheVariants.{Closed, Unfit, TreeLength, TicketLength, UnknownKind, ShortTape, ShortTrace, Damage, Overflow, Full, NoKeyLeft, StrayField}
+use Rattle.call_spec.specs.Reply.{number_of}
 use Rattle.call_spec.specs.Store.{Ended}
+use Rattle.replies.specs.Answered.{mark_of}
+use Rattle.round_close.specs.Fault.{mark_of as fault_mark}
 use Rattle.stash_laws.specs.WaitingLaws.{waiting-length}
 use Rattle.one_round.specs.OneRound.{going}
 use Rattle.want_rounds.specs.declared.Job.{Job}
@@ -46,6 +52,30 @@ use Rattle.call_ending.specs.EndingLaws.{joined_length, numbers-first}
 ending-on : (structure size : ℕ) (trace trace' : List ℕ) (l : CallLeft) (peak : ℕ) → drop (length l.leaves) trace' ≡ drop (length l.leaves) trace
     → ending_with structure size trace' l peak ≡ ending_with structure size trace l peak
 ending-on structure size trace trace' l peak e = rw e
+
+-- ---- the cause for which a round closed the store
+pub number-some : (r : Refusal) → number_of r ≡ 0 → ⊥
+number-some Closed e = omega (arith, e)
+number-some Unfit e = omega (arith, e)
+number-some TreeLength e = omega (arith, e)
+number-some TicketLength e = omega (arith, e)
+number-some UnknownKind e = omega (arith, e)
+number-some ShortTape e = omega (arith, e)
+number-some ShortTrace e = omega (arith, e)
+number-some Damage e = omega (arith, e)
+number-some Overflow e = omega (arith, e)
+number-some Full e = omega (arith, e)
+number-some NoKeyLeft e = omega (arith, e)
+number-some StrayField e = omega (arith, e)
+
+pub marked : {found : Option Refusal} {cause : Refusal} {mark : ℕ} → found ≡ Some cause → mark_of found ≡ mark → (mark ≡ 0 → ⊥) × (number_of cause ≡ mark)
+marked {cause = cause} is e =
+    let met : number_of cause ≡ _ = sym (ap mark_of is) ∙ e in
+    (λ z. number-some cause (met ∙ z), met)
+
+pub went_on : {found : Option Refusal} {mark : ℕ} → ((cause : Refusal) → found ≡ Some cause → ⊥) → mark_of found ≡ mark → mark ≡ 0
+went_on {found = None} none e = sym e
+went_on {found = Some cause} none e = absurd (none cause refl)
 
 -- The job, by its parts.
 pub same-job : (structure size entries : ℕ) (root : Link) (ahead : Ahead) (op : Op) (F : ℕ) (tape : List ℕ) {limit first second puts : ℕ}
@@ -124,12 +154,12 @@ module _ {j : Job} {n : ℕ} {row tree tape trace : List ℕ} (ok : Runs j n row
     run-few = omega (arith, came.counted, came.upto, at_most j draw is_leaf begins)
 
     -- ---- a fetch round closed the store
-    module _ (marked : f.mark ≡ 0 → ⊥) where
-      closed-by : fetched_by k F op draw store ≡ shut f.mark mid
-      closed-by = all-fetched ∙ came.outcome ∙ stops-here f.mark mid (after (program_of j) ns) marked
+    module _ (marked : fault_mark f.fault ≡ 0 → ⊥) where
+      closed-by : fetched_by k F op draw store ≡ shut (fault_mark f.fault) mid
+      closed-by = all-fetched ∙ came.outcome ∙ stops-here (fault_mark f.fault) mid (after (program_of j) ns) marked
 
-      left_is : bucket_call k F op draw store ≡ closing f.mark j.entries (to_link j.root) (to_ahead j.spares.ahead) mid
-      left_is = left-shut k F op draw store f.mark mid closed-by
+      left_is : bucket_call k F op draw store ≡ closing (fault_mark f.fault) j.entries (to_link j.root) (to_ahead j.spares.ahead) mid
+      left_is = left-shut k F op draw store (fault_mark f.fault) mid closed-by
 
       peak-shut : call_peak k F op draw store ≡ f.peak
       unfolding puts_after
@@ -140,7 +170,7 @@ module _ {j : Job} {n : ℕ} {row tree tape trace : List ℕ} (ok : Runs j n row
       pub run-shuts : Shuts f row'
       unfolding closing
       run-shuts =
-          let keeps = (fetch-closing k begins.some_size small op begins.op_fits draw is_leaf store begins.fit begins.key_left f.mark mid (rw (← begins.rounds-are) closed-by)).2 in
+          let keeps = (fetch-closing k begins.some_size small op begins.op_fits draw is_leaf store begins.fit begins.key_left (fault_mark f.fault) mid (rw (← begins.rounds-are) closed-by)).2 in
           let room : length (join leaf_format (fetch.moved_nodes hs) mid.waiting) ≤ places_for k = rw (← begins.rounds-are, left_is, closing) at keeps.room in
           let a = joined_length (fetch.moved_nodes hs) mid.waiting in
           let b = length-map hs (λ (h : fetch.Held). fetch.moved_node hs h.node) in
@@ -149,24 +179,24 @@ module _ {j : Job} {n : ℕ} {row tree tape trace : List ℕ} (ok : Runs j n row
             room = omega (arith, room, a, b, waiting-length came.rests.holds, begins.small, came.counted);
           }
 
-      pub run-ends-shut : {r : Ran} {row'' : List ℕ} → ShutAs j f hs row' row'' r → RanAs j n row tree tape trace row'' tree' trace' r
+      pub run-ends-shut : {cause : Refusal} → number_of cause ≡ fault_mark f.fault → {r : Ran} {row'' : List ℕ} → ShutAs j f cause hs row' row'' r → RanAs j n row tree tape trace row'' tree' trace' r
       unfolding closing
-      run-ends-shut e =
+      run-ends-shut {cause} met {r} e =
           let fits : f.leaves ≤ length trace' = omega (arith, came.no_more, came.trace-sized, long) in
-          let l = closing f.mark j.entries (to_link j.root) (to_ahead j.spares.ahead) mid in
+          let l = closing (fault_mark f.fault) j.entries (to_link j.root) (to_ahead j.spares.ahead) mid in
           let rest : drop (length (take f.leaves trace')) trace' ≡ drop (length (take f.leaves trace')) trace =
           rw (numbers-first f.leaves trace' fits) came.untouched in
           record {
-            ran = e.ran;
             holds = e.holds;
             ends =
                 e.ends tree' trace' fits
+                ∙ ap (λ (m : ℕ). ending_with j.structure k trace' (closing m j.entries (to_link j.root) (to_ahead j.spares.ahead) mid) f.peak) met
                 ∙ ending-on j.structure k trace trace' l f.peak rest
                 ∙ ap₂ (ending_with j.structure k trace) (sym left_is) (sym peak-shut);
           }
 
     -- ---- all fetch rounds went on
-    module _ (went : f.mark ≡ 0) where
+    module _ (went : fault_mark f.fault ≡ 0) where
       over : Done (after (program_of j) ns)
       over = is-done (after (program_of j) ns) (came.finished went)
 
@@ -178,7 +208,7 @@ module _ {j : Job} {n : ℕ} {row tree tape trace : List ℕ} (ok : Runs j n row
 
       fetched-all : fetched_by k F op draw store ≡ on mid (done O)
       fetched-all =
-          all-fetched ∙ came.outcome ∙ goes_on_lem f.mark mid (after (program_of j) ns) went
+          all-fetched ∙ came.outcome ∙ goes_on_lem (fault_mark f.fault) mid (after (program_of j) ns) went
           ∙ ap (on mid) (over.is ∙ ap done made)
 
       pub run-finishes : Finishes j f (nodes_held hs) row' tree'
@@ -220,7 +250,6 @@ module _ {j : Job} {n : ℕ} {row tree tape trace : List ℕ} (ok : Runs j n row
           let at-fetched : drop F trace' ≡ drop F trace = rw (← came.all_shown went) came.untouched in
           let all : length l.leaves ≡ F + (length l.leaves - F) = omega (arith, e.enough) in
           record {
-            ran = e.ran;
             holds = e.holds;
             ends =
                 e.ends

@@ -19,10 +19,12 @@ use Rattle.bucket_call_spec.specs.Peak.{rounds_from, peak_of, call_peak}
 use Rattle.operation_spec.specs.Method.{to_op, to_step_answer, ahead_for, outcome_in}
 use Rattle.node_rows.specs.Row.{words as rowWords, fetches}
 use Rattle.word_round_laws.specs.SlotRow.{places}
+use Rattle.call_spec.specs.declared.Refusal.{Refusal}
+use Rattle.call_spec.specs.Reply.{number_of, to_reply}
 use Rattle.call_spec.specs.Store.{Ended, replied}
 use Rattle.stash.specs.Stash.{saved}
 use Rattle.stash_laws.specs.Waiting.{waiting_in, Holds}
-use Rattle.one_round.specs.OneRound.{going, Lent}
+use Rattle.one_round.specs.OneRound.{going}
 use Rattle.idle_rounds.specs.declared.idle.Idle.{Idle}
 use Rattle.put_rounds.specs.Put.{Stepped, Puts}
 use Rattle.want_rounds.specs.declared.Job.{Job}
@@ -38,7 +40,7 @@ abbrev pub left_by : (structure size : ℕ) → Ran → (row tree trace : List �
 left_by structure size r row tree trace =
     record {
       state = saved structure size r.mark r.entries r.root r.ahead (waiting_in r.waiting row);
-      reply = r.reply;
+      reply = to_reply r.reply;
       leaves = r.leaves;
       peak = r.peak;
       tree = tree;
@@ -75,13 +77,12 @@ pub record Shuts (f : Fetched) (row : List ℕ) : Type 0 where
 abbrev pub HeldRows : Fetched → (held froms : List ℕ) → Type 0
 HeldRows f held froms = (f.count ≤ fetches) × ((length held ≡ rowWords) × (length froms ≡ fetches))
 
--- The store is closed with the mark of the fetch rounds and with what was known ahead, whatever the tree and the trace are then.
-pub record ShutAs (j : Job) (f : Fetched) (hs : List fetch.Held) (row row' : List ℕ) (r : Ran) : Type 0 where
-  pub ran : r.ran ≡ true
+-- The store is closed for that cause, with its number as the mark and with what was known ahead, whatever the tree and the trace are then.
+pub record ShutAs (j : Job) (f : Fetched) (cause : Refusal) (hs : List fetch.Held) (row row' : List ℕ) (r : Ran) : Type 0 where
   pub holds : Holds r.waiting row'
   pub ends : (tree trace : List ℕ) → f.leaves ≤ length trace
       → left_by j.structure j.size r row' tree trace
-      ≡ ending_with j.structure j.size trace (closing f.mark j.entries (to_link j.root) (to_ahead j.spares.ahead) (going_by hs f row tree trace)) f.peak
+      ≡ ending_with j.structure j.size trace (closing (number_of cause) j.entries (to_link j.root) (to_ahead j.spares.ahead) (going_by hs f row tree trace)) f.peak
 
 -- ---- all fetch rounds went on
 -- The step's outcome with these nodes, and the store after it.
@@ -106,15 +107,12 @@ finished_by j draw o g = after_puts (ahead_of j) o (put_rounds j.size draw j.rou
 abbrev pub listed_puts : Job → (ℕ → ℕ) → Outcome ℕ → Going → List (Round (Outcome ℕ))
 listed_puts j draw o g = rounds_from (structure_in j) j.entries j.size draw j.rounds j.puts (done o) g
 
--- What the put rounds of a call need, and what they are lent.
+-- What the put rounds of a call need.
 pub record CanPut (j : Job) (m : ℕ) (row tree : List ℕ) : Type 0 where
   pub some-rounds : 1 ≤ j.rounds
   pub few-rounds : j.rounds ≤ 33
   pub key_left : KeyLeft (to_op j.op) j.spares.ahead.key
   pub after-step : Stepped j.size m row tree
-
-abbrev pub PutLent : Job → (keys tape trace from : List ℕ) → Type 0
-PutLent j keys tape trace from = Lent keys 0 from × LongEnough j tape trace
 
 -- What the step and the put rounds need: the nodes that wait then are proper and have room.
 pub record Finishes (j : Job) (f : Fetched) (ns : List (Node ℕ)) (row tree : List ℕ) : Type 0 where
@@ -131,7 +129,6 @@ pub record Finishes (j : Job) (f : Fetched) (ns : List (Node ℕ)) (row tree : L
 
 -- The call is finished so from a store after the step, where the fetch rounds had that peak; at least their leaves are revealed.
 pub record FinishedAs (j : Job) (draw : ℕ → ℕ) (peak : ℕ) (o : Outcome ℕ) (g : Going) (trace row' tree' trace' : List ℕ) (r : Ran) : Type 0 where
-  pub ran : r.ran ≡ true
   pub holds : Holds r.waiting row'
   pub enough : j.rounds ≤ r.leaves
   pub ends : left_by j.structure j.size r row' tree' trace'

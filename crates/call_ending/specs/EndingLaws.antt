@@ -1,37 +1,38 @@
 -- What a call leaves after its fetch rounds.
-use Rattle.std.specs.Prelude.{◌≡◌, true, List, [], ◌++◌, ℕ, max, ◌+◌, ◌*◌, ◌≤◌, length, take, drop}
-use Rattle.std.specs.Prelude as code
+use Rattle.std.specs.Prelude.{◌≡◌, ◌⊎◌, Bool, true, false, Result, Ok, Err, List, [], ◌++◌, ℕ, zero, suc, max, ◌+◌, ◌*◌, ◌≤◌, length, take, drop}
 use Rattle.std.proofs.Math.Path.{refl, ap}
-use Rattle.std.proofs.Common.{sym, ◌∙◌, ap₂, arith, eq-eqb, ne_eqb, length-take, length-append, take-append-drop}
-use Rattle.std.proofs.Math.Option.{none}
+use Rattle.std.proofs.Common.{sym, ◌∙◌, ap₂, inl, inr, arith, eq-eqb, ne_eqb, length-take, length-append, take-append-drop}
+use Rattle.std.proofs.Math.Option.{Option, none, some}
+use Rattle.list_spec.specs.Choice.{pick}
 use Rattle.std.proofs.Math.Decide.{ℕ_discrete}
 use Rattle.std.proofs.lemmas.List.Edits.{sets-eq}
 use Rattle.list_laws.specs.PermLaws.{perm-length}
 use Rattle.method_spec.specs.Node.{Link, Ahead, Node}
-use Rattle.method_spec.specs.Prog.{done, root}
+use Rattle.method_spec.specs.Prog.{Prog, done, root}
 use Rattle.method_spec.specs.Outcome.{Outcome}
 use Rattle.method_spec.specs.Call.{draws_from}
 use Rattle.run_laws.specs.Calls.{draws-length}
-use Rattle.round_spec.specs.Round.{join}
+use Rattle.round_spec.specs.Round.{Hand, join, read_half}
 use Rattle.round_laws.specs.Lists.{join-perm}
 use Rattle.leaf_spec.specs.Convert.{from_link, to_link, from_ahead, to_ahead}
 use Rattle.leaf_spec.specs.Leaf.{leaf_format}
 use Rattle.bucket_call_spec.specs.Fetch as fetch
-use Rattle.bucket_call_spec.specs.Fetch.{Going, closing}
-use Rattle.bucket_call_spec.specs.Call.{after_puts}
+use Rattle.bucket_call_spec.specs.Fetch.{Going, Round, on, shut, closing, revealing, written, too_many, held_keys, at_close, idle_round}
+use Rattle.bucket_call_spec.specs.Call.{after_puts, put_rounds}
 use Rattle.bucket_call_spec.specs.Peak.{peak_of}
 use Rattle.slot_spec.specs.declared.Link as link
 use Rattle.slot_spec.specs.declared.Ahead as ahead
 use Rattle.state_spec.specs.declared.State.{State}
 use Rattle.operation_spec.specs.Method.{to_step_answer}
-use Rattle.call_spec.specs.declared.Reply.{Reply}
-use Rattle.call_spec.specs.declared.Reply.TheVariants.{Refused}
+use Rattle.operation_spec.specs.declared.Answer as told
+use Rattle.call_spec.specs.declared.Refusal.{Refusal}
+use Rattle.call_spec.specs.Reply.{Reply, Refused, number_of, to_reply}
 use Rattle.call_spec.specs.Store.{Ended, replied, reply_of}
 use Rattle.stash.specs.Stash.{saved}
 use Rattle.stash_laws.specs.Waiting.{waiting_in, Holds}
 use Rattle.stash_laws.specs.WaitingLaws.{waiting-length}
 use Rattle.one_round.specs.TwiceLaws.{join-twice}
-use Rattle.one_round.specs.OneRound.{going}
+use Rattle.one_round.specs.OneRound.{going, ended_with}
 use Rattle.idle_rounds.specs.declared.idle.Idle.{Idle}
 use Rattle.want_rounds.specs.declared.Job.{Job}
 use Rattle.want_rounds.specs.declared.Fetched.{Fetched}
@@ -40,7 +41,7 @@ use Rattle.idle_rounds.specs.IdleLaws.{goes_on_lem, stops-here}
 use Rattle.call_ending.specs.declared.Ran.{Ran}
 use Rattle.call_ending.specs.Ending.{left_by, ending_with, outcome_of, outcome_with, stepped_by, ahead_of, ShutAs, CanPut, Finishes, finished_by, listed_puts, FinishedAs}
 use Rattle.replies.specs.Answered.{answered}
-use Rattle.operation_spec.specs.declared.Answer as answer
+use Rattle.round_close.specs.Fault.{mark_of}
 use Rattle.operation_spec.specs.declared.Full.{Full}
 
 -- ---- parts alike
@@ -65,15 +66,14 @@ numbers-first n trace h = length-take n trace ∙ omega arith
 
 -- ---- a fetch round closed the store
 -- The held nodes, with their tags moved, joined those waiting, and the root link's tag was moved.
-pub shut-ends : (j : Job) (f : Fetched) (hs : List fetch.Held) {row row' : List ℕ} {l : link.Link} {m : ℕ} → to_link l ≡ fetch.moved_link hs root (to_link j.root) → Holds m row'
+pub shut-ends : (j : Job) (f : Fetched) (cause : Refusal) (hs : List fetch.Held) {row row' : List ℕ} {l : link.Link} {m : ℕ} → to_link l ≡ fetch.moved_link hs root (to_link j.root) → Holds m row'
     → waiting_in m row' ≡ join leaf_format (fetch.moved_nodes hs) (waiting_in f.waiting row) → {r : Ran}
-    → r ≡ record { ran = true; mark = f.mark; entries = j.entries; root = l; ahead = j.spares.ahead; waiting = m; reply = Refused f.mark; leaves = f.leaves; peak = f.peak }
-    → ShutAs j f hs row row' r
+    → r ≡ record { mark = number_of cause; entries = j.entries; root = l; ahead = j.spares.ahead; waiting = m; reply = Err cause; leaves = f.leaves; peak = f.peak }
+    → ShutAs j f cause hs row row' r
 unfolding closing replied
-shut-ends j f hs moved holds joined e =
+shut-ends j f cause hs moved holds joined e =
     rw e
     (record {
-      ran = refl;
       holds = holds;
       ends = λ tree trace h.
           ended_same (saved-same {a = j.spares.ahead} refl refl (ap from_link moved) refl joined) refl (sym (numbers-first f.leaves trace h)) refl refl (first-and-rest f.leaves trace h);
@@ -91,7 +91,7 @@ unfolding closing join fetch.moved_link
 closing-none mark entries l a n row tree leaves = refl
 
 -- The put rounds, of the m nodes that wait after a step that came to such an outcome.
-module _ (j : Job) (draw : ℕ → ℕ) (l : link.Link) (entries : ℕ) (answer : code.Result answer.Answer Full) (ns : List (Node ℕ)) (m : ℕ) {row tree : List ℕ} (trace : List ℕ)
+module _ (j : Job) (draw : ℕ → ℕ) (l : link.Link) (entries : ℕ) (answer : Result told.Answer Full) (ns : List (Node ℕ)) (m : ℕ) {row tree : List ℕ} (trace : List ℕ)
     (long : 2 * j.rounds ≤ length trace) (a : ahead.Ahead) (known : to_ahead a ≡ ahead_of j)
     {row' tree' trace' : List ℕ} {r : Idle} (puts : Puts j.size m draw j.rounds j.puts row tree trace row' tree' trace' r) where
   abbrev O : Outcome ℕ
@@ -122,8 +122,8 @@ module _ (j : Job) (draw : ℕ → ℕ) (l : link.Link) (entries : ℕ) (answer 
       ∙ sets-eq draws trace j.rounds (omega (arith, many, puts.no_more))
       ∙ ap (λ (d : ℕ). leaves' ++ drop d trace) (ap (λ (n : ℕ). j.rounds + n) many ∙ sym leaves-many)
 
-  kept-as : {mark : ℕ} → mark ≡ r.mark
-      → saved j.structure j.size r.mark entries l a (waiting_in r.waiting row')
+  kept-as : {mark : ℕ} → mark ≡ mark_of r.fault
+      → saved j.structure j.size (mark_of r.fault) entries l a (waiting_in r.waiting row')
       ≡ saved j.structure j.size mark entries l (from_ahead (ahead_of j)) (waiting_in r.waiting row')
   kept-as e = saved-same {ws = waiting_in r.waiting row'} (sym e) refl refl (ap from_ahead known) refl
 
@@ -134,36 +134,36 @@ module _ (j : Job) (draw : ℕ → ℕ) (l : link.Link) (entries : ℕ) (answer 
     same-peak : peak' ≡ most
     same-peak = raised ∙ ap (max peak) (sym (puts.peaked _ j.entries (take j.rounds trace) O))
 
-    abbrev ran : Reply → Ran
-    ran p = record { ran = true; mark = r.mark; entries = entries; root = l; ahead = a; waiting = r.waiting; reply = p; leaves = j.rounds + r.shown; peak = peak' }
+    abbrev ran : Result told.Answer Refusal → Ran
+    ran p = record { mark = mark_of r.fault; entries = entries; root = l; ahead = a; waiting = r.waiting; reply = p; leaves = j.rounds + r.shown; peak = peak' }
 
-    abbrev EndsAs : Reply → Type 0
+    abbrev EndsAs : Result told.Answer Refusal → Type 0
     EndsAs p = left_by j.structure j.size (ran p) row' tree' trace' ≡ ending_with j.structure j.size trace (finished_by j draw O g) most
 
     -- A put round closed the store.
-    put-shuts : {p : Reply} → (r.mark ≡ 0 → ⊥) → p ≡ Refused r.mark → EndsAs p
+    put-shuts : (p : Result told.Answer Refusal) → (mark_of r.fault ≡ 0 → ⊥) → to_reply p ≡ Refused (mark_of r.fault) → EndsAs p
     unfolding after_puts replied
-    put-shuts marked q =
+    put-shuts p marked q =
         ended_same (kept-as refl) q (sym leaves-many) same-peak refl trace-is
         ∙ ap (λ (x : fetch.CallLeft). ending_with j.structure j.size trace x most)
         (sym
-        (ap (after_puts (ahead_of j) O) (puts.rounds (take j.rounds trace) O ∙ stops-here r.mark end (done O) marked)
-        ∙ closing-none r.mark entries (to_link l) (ahead_of j) r.waiting row' tree' leaves'))
+        (ap (after_puts (ahead_of j) O) (puts.rounds (take j.rounds trace) O ∙ stops-here (mark_of r.fault) end (done O) marked)
+        ∙ closing-none (mark_of r.fault) entries (to_link l) (ahead_of j) r.waiting row' tree' leaves'))
 
     -- They all went on.
-    put-answers : {p : Reply} → r.mark ≡ 0 → p ≡ reply_of (to_step_answer answer) → EndsAs p
+    put-answers : (p : Result told.Answer Refusal) → mark_of r.fault ≡ 0 → to_reply p ≡ reply_of (to_step_answer answer) → EndsAs p
     unfolding after_puts replied
-    put-answers went q =
+    put-answers p went q =
         ended_same (kept-as (sym went)) q (sym leaves-many) same-peak refl trace-is
-        ∙ ap (λ (x : fetch.CallLeft). ending_with j.structure j.size trace x most) (sym (ap (after_puts (ahead_of j) O) (puts.rounds (take j.rounds trace) O ∙ goes_on_lem r.mark end (done O) went)))
+        ∙ ap (λ (x : fetch.CallLeft). ending_with j.structure j.size trace x most) (sym (ap (after_puts (ahead_of j) O) (puts.rounds (take j.rounds trace) O ∙ goes_on_lem (mark_of r.fault) end (done O) went)))
 
-    pub put-ends : {p : Reply} → p ≡ answered r.mark (to_step_answer answer)
+    pub put-ends : (p : Result told.Answer Refusal) → to_reply p ≡ answered (mark_of r.fault) (to_step_answer answer)
         → FinishedAs j draw peak (outcome_with l entries answer ns) (going m row tree [] (take j.rounds trace)) trace row' tree' trace' (ran p)
-    put-ends {p} q = record { ran = refl; holds = puts.holds; enough = omega arith; ends = go (ℕ_discrete r.mark 0) }
+    put-ends p q = record { holds = puts.holds; enough = omega arith; ends = go (ℕ_discrete (mark_of r.fault) 0) }
       where
-        go : Dec (r.mark ≡ 0) → EndsAs p
-        go (yes e) = put-answers e (q ∙ rw (eq-eqb r.mark 0 e))
-        go (no d) = put-shuts d (q ∙ rw (ne_eqb r.mark 0 d))
+        go : Dec (mark_of r.fault ≡ 0) → EndsAs p
+        go (yes e) = put-answers p e (q ∙ rw (eq-eqb (mark_of r.fault) 0 e))
+        go (no d) = put-shuts p d (q ∙ rw (ne_eqb (mark_of r.fault) 0 d))
 
 -- The nodes of the step, which came to that outcome, joined those waiting.
 module _ (j : Job) (f : Fetched) (ns : List (Node ℕ)) {row tree : List ℕ} (b : Finishes j f ns row tree) {row' : List ℕ} {m : ℕ} (holds : Holds m row')

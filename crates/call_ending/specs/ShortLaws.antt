@@ -1,5 +1,5 @@
 -- The end of a call whose one node is held by value.
-use Rattle.std.specs.Prelude.{◌≡◌, true, false, ℕ, ◌+◌, ◌<◌, length, take, drop, Option, Some, None, option_to_list}
+use Rattle.std.specs.Prelude.{◌≡◌, Err, true, false, ℕ, ◌+◌, ◌<◌, length, take, drop, Option, Some, None, option_to_list}
 use Rattle.std.proofs.Math.Path.{refl}
 use Rattle.std.proofs.Common.{sym, ◌∙◌, ap, arith, eq-eqb, ne_eqb}
 use mathlib.Core.List.{List, [], ◌∷◌, map}
@@ -18,7 +18,8 @@ use Rattle.word_round_laws.specs.SlotRow.{places, row_length, slots_in}
 use Rattle.stash_laws.specs.Waiting.{words_for, InWidths, waiting_in, Holds}
 use Rattle.stash.specs.Stash.{NodesJoined}
 use Rattle.stash.specs.StashLaws.{joined-none, joined-more}
-use Rattle.call_spec.specs.declared.Reply.TheVariants.{Refused}
+use Rattle.call_spec.specs.declared.Refusal.{Refusal}
+use Rattle.call_spec.specs.Reply.{number_of}
 use Rattle.short_outcomes.specs.declared.OneMade.{OneMade}
 use Rattle.short_outcomes.specs.OneFetch.{to_one_outcome}
 use Rattle.short_outcomes.specs.OneFetchLaws.{done-stays}
@@ -55,40 +56,38 @@ module _ (r : FetchedOne) where
   one-held d = rw (ne_eqb r.fetched.count 0 d)
 
   -- ---- the fetch round closed the store
-  module _ (j : Job) {row : List ℕ} where
+  module _ (j : Job) (cause : Refusal) {row : List ℕ} where
     pub shut_none : r.fetched.count ≡ 0 → Holds r.fetched.waiting row → {x : Ran}
         → x
         ≡ record {
-          ran = true;
-          mark = r.fetched.mark;
+          mark = number_of cause;
           entries = j.entries;
           root = j.root;
           ahead = j.spares.ahead;
           waiting = r.fetched.waiting;
-          reply = Refused r.fetched.mark;
+          reply = Err cause;
           leaves = r.fetched.leaves;
           peak = r.fetched.peak;
         }
-        → ShutAs j r.fetched (held_one r) row row x
+        → ShutAs j r.fetched cause (held_one r) row row x
     unfolding fetch.moved_link join
-    shut_none e holds same = rw (none-held e) (shut-ends j r.fetched [] refl holds refl same)
+    shut_none e holds same = rw (none-held e) (shut-ends j r.fetched cause [] refl holds refl same)
 
     pub shut_one : (r.fetched.count ≡ 0 → ⊥) → {row' : List ℕ} {m : ℕ} → NodesJoined r.fetched.waiting (r.node ∷ []) 1 row row' m → {x : Ran}
         → x
         ≡ record {
-          ran = true;
-          mark = r.fetched.mark;
+          mark = number_of cause;
           entries = j.entries;
           root = record { height = j.root.height; key = j.root.key; tag = r.node.tag };
           ahead = j.spares.ahead;
           waiting = m;
-          reply = Refused r.fetched.mark;
+          reply = Err cause;
           leaves = r.fetched.leaves;
           peak = r.fetched.peak;
         }
-        → ShutAs j r.fetched (held_one r) row row' x
+        → ShutAs j r.fetched cause (held_one r) row row' x
     unfolding fetch.moved_link fetch.moved_node
-    shut_one d joined same = rw (one-held d) (shut-ends j r.fetched (record { from = root; node = to_node r.node } ∷ []) refl joined.holds joined.waiting same)
+    shut_one d joined same = rw (one-held d) (shut-ends j r.fetched cause (record { from = root; node = to_node r.node } ∷ []) refl joined.holds joined.waiting same)
 
   -- ---- it went on
   -- The step is the program's outcome: where no node was wanted, any is as good.

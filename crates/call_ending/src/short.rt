@@ -8,11 +8,11 @@ ghost use Rattle.word_round_laws.specs.SlotRow.{places};
 ghost use Rattle.stash_laws.specs.Waiting.{Holds};
 ghost use Rattle.stash.specs.Stash.{NodesJoined};
 ghost use Rattle.short_outcomes.specs.OneFetch.{one_fetch};
-ghost use Rattle.want_rounds.specs.Wanting.{held_one, nodes_held, program_of};
-ghost use Rattle.call_ending.specs.Ending.{Shuts, ShutAs, outcome_of, stepped_by, PutLent, Finishes, FinishedAs};
+ghost use Rattle.want_rounds.specs.Wanting.{held_one, nodes_held, program_of, LongEnough};
+ghost use Rattle.call_ending.specs.Ending.{Shuts, ShutAs, outcome_of, stepped_by, Finishes, FinishedAs};
 
 use super::{Ran, closed, finished};
-use held_keys::MOST_HELD;
+use call_spec::Refusal;
 use path_slots::PATH_SLOTS;
 use put_rounds::put_rounds;
 use short_outcomes::OneMade;
@@ -42,20 +42,19 @@ fn join_made(w: &mut [u8], n: usize, o: OneMade) -> usize
     }
 }
 
-// The fetch round closed the store: the node, if it is held, joins those waiting, and the root link has its new tag.
-pub fn shut_short(job: Job, r: FetchedOne, w: &mut [u8]) -> Ran
+// The fetch round closed the store for that cause: the node, if it is held, joins those waiting, and the root link has its new tag.
+pub fn shut_short(job: Job, r: FetchedOne, cause: Refusal, w: &mut [u8]) -> Ran
     requires { Shuts r.fetched w.old }
-    ensures { ShutAs job r.fetched (held_one r) w.old w.new result }
+    ensures { ShutAs job r.fetched cause (held_one r) w.old w.new result }
 {
     let f = r.fetched;
     let mut root = job.root;
     if f.count == 0 {
-        return closed(job, f, root, f.waiting);
+        return closed(job, f, cause, root, f.waiting);
     }
-    let node = r.node;
-    root.tag = node.tag;
-    let waiting = join_node(w, f.waiting, node);
-    closed(job, f, root, waiting)
+    root.tag = r.node.tag;
+    let waiting = join_node(w, f.waiting, r.node);
+    closed(job, f, cause, root, waiting)
 }
 
 // The fetch round went on: the step, and the put rounds.
@@ -64,25 +63,18 @@ pub fn finish_short(
     r: FetchedOne,
     w: &mut [u8],
     tree: &mut [u8],
-    keys: &[u32; MOST_HELD],
     tape: &[u16],
     trace: &mut [u16],
     from: &mut [u32; PATH_SLOTS],
 ) -> Ran
-    requires { Finishes job r.fetched (nodes_held (held_one r)) w.old tree.old × (((one_fetch (structure_asked job.op) ≡ true) × (wanted_in (after (program_of job) (nodes_held (held_one r))) ≡ none)) × PutLent job keys.now tape.now trace.old from.old) }
+    requires { Finishes job r.fetched (nodes_held (held_one r)) w.old tree.old × (((one_fetch (structure_asked job.op) ≡ true) × (wanted_in (after (program_of job) (nodes_held (held_one r))) ≡ none)) × LongEnough job tape.now trace.old) }
     ensures { FinishedAs job (draw_of job.size tape.now) r.fetched.peak (outcome_of job (nodes_held (held_one r))) (stepped_by job (nodes_held (held_one r)) r.fetched w.old tree.old trace.old) trace.old w.new tree.new trace.new result }
 {
-    let op = job.op;
-    let old = job.root;
-    let spares = job.spares;
     let f = r.fetched;
-    let node = r.node;
-    let o = short_step(op, job.limit, job.entries, old, spares, node);
+    let o = short_step(job.op, job.limit, job.entries, job.root, job.spares, r.node);
     let m = join_made(w, f.waiting, o);
-    let root = o.root;
-    let answer = o.answer;
     let puts = put_rounds(
-        w, m, tree, job.size, job.rounds, job.puts, keys, tape, trace, from,
+        w, m, tree, job.size, job.rounds, job.puts, tape, trace, from,
     );
-    finished(job, f.peak, root, o.entries, answer, puts)
+    finished(job, f.peak, o.root, o.entries, o.answer, puts)
 }

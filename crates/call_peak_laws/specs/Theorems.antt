@@ -15,7 +15,7 @@ use Rattle.bucket_call_spec.specs.Call.{draw_of}
 use Rattle.bucket_call_spec.specs.Peak.{counts_of}
 use Rattle.state_spec.specs.declared.State.{State}
 use Rattle.state_spec.specs.Ticket.{structure_of}
-use Rattle.call_spec.specs.declared.Reply.TheVariants.{Refused}
+use Rattle.call_spec.specs.Reply.{Refused}
 use Rattle.call_spec.specs.Store.{Ended, ending, replied, store_of, checks, first_met, called}
 use Rattle.promise_spec.specs.Peaks.{LargestOf, rounds_by, none_made, made, Peaks}
 use Rattle.check_laws.specs.Causes.{first_passes}

@@ -3,7 +3,7 @@ use Rattle.std.specs.Prelude.{◌≡◌, refl}
 use Rattle.method_spec.specs.Answer.{Answer, found, absent, replaced, new, removed, pushed, popped, added, taken, queued, dequeued, empty, full, meaning}
 use Rattle.operation_spec.specs.declared.Answer as told
 use Rattle.operation_spec.specs.declared.Answer.TheVariants.{Found, Absent, Replaced, New, Removed, Pushed, Popped, Added, Taken, Queued, Dequeued, Empty}
-use Rattle.call_spec.specs.declared.Reply.TheVariants.{Answered}
+use Rattle.call_spec.specs.Reply.{Answered}
 use Rattle.call_spec.specs.Store.{reply_of, reply_meaning}
 
 pub reply-means : (a : Answer) → reply_meaning (reply_of a) ≡ meaning a

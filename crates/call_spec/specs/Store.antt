@@ -16,8 +16,7 @@ use Rattle.operation_spec.specs.Method.{to_answer}
 use Rattle.state_spec.specs.declared.Place.{Place}
 use Rattle.state_spec.specs.declared.State.{State}
 use Rattle.call_spec.specs.declared.Called.{Called}
-use Rattle.call_spec.specs.declared.Reply.{Reply}
-use Rattle.call_spec.specs.declared.Reply.TheVariants.{Answered, Refused}
+use Rattle.call_spec.specs.Reply.{Reply, Answered, Refused, to_reply}
 use Rattle.state_spec.specs.Fit.{fits, used, places, no_place}
 use Rattle.state_spec.specs.Ticket.{ticket_length, op_in, structure_of, out_of_keys, stray_fields}
 
@@ -36,7 +35,7 @@ pub record Ended : Type 0 where
 
 -- What the code of a call returns, with the tree and the trace buffer as it leaves them.
 abbrev pub call_ended_as : Called → (tree trace : List ℕ) → Ended
-call_ended_as r tree trace = record { state = r.state; reply = r.reply; leaves = r.leaves; peak = r.peak; tree = tree; trace = trace }
+call_ended_as r tree trace = record { state = r.state; reply = to_reply r.reply; leaves = r.leaves; peak = r.peak; tree = tree; trace = trace }
 
 -- An answer as it is, and a full store's as a refusal with its number.
 unfoldable pub reply_of : Answer → Reply

@@ -23,7 +23,7 @@ const FILLED: u8 = 165;
 fn told(outcome: Result<usize, NoFile>) -> [u8; 5] {
     let (number, length) = match outcome {
         Ok(length) => (0, length),
-        Err(cause) => (cause.number(), 0),
+        Err(cause) => (cause as u8, 0),
     };
     let [a, b, c, d, ..] = length.to_le_bytes();
     [number, a, b, c, d]

@@ -27,7 +27,7 @@ use Rattle.simulation_laws.specs.Relation as relation
 use Rattle.simulation_laws.specs.CallSim.{simulate}
 use Rattle.simulation_laws.specs.BucketRun.{BucketRan, last, and_then, bucket_run, KeysLeft}
 use Rattle.state_spec.specs.Ticket.{op_in}
-use Rattle.call_spec.specs.declared.Reply.{Reply}
+use Rattle.call_spec.specs.Reply.{Reply}
 use Rattle.call_spec.specs.Store.{Ended, ending, replied}
 use Rattle.demand_spec.specs.History.{Brought, StateAndTree, call_on, history, finally, counted, replies, trace_of, ops_in, tapes_of}
 use Rattle.demand_laws.specs.Marks.{Ends, call_ends}

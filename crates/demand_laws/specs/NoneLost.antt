@@ -18,7 +18,7 @@ use Rattle.none_lost_laws.specs.Lost.{never-left-wanting, fetch-closing, put-clo
 use Rattle.state_spec.specs.declared.State.{State}
 use Rattle.state_spec.specs.Fit.{fits}
 use Rattle.state_spec.specs.Ticket.{op_in, structure_of, out_of_keys}
-use Rattle.call_spec.specs.declared.Reply.TheVariants.{Refused}
+use Rattle.call_spec.specs.Reply.{Refused}
 use Rattle.call_spec.specs.Store.{Ended, called, refusing, ending, state_left, store_of}
 use Rattle.state_spec.specs.Widths.{Widths}
 use Rattle.fitness_laws.specs.FitState.{fit-state}

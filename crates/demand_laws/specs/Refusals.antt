@@ -7,7 +7,7 @@ use Rattle.bucket_call_spec.specs.Fetch.{CallLeft}
 use Rattle.bucket_call_spec.specs.Call.{draw_of}
 use Rattle.state_spec.specs.declared.State.{State}
 use Rattle.state_spec.specs.Ticket.{structure_of}
-use Rattle.call_spec.specs.declared.Reply.TheVariants.{Refused}
+use Rattle.call_spec.specs.Reply.{Refused}
 use Rattle.call_spec.specs.Store.{Ended, called, refusing, replied, reply_of, store_of, checks, first_met, decided}
 use Rattle.demand_spec.specs.History.{changes_nothing}
 use Rattle.demand_laws.specs.Marks.{Ends, closes, answers, Closing, call_ends}

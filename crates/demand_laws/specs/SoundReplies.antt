@@ -5,7 +5,7 @@ use mathlib.Core.List.Memᴰ
 use Rattle.list_spec.specs.Distinct.{All}
 use Rattle.list_laws.specs.DistinctLaws.{all_nil, all_cons}
 use Rattle.bucket_call_spec.specs.Fetch.{CallLeft}
-use Rattle.call_spec.specs.declared.Reply.TheVariants.{Refused}
+use Rattle.call_spec.specs.Reply.{Refused}
 use Rattle.call_spec.specs.Store.{Ended, refusing, ending, replied}
 use Rattle.demand_spec.specs.History.{Brought, StateAndTree, history}
 use Rattle.demand_laws.specs.Marks.{Closing, Ends, closes, answers}

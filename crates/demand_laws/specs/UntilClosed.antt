@@ -26,7 +26,7 @@ use Rattle.simulation_laws.specs.Relation.{store_entries, Matches, Overflowed}
 use Rattle.simulation_laws.specs.Relation as relation
 use Rattle.simulation_laws.specs.CallSim.{simulate}
 use Rattle.state_spec.specs.Ticket.{op_in}
-use Rattle.call_spec.specs.declared.Reply.TheVariants.{Refused}
+use Rattle.call_spec.specs.Reply.{Refused}
 use Rattle.call_spec.specs.Store.{Ended, ending as roundsEnd, replied}
 use Rattle.demand_spec.specs.History.{Brought, StateAndTree, call_on, left_by, finally, until_closed, trace_of, pairs_in}
 use Rattle.demand_laws.specs.Refusals.{stays_closed}

@@ -29,7 +29,7 @@ use Rattle.bucket_call_spec.specs.Call.{draw_of, fetched_by}
 use Rattle.state_spec.specs.declared.State.{State}
 use Rattle.state_spec.specs.Opening.{opened}
 use Rattle.state_spec.specs.Ticket.{op_in, structure_of}
-use Rattle.call_spec.specs.declared.Reply.TheVariants.{Refused}
+use Rattle.call_spec.specs.Reply.{Refused}
 use Rattle.call_spec.specs.Store.{Ended, called, refusing, store_of, reply_of}
 use Rattle.state_spec.specs.Widths.{Widths}
 use Rattle.leaf_spec.specs.Entries.{pair_of}

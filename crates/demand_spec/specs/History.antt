@@ -12,8 +12,7 @@ use Rattle.state_spec.specs.declared.Place.{Place}
 use Rattle.state_spec.specs.declared.State.{State}
 use Rattle.state_spec.specs.Fit.{used}
 use Rattle.state_spec.specs.Ticket.{op_in}
-use Rattle.call_spec.specs.declared.Reply.{Reply}
-use Rattle.call_spec.specs.declared.Reply.TheVariants.{Answered, Refused}
+use Rattle.call_spec.specs.Reply.{Reply, Answered, Refused}
 use Rattle.call_spec.specs.Store.{Ended, called}
 
 -- What a call brings: a ticket, a tape and a trace buffer of its own, of any content and length.

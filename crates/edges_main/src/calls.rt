@@ -3,13 +3,14 @@ use super::rows::{byte, number, short};
 use super::states::state_of;
 use super::trees::checksum;
 use call_draws::MOST_LEAVES;
-use call_spec::{Called, Reply};
+use call_spec::{Called, Refusal};
+use operation_spec::Answer;
 use state_spec::State;
 
 // What the last call brings, its peak among it, how many wait then, and the checksum of the tree before it.
 #[derive(Clone, Copy)]
 pub struct Shown {
-    pub reply: Reply,
+    pub reply: Result<Answer, Refusal>,
     pub leaves: usize,
     pub peak: usize,
     pub waiting: u16,

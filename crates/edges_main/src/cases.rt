@@ -7,8 +7,9 @@ use super::lines;
 use super::rows::{byte, number};
 use super::trees::{checksum, filled, put_slot};
 use call_draws::MOST_LEAVES;
-use call_spec::Reply;
+use call_spec::Refusal;
 use opening::open;
+use operation_spec::Answer;
 
 // What X says is printed.
 #[derive(Clone, Copy, PartialEq, Eq)]
@@ -40,10 +41,10 @@ impl From<usize> for Form {
 // What a trace buffer holds at first.
 const NO_LEAF: u16 = 65521;
 
-fn number_of(reply: Reply) -> u16 {
+fn number_of(reply: Result<Answer, Refusal>) -> u16 {
     match reply {
-        Reply::Answered(_) => 0,
-        Reply::Refused(number) => number as u16,
+        Ok(_) => 0,
+        Err(refusal) => refusal as u16,
     }
 }
 

@@ -2,7 +2,8 @@
 ghost use Rattle.std.specs.Prelude.{◌≤◌, length};
 ghost use Rattle.walk_spec.specs.Lines.{most_leaves};
 
-use call_spec::Reply;
+use call_spec::Refusal;
+use operation_spec::Answer;
 use text_writer::LONGEST_LINE;
 use walk_lines::line;
 
@@ -32,7 +33,7 @@ pub fn verdict(n: u16, before: u64, after: u64) {
 }
 
 // The line that the walk program would print, and one where a tree is unchanged.
-pub fn reply(answer: Reply, leaves: usize, trace: &[u16], unchanged: bool)
+pub fn reply(answer: Result<Answer, Refusal>, leaves: usize, trace: &[u16], unchanged: bool)
     requires { length trace.now ≤ most_leaves }
 {
     let mut out = [0u8; LONGEST_LINE];

@@ -2,20 +2,20 @@
 // it: in key order, each goes to the lowest bucket of the path that its own path passes and that has room.
 #![tactic(auto)]
 
-ghost use Rattle.std.specs.Prelude.{◌≡◌, ◌+◌, ◌*◌, ◌^◌, ◌<◌, ◌≤◌, length, take};
+ghost use Rattle.std.specs.Prelude.{◌≡◌, ◌+◌, ◌*◌, ◌^◌, ◌<◌, ◌≤◌, length, take, is_some};
+ghost use Rattle.std.specs.Option.{unwrap_or};
 ghost use Rattle.std.proofs.lemmas.List.Edits.{sets};
-ghost use Rattle.slot_spec.specs.Tree.{path_bucket, bucket_start, tree_length};
+ghost use Rattle.slot_spec.specs.Tree.{path, path_bucket, bucket_start, tree_length};
 ghost use Rattle.slot_spec.specs.Slot.{slot_bytes};
 ghost use Rattle.word_round_laws.specs.SlotRow.{places, row_length, slots_in, Blank, levels, Leaves};
 ghost use Rattle.word_round_laws.specs.Stash.{without};
-ghost use Rattle.word_round_laws.specs.Gather.{PathGathered};
+ghost use Rattle.word_round_laws.specs.Gather.{slot_starts, full_starts};
 ghost use Rattle.eviction.specs.Settle.{PathFilled, Joint, Settled};
 
 use bucket_writer::write_in;
 use path_clearing::clear_path;
 use path_levels::{LEVELS, meet, start_at};
 use path_room::room_from;
-use path_slots::PATH_SLOTS;
 use slot_fields::tag_of;
 use slot_row::{clear, get, put};
 use slot_spec::{BUCKET_LENGTH, Slot};
@@ -39,21 +39,19 @@ fn fill_path(
     tree: &mut [u8],
     size: usize,
     leaf: usize,
-    from: &[u32; PATH_SLOTS],
-    full: usize,
+    starts: &[u32],
 ) -> usize
-    requires { (length w.old ≡ row_length) × (Blank m w.old) × (m ≤ places) × (size < levels) × (leaf < 2 ^ size) × (Leaves size (take m (slots_in w.old))) × (length tree.old ≡ tree_length size) × PathGathered size leaf tree.old from.now full }
+    requires { (length w.old ≡ row_length) × (Blank m w.old) × (m ≤ places) × (size < levels) × (leaf < 2 ^ size) × (Leaves size (take m (slots_in w.old))) × (length tree.old ≡ tree_length size) × (starts.now ≡ full_starts tree.old (slot_starts (path size leaf))) }
     ensures { PathFilled size leaf (without out (take m (slots_in w.old))) m tree.old w.new tree.new result }
 {
-    clear_path(tree, size, leaf, from, full);
+    clear_path(tree, size, leaf, starts);
     let mut used = [0usize; LEVELS];
     let mut kept = 0;
-    let mut i = 0;
-    while i < m {
+    for i in 0..m {
         let x = get(w, i);
         clear(w, i);
         if i != out {
-            let level = room_from(&used, size, meet(leaf, tag_of(x) as usize));
+            let level = room_from(&used, size, meet(leaf, usize::from(tag_of(x))));
             if level <= size {
                 let j = used[level];
                 store_slot(tree, size, leaf, level, j, x);
@@ -63,30 +61,23 @@ fn fill_path(
                 kept += 1;
             }
         }
-        i += 1;
     }
     kept
 }
 
-// The write half of a round, of the m slots that the read half joined in the row: all but a wanted one fill the path, and what is left
-// waits in the row; how many those are. The first `full` of `from` are where the path's full slots start, as the read half found them.
+// The write half of a round, of the m slots that the read half joined in the row: all but a wanted one, in the place `out`, fill the path,
+// and what is left waits in the row; how many those are. The path's full slots start at these bytes, as the read half found them.
 pub fn settle(
     w: &mut [u8],
     m: usize,
-    wanted: bool,
-    at: usize,
+    out: Option<usize>,
     tree: &mut [u8],
     size: usize,
     leaf: usize,
-    from: &[u32; PATH_SLOTS],
-    full: usize,
+    starts: &[u32],
 ) -> usize
-    requires { Joint size leaf m wanted at w.old tree.old × PathGathered size leaf tree.old from.now full }
-    ensures { Settled size leaf m wanted at w.old tree.old w.new tree.new result }
+    requires { Joint size leaf m (is_some out) (unwrap_or out 0) w.old tree.old × (starts.now ≡ full_starts tree.old (slot_starts (path size leaf))) }
+    ensures { Settled size leaf m (is_some out) (unwrap_or out 0) w.old tree.old w.new tree.new result }
 {
-    let mut out = m;
-    if wanted {
-        out = at;
-    }
-    fill_path(w, m, out, tree, size, leaf, from, full)
+    fill_path(w, m, out.unwrap_or(m), tree, size, leaf, starts)
 }

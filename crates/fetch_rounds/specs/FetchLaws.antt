@@ -1,5 +1,5 @@
 -- The fetch rounds that want a node and those that are left, together.
-use Rattle.std.specs.Prelude.{◌≡◌, refl, List, [], ◌++◌, ℕ, max, ◌+◌, ◌-◌, ◌^◌, ◌≤◌, ◌<◌, length, take, drop}
+use Rattle.std.specs.Prelude.{◌≡◌, refl, List, [], ◌++◌, ℕ, max, ◌+◌, ◌-◌, ◌^◌, ◌≤◌, ◌<◌, length, take, drop, None}
 use Rattle.std.proofs.Common.{sym, ◌∙◌, ap, subst, arith, length-take, length-append, drop-drop}
 use Rattle.std.proofs.Math.Option.{none}
 use Rattle.std.proofs.lemmas.List.Edits.{sets, sets-eq}
@@ -14,6 +14,7 @@ use Rattle.operation_spec.specs.Method.{wanted_in}
 use Rattle.node_rows.specs.Held.{Held}
 use Rattle.one_round.specs.OneRound.{going}
 use Rattle.idle_rounds.specs.declared.idle.Idle.{Idle}
+use Rattle.round_close.specs.Fault.{mark_of}
 use Rattle.want_rounds.specs.declared.Job.{Job}
 use Rattle.idle_rounds.specs.Idle.{Between, keys_held, IdledAll}
 use Rattle.bucket_call_spec.specs.Peak.{peak_of}
@@ -65,7 +66,7 @@ module _ (j : Job) (draw : ℕ → ℕ) (is_IsLeaf : (d : ℕ) → draw d < 2 ^ 
   pub rest-fetched : wanted_in (after (program_of j) (nodes_held hs)) ≡ none → j.rounds ≤ length trace₀ → {row' tree' trace' : List ℕ} {r : Idle} {peak' : ℕ} → peak' ≡ max peak r.peak
       → IdledAll j.size m draw (j.rounds - length hs) (length hs) (length hs) row tree trace (keys_held hs) row' tree' trace' r
       → FetchedAs j draw n row₀ tree₀ trace₀ hs row' tree' trace'
-      (record { count = count; waiting = r.waiting; mark = r.mark; leaves = length hs + r.shown; peak = peak' })
+      (record { count = count; waiting = r.waiting; fault = r.fault; leaves = length hs + r.shown; peak = peak' })
   rest-fetched finished room {row'} {tree'} {trace'} {r} raised idled =
       let draws = draws_from draw r.shown i in
       let d = is-done q finished in
@@ -96,7 +97,7 @@ module _ (j : Job) (draw : ℕ → ℕ) (is_IsLeaf : (d : ℕ) → draw d < 2 ^ 
 
   -- All of them wanted a node.
   pub all-walked : length hs ≡ j.rounds → {leaves : ℕ} → leaves ≡ j.rounds
-      → FetchedAs j draw n row₀ tree₀ trace₀ hs row tree trace (record { count = count; waiting = m; mark = 0; leaves = leaves; peak = peak })
+      → FetchedAs j draw n row₀ tree₀ trace₀ hs row tree trace (record { count = count; waiting = m; fault = None; leaves = leaves; peak = peak })
   all-walked all e =
       let none_left : j.rounds - length hs ≡ 0 = omega arith in
       let no-peak : peak_of (listed_from j draw i q here) ≡ 0 =
@@ -126,7 +127,7 @@ module _ (j : Job) (draw : ℕ → ℕ) (is_IsLeaf : (d : ℕ) → draw d < 2 ^ 
   pub rows-rest : wanted_in (after (program_of j) (nodes_held (held_by h froms))) ≡ none → j.rounds ≤ length trace₀ → {row' tree' trace' : List ℕ} {r : Idle} {peak' : ℕ} → peak' ≡ max peak r.peak
       → IdledAll j.size m draw (j.rounds - h.count) h.count h.count row tree trace (take h.count keys) row' tree' trace' r
       → Fetches j draw n row₀ tree₀ trace₀ h froms row' tree' trace'
-      (record { count = h.count; waiting = r.waiting; mark = r.mark; leaves = h.count + r.shown; peak = peak' })
+      (record { count = h.count; waiting = r.waiting; fault = r.fault; leaves = h.count + r.shown; peak = peak' })
   rows-rest finished room {row'} {tree'} {trace'} {r} raised idled =
       let i = length (held_by h froms) in
       let rest : IdledAll j.size m draw (j.rounds - i) i i row tree trace (keys_held (held_by h froms)) row' tree' trace' r = rw (rows.keys-are, rows.counted) idled in

@@ -1,5 +1,5 @@
 -- The one fetch round of a stack or a queue.
-use Rattle.std.specs.Prelude.{◌≡◌, refl, Bool, true, false, List, [], ◌∷◌, ℕ, max, ◌+◌, ◌-◌, ◌^◌, ◌≤◌, ◌<◌, eqb, length, set}
+use Rattle.std.specs.Prelude.{◌≡◌, refl, Bool, true, false, List, [], ◌∷◌, ℕ, max, ◌+◌, ◌-◌, ◌^◌, ◌≤◌, ◌<◌, eqb, length, set, None, Some}
 use Rattle.std.proofs.Common.{sym, ◌∙◌, ap, arith}
 use Rattle.std.proofs.Math.Option.{Option, none, some}
 use Rattle.std.proofs.Math.Decide.{ℕ_discrete}
@@ -23,9 +23,12 @@ use Rattle.short_outcomes.specs.OneFetch.{one_fetch}
 use Rattle.short_outcomes.specs.OneFetchLaws.{clash, one-round}
 use Rattle.short_steps.specs.ShortLaws.{program-push, program-pop, program-enqueue, program-dequeue, push-wants-none, enqueue-wants-none}
 use Rattle.one_round.specs.declared.Took.{Took}
-use Rattle.one_round.specs.OneRound.{RoundReady, taken_as, Wanted}
+use Rattle.one_round.specs.OneRound.{RoundReady, taken_as, Wanted, took, node_taken}
 use Rattle.idle_rounds.specs.declared.idle.Idle.{Idle}
 use Rattle.idle_rounds.specs.Idle.{Between, IdledAll}
+use Rattle.round_close.specs.Fault.{mark_of, fault-marks}
+use Rattle.round_close.specs.declared.Fault.{Fault}
+use Rattle.std.specs.Prelude as prelude
 use Rattle.want_rounds.specs.declared.Job.{Job}
 use Rattle.want_rounds.specs.Wanting.{structure_in, program_of, Begins, Walked, FetchedAs}
 use Rattle.want_rounds.specs.WantingLaws.{after_none, walked-begins, walked-between, want-ready, walked-shut, walked_on}
@@ -54,6 +57,11 @@ from-root Pop s limit entries l one e = starts (eqb l.height 0) _ l _ (sym (ap w
 from-root (Enqueue v) s limit entries l one e = no-want (enqueue-wants-none v _ _ entries limit _ l ∙ sym (ap wanted_in (program-enqueue (Enqueue v) s limit entries l refl)) ∙ e)
 from-root Dequeue s limit entries l one e = starts (eqb entries 0) _ l _ (sym (ap wanted_in (program-dequeue Dequeue s limit entries l refl)) ∙ e)
 
+-- No mark is no fault.
+unmarked : (f : prelude.Option Fault) → mark_of f ≡ 0 → f ≡ None
+unmarked None e = refl
+unmarked (Some f) e = absurd (fault-marks (Some f) refl e)
+
 module _ (j : Job) (draw : ℕ → ℕ) (is_IsLeaf : (d : ℕ) → draw d < 2 ^ j.size) {n : ℕ} {row tree : List ℕ} (b : Begins j draw n row tree)
     (trace : List ℕ) (one : one_fetch (structure_in j) ≡ true) where
   pub rounds-one : j.rounds ≡ 1
@@ -70,7 +78,7 @@ module _ (j : Job) (draw : ℕ → ℕ) (is_IsLeaf : (d : ℕ) → draw d < 2 ^ 
 
   -- It wants none.
   pub one-idle : 1 ≤ length trace → wanted_in (program_of j) ≡ none → {row' tree' trace' : List ℕ} {r : Idle} → IdledAll j.size n draw 1 0 0 row tree trace [] row' tree' trace' r
-      → FetchedAs j draw n row tree trace [] row' tree' trace' (record { count = 0; waiting = r.waiting; mark = r.mark; leaves = r.shown; peak = r.peak })
+      → FetchedAs j draw n row tree trace [] row' tree' trace' (record { count = 0; waiting = r.waiting; fault = r.fault; leaves = r.shown; peak = r.peak })
   one-idle room finished {row'} {tree'} {trace'} {r} idled =
       let left : j.rounds - 0 ≡ 1 = omega (arith, rounds-one) in
       let shown : 0 + r.shown ≡ r.shown = omega arith in
@@ -96,27 +104,27 @@ module _ (j : Job) (draw : ℕ → ℕ) (is_IsLeaf : (d : ℕ) → draw d < 2 ^ 
       trace' = set trace 0 want.link.tag
 
       -- Nothing was taken out.
-      pub one-damaged : r.taken ≡ false
-          → FetchedAs j draw n row tree trace [] row' tree' trace' (record { count = 0; waiting = r.waiting; mark = r.mark; leaves = 1; peak = r.count })
+      pub one-damaged : took r ≡ false
+          → FetchedAs j draw n row tree trace [] row' tree' trace' (record { count = 0; waiting = r.waiting; fault = r.fault; leaves = 1; peak = r.count })
       one-damaged t = walked-shut j draw is_IsLeaf b trace inv want asked-now fewer round raised room false t (not_taken round t) {count = 0} refl
 
       -- The node is held.
-      module _ {x : node.Node} {d : ℕ} (same : x ≡ record { key = r.node.key; value = r.node.value; tag = d; left = r.node.left; right = r.node.right })
-          (drawn : d ≡ draw 0) (taken : r.taken ≡ true) where
+      module _ {x : node.Node} {d : ℕ} (same : x ≡ record { key = (node_taken r).key; value = (node_taken r).value; tag = d; left = (node_taken r).left; right = (node_taken r).right })
+          (drawn : d ≡ draw 0) (taken : took r ≡ true) where
         abbrev held : List fetch.Held
         held = record { from = prog.root; node = to_node x } ∷ []
 
-        held-is : held ≡ taken_as want (draw 0) (to_node r.node) ∷ []
+        held-is : held ≡ taken_as want (draw 0) (to_node (node_taken r)) ∷ []
         held-is =
             let from_is : to_from want.from ≡ prog.root = from-root j.op j.spares j.limit j.entries (to_link j.root) one asked in
-            let node-is : to_node x ≡ retag (draw 0) (to_node r.node) = ap to_node same ∙ ap (λ (t : ℕ). retag t (to_node r.node)) drawn in
+            let node-is : to_node x ≡ retag (draw 0) (to_node (node_taken r)) = ap to_node same ∙ ap (λ (t : ℕ). retag t (to_node (node_taken r))) drawn in
             rw (from_is, node-is)
 
-        pub one-taken : FetchedAs j draw n row tree trace held row' tree' trace' (record { count = 1; waiting = r.waiting; mark = r.mark; leaves = 1; peak = r.count })
-        one-taken = rw held-is (go (ℕ_discrete r.mark 0))
+        pub one-taken : FetchedAs j draw n row tree trace held row' tree' trace' (record { count = 1; waiting = r.waiting; fault = r.fault; leaves = 1; peak = r.count })
+        one-taken = rw held-is (go (ℕ_discrete (mark_of r.fault) 0))
           where
-            go : Dec (r.mark ≡ 0)
-                → FetchedAs j draw n row tree trace (taken_as want (draw 0) (to_node r.node) ∷ []) row' tree' trace' (record { count = 1; waiting = r.waiting; mark = r.mark; leaves = 1; peak = r.count })
+            go : Dec (mark_of r.fault ≡ 0)
+                → FetchedAs j draw n row tree trace (taken_as want (draw 0) (to_node (node_taken r)) ∷ []) row' tree' trace' (record { count = 1; waiting = r.waiting; fault = r.fault; leaves = 1; peak = r.count })
             go (no marked) = walked-shut j draw is_IsLeaf b trace inv want asked-now fewer round raised room true taken marked {count = 1} refl
             go (yes e) =
-                rw e (all-walked j draw is_IsLeaf b trace (walked_on j draw is_IsLeaf b trace inv want asked-now fewer round raised room taken e) {count = 1} refl (sym rounds-one) {leaves = 1} (sym rounds-one))
+                rw (unmarked r.fault e) (all-walked j draw is_IsLeaf b trace (walked_on j draw is_IsLeaf b trace inv want asked-now fewer round raised room taken e) {count = 1} refl (sym rounds-one) {leaves = 1} (sym rounds-one))

@@ -3,13 +3,12 @@
 
 ghost use Rattle.bucket_call_spec.specs.Call.{draw_of};
 ghost use Rattle.node_rows.specs.Held.{held_in};
-ghost use Rattle.want_rounds.specs.Wanting.{CanFetch, RowsSized, Fetches};
+ghost use Rattle.want_rounds.specs.Wanting.{CanFetch, Fetches};
 
 use held_keys::MOST_HELD;
 use idle_rounds::idle::idle_rounds;
 use node_rows::{FETCHES, ROW};
 use path_slots::PATH_SLOTS;
-use round_close::greater;
 use want_rounds::{Fetched, Job, want_rounds};
 
 pub mod short;
@@ -28,21 +27,31 @@ pub fn fetch_rounds(
     trace: &mut [u16],
     from: &mut [u32; PATH_SLOTS],
 ) -> Fetched
-    requires { CanFetch job n w.old tree.old held.old froms.old made.old keys.old tape.now trace.old from.old }
-    ensures { Fetches job (draw_of job.size tape.now) n w.old tree.old trace.old (held_in held.new result.count) froms.new w.new tree.new trace.new result × RowsSized held.new froms.new made.new keys.new from.new }
+    requires { CanFetch job n w.old tree.old tape.now trace.old }
+    ensures { Fetches job (draw_of job.size tape.now) n w.old tree.old trace.old (held_in held.new result.count) froms.new w.new tree.new trace.new result }
 {
     let mut f = want_rounds(job, w, n, tree, held, froms, made, keys, tape, trace, from);
-    if f.mark != 0 {
+    if f.fault.is_some() {
         return f;
     }
     let i = f.count;
     let left = job.rounds - i;
     let r = idle_rounds(
-        w, f.waiting, tree, job.size, keys, i, tape, i, left, trace, i, from,
+        w,
+        f.waiting,
+        tree,
+        job.size,
+        &keys[..i],
+        tape,
+        i,
+        left,
+        trace,
+        i,
+        from,
     );
     f.waiting = r.waiting;
-    f.mark = r.mark;
+    f.fault = r.fault;
     f.leaves = i + r.shown;
-    f.peak = greater(f.peak, r.peak);
+    f.peak = f.peak.max(r.peak);
     f
 }

@@ -4,14 +4,9 @@ use Rattle.list_spec.specs.Choice.{pick}
 use Rattle.state_spec.specs.Fetching.{rounds_of, draws_of}
 use Rattle.lent_bytes_spec.specs.declared.StateHead.{StateHead}
 use Rattle.lent_bytes_spec.specs.Numbers.{number_length}
-use Rattle.lent_bytes_spec.specs.StateBytes.{root_in, ahead_in}
-use Rattle.call_core.specs.declared.Head.{Head}
+use Rattle.fitness.specs.declared.Head.{Head}
 use Rattle.call_core.specs.Run.{Stands}
 use Rattle.call_ending.specs.declared.Ran.{Ran}
-
--- The head as the core takes it.
-abbrev pub core_head : StateHead → Head
-core_head h = record { structure = h.structure; size = h.size; entries = h.entries; root = root_in h; ahead = ahead_in h; waiting = h.waiting }
 
 -- What a call over rows needs: a row for as many numbers as it takes of the tape, and one for as many leaves as the trace has places, both at
 -- most as many as it can use.

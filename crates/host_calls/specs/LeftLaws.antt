@@ -1,5 +1,5 @@
 -- The numbers of a call, cut to what it takes; and the state that is left.
-use Rattle.std.specs.Prelude.{◌≡◌, refl, Bool, true, false, ◌&&◌, List, [], ◌∷◌, ◌++◌, ℕ, zero, suc, min, ◌+◌, ◌-◌, ◌*◌, ◌/◌, ◌≤◌, ◌<◌, length, get_or, take, drop}
+use Rattle.std.specs.Prelude.{◌≡◌, refl, Bool, true, false, ◌&&◌, Ok, Err, List, [], ◌∷◌, ◌++◌, ℕ, zero, suc, min, ◌+◌, ◌-◌, ◌*◌, ◌/◌, ◌≤◌, ◌<◌, length, get_or, take, drop}
 use Rattle.std.proofs.Common.{sym, ◌∙◌, ap, ap₂, arith, take_all}
 use Rattle.std.proofs.Math.Decide.{dec_lt}
 use Rattle.list_spec.specs.Choice.{pick}
@@ -19,7 +19,8 @@ use Rattle.lent_bytes_spec.specs.Numbers.{numbers_in, numbers_of}
 use Rattle.lent_bytes_spec.specs.StateBytes.{head_length, head_bytes, head_for, state_bytes}
 use Rattle.lent_bytes_laws.specs.NumbersLaws.{numbers-length, numbers-take}
 use Rattle.byte_states.specs.RowLaws.{row-places}
-use Rattle.call_core.specs.declared.Head.{Head}
+use Rattle.fitness.specs.declared.Head.{Head}
+use Rattle.call_spec.specs.declared.Refusal.{Refusal}
 use Rattle.call_core.specs.Run.{StandsFor, Stands, left_of, CallsAs}
 use Rattle.call_ending.specs.declared.Ran.{Ran}
 use Rattle.host_calls.specs.Left.{head_left}
@@ -45,32 +46,41 @@ take-low (suc n) (m ∷ ns) h zero = h 0
 take-low (suc n) (m ∷ ns) h (suc i) = take-low n ns (λ j. h (suc j)) i
 
 -- What the core promises of the cut tape and of a trace of its own, it promises of the lent ones.
-module _ {head : Head} {row tree ticket row' tree' own own' : List ℕ} {r : Ran} (tape trace : List ℕ) (st : Stands head row)
-    (sized : length own ≡ min (length (numbers_of trace)) (2 * rounds_of head.structure head.size))
-    (made : CallsAs head row tree ticket (take (draws_of head.structure head.size) tape) own row' tree' own' r)
-    (same : length own' ≡ length own) where
-  ended : left_of st.state r row' tree' own' ≡ called st.state tree ticket (take (draws_of head.structure head.size) tape) own
-  ended = made.calls st.state st.for
+module _ {head : Head} (own tape trace : List ℕ)
+    (sized : length own ≡ min (length (numbers_of trace)) (2 * rounds_of head.structure head.size)) where
+  cut-as : (tree ticket : List ℕ) {row : List ℕ} (s : State) → StandsFor s head row
+      → on_trace (numbers_of trace) (called s tree ticket (take (draws_of head.structure head.size) tape) own) ≡ called s tree ticket tape (numbers_of trace)
+  cut-as tree ticket s for =
+      let a : head.structure ≡ s.structure = ap (λ (h : Head). h.structure) for.head in
+      let b : head.size ≡ s.size = ap (λ (h : Head). h.size) for.head in
+      let cut : take (draws_of head.structure head.size) tape ≡ take (draws_of s.structure s.size) tape = rw (a, b) in
+      let long : length own ≡ min (length (numbers_of trace)) (2 * rounds_of s.structure s.size) = rw (a, b) at sized in
+      called-cut s tree ticket tape (take (draws_of head.structure head.size) tape) (numbers_of trace) own cut long
 
-  -- No more leaves than places.
-  pub shown-within : r.leaves ≤ length own
-  shown-within =
-      let few = leaves-within st.state tree ticket (take (draws_of head.structure head.size) tape) own (sym (ap (λ (e : Ended). length e.trace) ended) ∙ same) in
-      omega (arith, few, ap (λ (e : Ended). e.leaves) ended)
+  -- It refused.
+  pub refused-lent : {n : Refusal} {row tree ticket row' tree' own' : List ℕ} → CallsAs head row tree ticket (take (draws_of head.structure head.size) tape) own row' tree' own' (Err n)
+      → CallsAs head row tree ticket tape (numbers_of trace) row' tree' (numbers_of trace) (Err n)
+  refused-lent {tree = tree} {ticket = ticket} made = record { calls = λ s for. ap (on_trace (numbers_of trace)) (made.calls s for) ∙ cut-as tree ticket s for; waits = made.waits }
 
-  pub made-lent : (trace' : List ℕ) → numbers_of trace' ≡ take r.leaves own' ++ drop r.leaves (numbers_of trace)
-      → CallsAs head row tree ticket tape (numbers_of trace) row' tree' (numbers_of trace') r
-  made-lent trace' left = record { calls = calls; holds = made.holds; kept = made.kept }
-    where
-      calls : (s : State) → StandsFor s head row → left_of s r row' tree' (numbers_of trace') ≡ called s tree ticket tape (numbers_of trace)
-      calls s for =
-          let a : head.structure ≡ s.structure = ap (λ (h : Head). h.structure) for.head in
-          let b : head.size ≡ s.size = ap (λ (h : Head). h.size) for.head in
-          let cut : take (draws_of head.structure head.size) tape ≡ take (draws_of s.structure s.size) tape = rw (a, b) in
-          let long : length own ≡ min (length (numbers_of trace)) (2 * rounds_of s.structure s.size) = rw (a, b) at sized in
-          ap (left_of s r row' tree') left
-          ∙ ap (on_trace (numbers_of trace)) (made.calls s for)
-          ∙ called-cut s tree ticket tape (take (draws_of head.structure head.size) tape) (numbers_of trace) own cut long
+  -- It made its rounds.
+  module _ {r : Ran} {row tree ticket row' tree' own' : List ℕ} (st : Stands head row) (made : CallsAs head row tree ticket (take (draws_of head.structure head.size) tape) own row' tree' own' (Ok r))
+      (same : length own' ≡ length own) where
+    ended : left_of st.state (Ok r) row' tree' own' ≡ called st.state tree ticket (take (draws_of head.structure head.size) tape) own
+    ended = made.calls st.state st.for
+
+    -- No more leaves than places.
+    pub shown-within : r.leaves ≤ length own
+    shown-within =
+        let few = leaves-within st.state tree ticket (take (draws_of head.structure head.size) tape) own (sym (ap (λ (e : Ended). length e.trace) ended) ∙ same) in
+        omega (arith, few, ap (λ (e : Ended). e.leaves) ended)
+
+    pub made-lent : (trace' : List ℕ) → numbers_of trace' ≡ take r.leaves own' ++ drop r.leaves (numbers_of trace)
+        → CallsAs head row tree ticket tape (numbers_of trace) row' tree' (numbers_of trace') (Ok r)
+    made-lent trace' left =
+        record {
+          calls = λ s for. ap (left_of s (Ok r) row' tree') left ∙ ap (on_trace (numbers_of trace)) (made.calls s for) ∙ cut-as tree ticket s for;
+          waits = made.waits;
+        }
 
 -- The head of a state that stands has a size.
 pub head-size : {head : Head} {row : List ℕ} → Stands head row → (1 ≤ head.size) × (head.size ≤ largest_size)

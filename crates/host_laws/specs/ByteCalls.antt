@@ -22,8 +22,7 @@ use Rattle.state_spec.specs.declared.State.{State}
 use Rattle.state_spec.specs.Fit.{places}
 use Rattle.state_spec.specs.Ticket.{op_in, structure_of}
 use Rattle.fitness_laws.specs.FitState.{fit-state}
-use Rattle.call_spec.specs.declared.Reply.{Reply}
-use Rattle.call_spec.specs.declared.Reply.TheVariants.{Answered, Refused}
+use Rattle.call_spec.specs.Reply.{Reply, Answered, Refused}
 use Rattle.call_spec.proofs.Meanings.{answered-number}
 use Rattle.call_spec.specs.Store.{Ended, called, store_of}
 use Rattle.promise_spec.specs.Peaks.{Made, none_made, made}

@@ -31,8 +31,7 @@ use Rattle.state_laws.specs.FetchingLaws.{rounds-most}
 use Rattle.fitness_laws.specs.FitState.{fit-state}
 use Rattle.fitness_laws.specs.FitStores.{fit-store}
 use Rattle.fitness_laws.specs.Tickets.{op_fits, key_left}
-use Rattle.call_spec.specs.declared.Reply.{Reply}
-use Rattle.call_spec.specs.declared.Reply.TheVariants.{Answered, Refused}
+use Rattle.call_spec.specs.Reply.{Reply, Answered, Refused}
 use Rattle.call_spec.specs.Store.{Ended, store_of, refusing, called, checks, first_met, decided}
 use Rattle.call_peak_laws.specs.Theorems.{within-limit, overflow-waits}
 use Rattle.demand_spec.specs.History.{pairs_in}

@@ -19,8 +19,7 @@ use Rattle.std.proofs.Math.Option.{some}
 use Rattle.state_spec.specs.declared.State.{State}
 use Rattle.state_spec.specs.Ticket.{op_in}
 use Rattle.lent_bytes_laws.specs.StateLaws.{state-length}
-use Rattle.call_spec.specs.declared.Reply.{Reply}
-use Rattle.call_spec.specs.declared.Reply.TheVariants.{Answered, Refused}
+use Rattle.call_spec.specs.Reply.{Reply, Answered, Refused}
 use Rattle.call_spec.proofs.Meanings.{answered-number}
 use Rattle.call_spec.specs.Store.{Ended, reply_of}
 use Rattle.readout_spec.specs.Taken.{pair_of_entry, entries}

@@ -16,8 +16,7 @@ use Rattle.slot_spec.specs.Layout.{pack}
 use Rattle.slot_spec.specs.Tree.{tree_length}
 use Rattle.method_spec.specs.Answer.{Structure}
 use Rattle.state_spec.specs.Opening.{opened}
-use Rattle.call_spec.specs.declared.Reply.{Reply}
-use Rattle.call_spec.specs.declared.Reply.TheVariants.{Answered, Refused}
+use Rattle.call_spec.specs.Reply.{Reply, Answered, Refused}
 use Rattle.call_spec.proofs.Meanings.{answered-number}
 use Rattle.call_spec.specs.Store.{Ended, refusing}
 use Rattle.fitness_laws.specs.FitState.{fit-state}

@@ -15,8 +15,7 @@ use Rattle.state_spec.specs.declared.State.{State}
 use Rattle.state_spec.specs.Fit.{fits}
 use Rattle.state_spec.specs.Opening.{opened}
 use Rattle.fitness_laws.specs.FitState.{fit-state}
-use Rattle.call_spec.specs.declared.Reply.{Reply}
-use Rattle.call_spec.specs.declared.Reply.TheVariants.{Answered, Refused}
+use Rattle.call_spec.specs.Reply.{Reply, Answered, Refused}
 use Rattle.call_spec.proofs.Meanings.{answered-number}
 use Rattle.call_spec.specs.Store.{Ended, refusing, called}
 use Rattle.readout_spec.specs.ReadOut.{read_out}

@@ -21,7 +21,7 @@ use Rattle.operation_spec.specs.declared.Answer.TheVariants.{Found, Absent}
 use Rattle.state_spec.specs.Fit.{all_of, root_good, ahead_good, fits, head_fits, places_from}
 use Rattle.state_spec.specs.Ticket.{op_in, fields_used, stray_fields}
 use Rattle.state_spec.specs.Opening.{opened}
-use Rattle.call_spec.specs.declared.Reply.TheVariants.{Answered, Refused}
+use Rattle.call_spec.specs.Reply.{Answered, Refused}
 use Rattle.call_spec.specs.Store.{called, checks, first_met, decided, replied, reply_of}
 use Rattle.readout_spec.specs.ReadOut as read
 use Rattle.readout_spec.specs.ReadOut.{read_out, length_of}

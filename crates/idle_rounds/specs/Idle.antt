@@ -13,6 +13,7 @@ use Rattle.bucket_call_spec.specs.Peak.{rounds_from, peak_of}
 use Rattle.leaf_spec.specs.Leaf.{ProperLeaf}
 use Rattle.stash_laws.specs.Waiting.{waiting_in}
 use Rattle.one_round.specs.OneRound.{going, ended_with, Rests}
+use Rattle.round_close.specs.Fault.{mark_of}
 use Rattle.idle_rounds.specs.declared.idle.Idle.{Idle}
 
 -- A store between two rounds: the tree is one of that size, and the waiting nodes are proper and have room.
@@ -31,10 +32,10 @@ keys_held hs = map (λ (h : Held). h.node.key) hs
 pub record IdledAll (k n : ℕ) (draw : ℕ → ℕ) (count first at : ℕ) (row tree trace held row' tree' trace' : List ℕ) (r : Idle) : Type 0 where
   pub rounds : (hs : List Held) (ls : List ℕ) (o : Outcome ℕ) → keys_held hs ≡ held
       → put_rounds k draw count first o (going n row tree hs ls)
-      ≡ ended_with r.mark (going r.waiting row' tree' hs (ls ++ draws_from draw r.shown first)) (done o)
+      ≡ ended_with (mark_of r.fault) (going r.waiting row' tree' hs (ls ++ draws_from draw r.shown first)) (done o)
   pub peaked : (s : Structure) (e : ℕ) (hs : List Held) (ls : List ℕ) (o : Outcome ℕ) → keys_held hs ≡ held
       → peak_of (rounds_from s e k draw count first (done o) (going n row tree hs ls)) ≡ r.peak
   pub revealed : trace' ≡ sets trace at (draws_from draw r.shown first)
   pub rests : Rests r.waiting row' held
   pub no_more : r.shown ≤ count
-  pub all_shown : r.mark ≡ 0 → r.shown ≡ count
+  pub all_shown : mark_of r.fault ≡ 0 → r.shown ≡ count

@@ -1,5 +1,5 @@
 -- One round that wants none after another.
-use Rattle.std.specs.Prelude.{◌≡◌, Bool, ℕ, suc, max, ◌+◌, ◌-◌, ◌%◌, ◌^◌, ◌≤◌, ◌<◌, length, get_or, set}
+use Rattle.std.specs.Prelude.{◌≡◌, Bool, ℕ, suc, max, ◌+◌, ◌-◌, ◌%◌, ◌^◌, ◌≤◌, ◌<◌, length, get_or, set, None}
 use Rattle.std.proofs.Math.Path.{refl}
 use Rattle.std.proofs.Common.{sym, ◌∙◌, ap, subst, add-suc, suc-add, mod-lt, pow_pos, pow_mono, arith}
 use Rattle.std.proofs.Math.Bool.{true, false}
@@ -29,6 +29,7 @@ use Rattle.bucket_call_spec.specs.Peak.{rounds_from, peak_of, peak_at}
 use Rattle.peak_laws.specs.PeakLaws.{peak-none, rounds-none, peak-goes, peak-shuts, done-round}
 use Rattle.leaf_laws.specs.Proper.{leaves-lawful}
 use Rattle.stash_laws.specs.WaitingLaws.{waiting-length}
+use Rattle.round_close.specs.Fault.{mark_of}
 use Rattle.one_round.specs.declared.Rounded.{Rounded}
 use Rattle.one_round.specs.OneRound.{going, ended_with, RoundReady, Idled}
 use Rattle.idle_rounds.specs.Idle.{Between, keys_held, IdledAll}
@@ -118,13 +119,13 @@ module _ {k n : ℕ} {row tree held : List ℕ} (b : Between k n row tree held) 
       }
 
   -- After a round that goes on another can begin.
-  pub between-again : {leaf : ℕ} {row' tree' : List ℕ} {r : Rounded} → leaf < 2 ^ k → Idled k leaf n row tree held row' tree' r → r.mark ≡ 0
+  pub between-again : {leaf : ℕ} {row' tree' : List ℕ} {r : Rounded} → leaf < 2 ^ k → Idled k leaf n row tree held row' tree' r → mark_of r.fault ≡ 0
       → Between k r.waiting row' tree' held
   between-again {leaf} {row'} {tree'} {r} h i e =
       let hs = map stand_in held in
       let p : Prog ℕ (Outcome ℕ) = done (record { nodes = []; root = absent 0; entries = 0; answer = answer.absent }) in
       let g' = going r.waiting row' tree' hs ([] ++ (leaf ∷ [])) in
-      let kept = idle-kept k leaf h p (going n row tree hs []) b.is-tree b.proper g' (i.round hs [] p (stand-keys held) ∙ goes_on_lem r.mark g' p e) in
+      let kept = idle-kept k leaf h p (going n row tree hs []) b.is-tree b.proper g' (i.round hs [] p (stand-keys held) ∙ goes_on_lem (mark_of r.fault) g' p e) in
       let many : length (map stand_in held) ≡ length held = length-map held stand_in in
       record {
         small = b.small;
@@ -178,7 +179,7 @@ module _ (k n : ℕ) (draw : ℕ → ℕ) (count first at : ℕ) (row₀ tree₀
     idling-sized = ap length inv.revealed ∙ length-sets trace₀ at (draws_from draw i first)
 
     -- The last was made.
-    pub idling-ends : count ≤ i → IdledAll k n draw count first at row₀ tree₀ trace₀ held row tree trace (record { mark = 0; waiting = m; shown = count; peak = peak })
+    pub idling-ends : count ≤ i → IdledAll k n draw count first at row₀ tree₀ trace₀ held row tree trace (record { fault = None; waiting = m; shown = count; peak = peak })
     idling-ends h =
         let all : i ≡ count = omega (arith, inv.upto) in
         let none : count - i ≡ 0 = omega arith in
@@ -211,15 +212,15 @@ module _ (k n : ℕ) (draw : ℕ → ℕ) (count first at : ℕ) (row₀ tree₀
       going_then hs ls = going r.waiting row' tree' hs (ls ++ draws_from draw (i + 1) first)
 
       round-at : (hs : List Held) (ls : List ℕ) (o : Outcome ℕ) → keys_held hs ≡ held
-          → idle_round k (draw (first + i)) (done o) (going m row tree hs (ls ++ draws_from draw i first)) ≡ ended_with r.mark (going_then hs ls) (done o)
+          → idle_round k (draw (first + i)) (done o) (going m row tree hs (ls ++ draws_from draw i first)) ≡ ended_with (mark_of r.fault) (going_then hs ls) (done o)
       round-at hs ls o e =
           rw (← drawn) (round.round hs (ls ++ draws_from draw i first) (done o) e)
-          ∙ ap (λ (seen : List ℕ). ended_with r.mark (going r.waiting row' tree' hs seen) (done o))
+          ∙ ap (λ (seen : List ℕ). ended_with (mark_of r.fault) (going r.waiting row' tree' hs seen) (done o))
           (append_assoc ls (draws_from draw i first) (leaf ∷ []) ∙ ap (λ (ds : List ℕ). ls ++ ds) (rw drawn (sym (draws-one-more draw i first))))
 
       -- The round is the next of those that are listed, and has that count.
       next-at : (s : Structure) (x : ℕ) (hs : List Held) (ls : List ℕ) (o : Outcome ℕ) → keys_held hs ≡ held
-          → fetch_round s x k (draw (first + i)) (done o) (going m row tree hs (ls ++ draws_from draw i first)) ≡ ended_with r.mark (going_then hs ls) (done o)
+          → fetch_round s x k (draw (first + i)) (done o) (going m row tree hs (ls ++ draws_from draw i first)) ≡ ended_with (mark_of r.fault) (going_then hs ls) (done o)
       next-at s x hs ls o e = done-round s x k (draw (first + i)) o (going m row tree hs (ls ++ draws_from draw i first)) ∙ round-at hs ls o e
 
       next-count : (s : Structure) (x : ℕ) (hs : List Held) (ls : List ℕ) (o : Outcome ℕ) → keys_held hs ≡ held
@@ -228,19 +229,19 @@ module _ (k n : ℕ) (draw : ℕ → ℕ) (count first at : ℕ) (row₀ tree₀
           ap peak_at (done-round s x k (draw (first + i)) o (going m row tree hs (ls ++ draws_from draw i first)))
           ∙ rw (← drawn) (round.counted hs (ls ++ draws_from draw i first) (done o) e)
 
-      pub idling-shuts : (r.mark ≡ 0 → ⊥)
-          → IdledAll k n draw count first at row₀ tree₀ trace₀ held row' tree' trace' (record { mark = r.mark; waiting = r.waiting; shown = i + 1; peak = peak' })
+      pub idling-shuts : (mark_of r.fault ≡ 0 → ⊥)
+          → IdledAll k n draw count first at row₀ tree₀ trace₀ held row' tree' trace' (record { fault = r.fault; waiting = r.waiting; shown = i + 1; peak = peak' })
       idling-shuts h =
           record {
             rounds = λ hs ls o e.
                 inv.rest hs ls o e ∙ rw left
-                (put-shuts k draw (count - (i + 1)) (first + i) o (going m row tree hs (ls ++ draws_from draw i first)) (going_then hs ls) r.mark
-                (round-at hs ls o e ∙ stops-here r.mark (going_then hs ls) (done o) h)
-                ∙ sym (stops-here r.mark (going_then hs ls) (done o) h));
+                (put-shuts k draw (count - (i + 1)) (first + i) o (going m row tree hs (ls ++ draws_from draw i first)) (going_then hs ls) (mark_of r.fault)
+                (round-at hs ls o e ∙ stops-here (mark_of r.fault) (going_then hs ls) (done o) h)
+                ∙ sym (stops-here (mark_of r.fault) (going_then hs ls) (done o) h));
             peaked = λ s x hs ls o e.
                 inv.peaks s x hs ls o e ∙ rw left
-                (peak-shuts s x k draw (count - (i + 1)) (first + i) (done o) (going m row tree hs (ls ++ draws_from draw i first)) (going_then hs ls) r.mark
-                (next-at s x hs ls o e ∙ stops-here r.mark (going_then hs ls) (done o) h) peak
+                (peak-shuts s x k draw (count - (i + 1)) (first + i) (done o) (going m row tree hs (ls ++ draws_from draw i first)) (going_then hs ls) (mark_of r.fault)
+                (next-at s x hs ls o e ∙ stops-here (mark_of r.fault) (going_then hs ls) (done o) h) peak
                 ∙ ap (max peak) (next-count s x hs ls o e) ∙ sym raised);
             revealed = revealed-one-more;
             rests = round.rests;
@@ -248,18 +249,18 @@ module _ (k n : ℕ) (draw : ℕ → ℕ) (count first at : ℕ) (row₀ tree₀
             all_shown = λ e. absurd (h e);
           }
 
-      pub idling-goes : r.mark ≡ 0 → Idling k n draw count first at row₀ tree₀ trace₀ held (i + 1) r.waiting peak' row' tree' trace'
+      pub idling-goes : mark_of r.fault ≡ 0 → Idling k n draw count first at row₀ tree₀ trace₀ held (i + 1) r.waiting peak' row' tree' trace'
       idling-goes h =
           record {
             upto = omega arith;
             rest = λ hs ls o e.
                 inv.rest hs ls o e ∙ rw (left, later)
                 (put-goes k draw (count - (i + 1)) (first + i) o (going m row tree hs (ls ++ draws_from draw i first)) (going_then hs ls)
-                (round-at hs ls o e ∙ goes_on_lem r.mark (going_then hs ls) (done o) h));
+                (round-at hs ls o e ∙ goes_on_lem (mark_of r.fault) (going_then hs ls) (done o) h));
             peaks = λ s x hs ls o e.
                 inv.peaks s x hs ls o e ∙ rw (left, later)
                 (peak-goes s x k draw (count - (i + 1)) (first + i) (done o) (going m row tree hs (ls ++ draws_from draw i first)) (going_then hs ls) (done o)
-                (next-at s x hs ls o e ∙ goes_on_lem r.mark (going_then hs ls) (done o) h) peak
+                (next-at s x hs ls o e ∙ goes_on_lem (mark_of r.fault) (going_then hs ls) (done o) h) peak
                 ∙ ap (λ (c : ℕ). max c (peak_of (rounds_from s x k draw (count - (i + 1)) (suc (first + i)) (done o) (going_then hs ls)))) (ap (max peak) (next-count s x hs ls o e) ∙ sym raised));
             revealed = revealed-one-more;
             between = between-again inv.between is_leaf round h;

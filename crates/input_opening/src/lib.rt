@@ -6,12 +6,11 @@ ghost use Rattle.std.specs.Prelude.{◌≡◌, ◌≤◌, length, IfSome, MatchR
 ghost use Rattle.state_spec.specs.Fit.{largest_size};
 ghost use Rattle.walk_spec.specs.Input.{largest_tree};
 
-use call_spec::Reply;
 use opening::open;
 use state_spec::State;
 use text_writer::LONGEST_LINE;
 use walk_input::{HEAD_LENGTH, read_part, tree_lent};
-use walk_lines::{line, short_line};
+use walk_lines::{refused_line, short_line};
 use walk_spec::Stop;
 
 // The descriptor of the standard output.
@@ -52,7 +51,7 @@ pub fn whole<T>(came: Result<T, Stop>) -> Option<T>
 
 fn print_refused(mark: u8) {
     let mut out = [0u8; LONGEST_LINE];
-    let length = line(Reply::Refused(mark), 0, &[], &mut out);
+    let length = refused_line(mark, &mut out);
     print(&out[..length]);
 }
 

@@ -1,10 +1,10 @@
 -- The write half over the words is the write half over the nodes in hand, and what a round needs of the waiting nodes it leaves: they are in
 -- words, in key order, and no key stands twice among those waiting, taken and held.
-use Rattle.std.specs.Prelude.{◌≡◌, refl, Bool, true, false, ℕ, ◌+◌, ◌≤◌, ◌<◌, take}
+use Rattle.std.specs.Prelude.{◌≡◌, refl, Bool, true, false, ℕ, ◌+◌, ◌≤◌, ◌<◌, take, Option}
 use Rattle.std.proofs.Common.{sym, ◌∙◌, subst, arith}
 use Rattle.std.proofs.Math.Path.{ap, ap₂}
 use mathlib.Core.List.{List, [], ◌∷◌, ◌++◌, map}
-use Rattle.std.proofs.Math.Option.{Option}
+use Rattle.std.proofs.Math.Option as math
 use Rattle.std.proofs.Math.ListN.{length}
 use Rattle.std.proofs.lemmas.List.{length-map}
 use Rattle.list_spec.specs.Choice.{pick}
@@ -21,15 +21,14 @@ use Rattle.round_laws.specs.Same.{map_written}
 use Rattle.round_spec.specs.Whole.{Ascending}
 use Rattle.round_laws.specs.Sorted.{ascending-round}
 use Rattle.leaf_spec.specs.Leaf.{leaf_format}
-use Rattle.word_round_laws.specs.SlotRow.{places, slots_in}
-use Rattle.path_reader.specs.Look.{LookedFor}
+use Rattle.word_round_laws.specs.SlotRow.{places, row_length, slots_in}
+use Rattle.path_reader.specs.Look.{Granted}
 use Rattle.word_round_laws.specs.Stash.{removed}
 use Rattle.eviction.specs.Settle.{Joint, Settled}
 use Rattle.word_round_laws.specs.JoinLaws.{none-twice-perm}
 use Rattle.word_round_laws.specs.KeepLaws.{taken_keys, read-distinct, write-distinct, write-holds}
 use Rattle.path_reader.specs.declared.Looked.{Looked}
 use Rattle.path_reader.specs.declared.Wish.{Wish}
-use Rattle.round_close.specs.declared.Close.{Close}
 use Rattle.stash_laws.specs.Waiting.{words_for, InWidths, waiting_in}
 use Rattle.stash_laws.specs.WaitingLaws.{write-words, waiting-are, holds-them}
 use Rattle.bucket_call_spec.specs.Fetch.{Held, Going, on, shut, at_close, written, too_many}
@@ -39,31 +38,27 @@ use Rattle.one_round.specs.OneRound.{going, ended_with, RoundReady, Rests}
 use Rattle.one_round.specs.ReadyLaws.{ready-leaves}
 use Rattle.one_round.specs.HandLaws.{InHand}
 
-module _ {k leaf n : ℕ} {row tree held after : List ℕ} (ready : RoundReady k leaf n row tree held) where
+module _ {k leaf n : ℕ} {row tree held : List ℕ} (ready : RoundReady k leaf n row tree held) where
   -- What the write half needs, after a read half that found no damage.
-  pub looked-joint : (wish : Wish) (r : Looked) → LookedFor k leaf wish n row tree held after r → r.ok ≡ true
+  pub looked-joint : {after : List ℕ} (wish : Option Wish) (r : Looked) → Granted k leaf wish n row tree held after r → length after ≡ row_length
       → (want : Bool) (at : ℕ) → (want ≡ true → at < r.count) → Joint k leaf r.count want at after tree
-  looked-joint wish r looked good want at inside =
+  looked-joint wish r looked sized want at inside =
       record {
         size = omega (arith, ready.small);
         is_leaf = ready.is_leaf;
         tree-sized = ready.is-tree.sized;
-        sized = looked.sized;
-        blank = looked.blank good;
+        sized = sized;
+        blank = looked.blank;
         room = omega (arith, looked.within, ready.small, ready.few);
         inside = inside;
-        leaves = looked.leaves good (ready-leaves ready);
+        leaves = looked.leaves (ready-leaves ready);
       }
-
--- A round's close as `close_of` gives it.
-abbrev pub closing : (waiting held : ℕ) → Close
-closing waiting held = record { count = waiting + held; mark = pick (exceeds_limit waiting held) 9 0 }
 
 ended-at-close : (b : Bool) (g : Going) (p : Prog ℕ (Outcome ℕ)) → pick b (shut 9 g) (on g p) ≡ ended_with (pick b 9 0) g p
 ended-at-close true g p = refl
 ended-at-close false g p = refl
 
-module _ {k leaf n : ℕ} {w : Option round.Wish} {row tree held : List ℕ} {taken : Option Slot} {want : Bool} {at m : ℕ} {after row' tree' : List ℕ} {left : ℕ}
+module _ {k leaf n : ℕ} {w : math.Option round.Wish} {row tree held : List ℕ} {taken : math.Option Slot} {want : Bool} {at m : ℕ} {after row' tree' : List ℕ} {left : ℕ}
     (ready : RoundReady k leaf n row tree held) (i : InHand k leaf n w row tree held taken (removed want at (take m (slots_in after))))
     (settled : Settled k leaf m want at after tree row' tree' left) (room : m ≤ places) where
   abbrev result : Written (Node ℕ)

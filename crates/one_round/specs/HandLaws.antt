@@ -1,5 +1,6 @@
 -- The read half over the words is the read half over the waiting nodes: damage in the one is damage in the other, else the words in hand
 -- are those of the nodes in hand, which are within their widths.
+use Rattle.std.specs.Prelude as prelude
 use Rattle.std.specs.Prelude.{◌≡◌, refl, true, false, List, ◌++◌, map, ℕ, ◌^◌, ◌<◌, take, get_or}
 use Rattle.std.proofs.Common.{sym, ◌∙◌, ap, subst, arith, get_or-take}
 use mathlib.Core.List.Memᴰ
@@ -27,7 +28,7 @@ use Rattle.leaf_spec.specs.Leaf.{leaf_format}
 use Rattle.leaf_spec.specs.Convert.{to_node}
 use Rattle.slot_spec.specs.Row.{zero_slot}
 use Rattle.word_round_laws.specs.SlotRow.{slots_in}
-use Rattle.path_reader.specs.Look.{wish_of, wanted, hand_of, LookedFor}
+use Rattle.path_reader.specs.Look.{wish_of, wanted, hand_of, Granted, Refused}
 use Rattle.word_round_laws.specs.Stash.{removed}
 use Rattle.path_reader.specs.declared.Looked.{Looked}
 use Rattle.path_reader.specs.declared.Wish.{Wish}
@@ -67,27 +68,23 @@ pub record InHand (k leaf n : ℕ) (w : Option round.Wish) (row tree held : List
   pub taken-widths : All InWidths (listed hand.taken)
   pub widths : All InWidths hand.waiting
 
-module _ {k leaf n : ℕ} {row tree held after : List ℕ} (wish : Wish) (r : Looked) (ready : RoundReady k leaf n row tree held)
-    (looked : LookedFor k leaf wish n row tree held after r) where
+module _ {k leaf n : ℕ} {row tree held : List ℕ} (wish : prelude.Option Wish) (ready : RoundReady k leaf n row tree held) where
   abbrev half : Option (Hand (Node ℕ))
   half = read_half leaf_format k tree leaf (wish_of wish) held (waiting_in n row)
 
-  abbrev joint : List Slot
-  joint = take r.count (slots_in after)
-
-  looked-half : Option.map (map_hand words_for) half ≡ pick r.ok (some (hand_of (wanted wish) r.at joint)) none
-  looked-half =
+  word-half : Option.map (map_hand words_for) half ≡ read_half words_format k tree leaf (wish_of wish) held (take n (slots_in row))
+  word-half =
       sym (read-words k tree ready.is-tree leaf ready.is_leaf (wish_of wish) held (waiting_in n row) ready.holds.ranged)
       ∙ ap (read_half words_format k tree leaf (wish_of wish) held) (sym ready.holds.exact)
-      ∙ looked.half
 
-  pub looked-damage : r.ok ≡ false → half ≡ none
-  looked-damage bad = map-none (map_hand words_for) half (looked-half ∙ rw bad)
+  pub looked-damage : {after : List ℕ} → Refused k leaf wish n row tree held after → half ≡ none
+  looked-damage looked = map-none (map_hand words_for) half (word-half ∙ looked.half)
 
-  pub looked-hand : r.ok ≡ true
-      → InHand k leaf n (wish_of wish) row tree held (pick (wanted wish) (some (get_or joint r.at zero_slot)) none) (removed (wanted wish) r.at joint)
-  looked-hand good =
-      let q : Option.map (map_hand words_for) half ≡ some (hand_of (wanted wish) r.at joint) = looked-half ∙ rw good in
+  pub looked-hand : {after : List ℕ} (r : Looked) → Granted k leaf wish n row tree held after r
+      → InHand k leaf n (wish_of wish) row tree held (pick (wanted wish) (some (get_or (take r.count (slots_in after)) r.at zero_slot)) none) (removed (wanted wish) r.at (take r.count (slots_in after)))
+  looked-hand {after} r looked =
+      let joint : List Slot = take r.count (slots_in after) in
+      let q : Option.map (map_hand words_for) half ≡ some (hand_of (wanted wish) r.at joint) = word-half ∙ looked.half in
       let m = map-some (map_hand words_for) half (hand_of (wanted wish) r.at joint) q in
       let h = m.0 in
       let all = hand-widths k tree ready.is-tree leaf ready.is_leaf (wish_of wish) held (waiting_in n row) ready.holds.ranged h m.1 in

@@ -1,5 +1,6 @@
 -- A round that wants a node: it finds damage, the node fails its structure's test, or the round goes through.
-use Rattle.std.specs.Prelude.{◌≡◌, refl, true, false, List, [], ◌∷◌, ◌++◌, map, ℕ, ◌+◌, ◌≤◌, length, take, get_or}
+use Rattle.std.specs.Prelude as prelude
+use Rattle.std.specs.Prelude.{◌≡◌, refl, true, false, Some, None, List, [], ◌∷◌, ◌++◌, map, ℕ, ◌+◌, ◌≤◌, length, take, get_or}
 use Rattle.std.proofs.Common.{sym, ◌∙◌, ap, subst, append-nil, arith, length-append}
 use Rattle.std.proofs.Math.Option.{Option, none, some}
 use Rattle.std.proofs.lemmas.List.{length-map}
@@ -15,24 +16,25 @@ use Rattle.leaf_spec.specs.Leaf.{leaf_format}
 use Rattle.leaf_spec.specs.Convert.{to_node}
 use Rattle.word_round_laws.specs.SlotRow.{places, slots_in}
 use Rattle.slot_spec.specs.Row.{zero_slot}
-use Rattle.path_reader.specs.Look.{LookedFor}
+use Rattle.path_reader.specs.Look.{Granted, Refused}
 use Rattle.word_round_laws.specs.Stash.{removed}
 use Rattle.eviction.specs.Settle.{Settled}
 use Rattle.word_round_laws.specs.KeepLaws.{taken_keys}
 use Rattle.path_reader.specs.declared.Looked.{Looked}
 use Rattle.path_reader.specs.declared.Wish as wish
-use Rattle.path_reader.specs.declared.Wish.TheVariants as wished
 use Rattle.stash_laws.specs.Waiting.{waiting_in}
 use Rattle.bucket_call_spec.specs.Peak.{peak_at}
 use Rattle.peak_laws.specs.PeakLaws.{peak-damage}
+use Rattle.round_close.specs.Fault.{mark_of, closing, closed-mark}
 use Rattle.round_close.specs.declared.Close.{Close}
+use Rattle.round_close.specs.declared.Fault.TheVariants.{Damage}
 use Rattle.bucket_call_spec.specs.Fetch.{Held, Going, shut, at_close, written, revealing, held_keys, wish_for, took_round, want_round}
 use Rattle.state_spec.specs.Ticket.{structure_of}
 use Rattle.operation_spec.specs.declared.Want as want
 use Rattle.operation_spec.specs.Method.{to_want}
 use Rattle.one_round.specs.OneRound.{going, taken_as, RoundReady, Rests, Wanted}
 use Rattle.one_round.specs.HandLaws.{InHand, looked-damage, looked-hand, taken-node}
-use Rattle.one_round.specs.CloseLaws.{closing, settled-rests, settled-close, settled-counts}
+use Rattle.one_round.specs.CloseLaws.{settled-rests, settled-close, settled-counts}
 use Rattle.one_round.specs.IdleLaws.{ready-rests}
 
 -- ---- the definition's three ways
@@ -55,12 +57,10 @@ module _ {A : Type 0} (s : Structure) (entries k d : ℕ) (w : Want ℕ) (c : No
   unfolding want_round took_round
   want-taken h e read taken passed = rw (read, want_round, taken, passed)
 
-abbrev pub wish_of_want : want.Want → wish.Wish
-wish_of_want w = wished.Node w.link.key w.link.tag
+abbrev pub wish_of_want : want.Want → prelude.Option wish.Wish
+wish_of_want w = Some (record { key = w.link.key; tag = w.link.tag })
 
-module _ {k n : ℕ} {row tree held after : List ℕ} (structure entries : ℕ) (w : want.Want) (r : Looked)
-    (ready : RoundReady k w.link.tag n row tree held)
-    (looked : LookedFor k w.link.tag (wish_of_want w) n row tree held after r) where
+module _ {k n : ℕ} {row tree held : List ℕ} (structure entries : ℕ) (w : want.Want) (ready : RoundReady k w.link.tag n row tree held) where
   abbrev leaf : ℕ
   leaf = w.link.tag
 
@@ -72,11 +72,10 @@ module _ {k n : ℕ} {row tree held after : List ℕ} (structure entries : ℕ) 
       ap (λ (ks : List ℕ). read_half leaf_format k tree leaf (some (wish_for (to_want w))) ks (waiting_in n row)) keys ∙ read
 
   -- Damage, whether found by the read half or by the structure's test: all is as it was.
-  want-shut : (found : node.Node)
-      → ((hs : List Held) (ls : List ℕ) (d : ℕ) (c : Node ℕ → Prog ℕ (Outcome ℕ)) → map (λ (h : Held). h.node.key) hs ≡ held
+  want-shut : ((hs : List Held) (ls : List ℕ) (d : ℕ) (c : Node ℕ → Prog ℕ (Outcome ℕ)) → map (λ (h : Held). h.node.key) hs ≡ held
       → want_round (structure_of structure) entries k d (to_want w) c (going n row tree hs ls) ≡ shut 8 (revealing leaf (going n row tree hs ls)))
-      → Wanted structure entries k n w row tree held row tree (record { mark = 8; waiting = n; count = 0; taken = false; node = found })
-  want-shut found shuts =
+      → Wanted structure entries k n w row tree held row tree (record { fault = Some Damage; waiting = n; count = 0; node = None })
+  want-shut shuts =
       record {
         round = λ hs ls d c keys. rw (append-nil hs) (shuts hs ls d c keys);
         counted = λ hs ls d c keys. ap peak_at (shuts hs ls d c keys) ∙ peak-damage (Outcome ℕ) (revealing leaf (going n row tree hs ls));
@@ -85,33 +84,33 @@ module _ {k n : ℕ} {row tree held after : List ℕ} (structure entries : ℕ) 
         rests = rw (append-nil held) (ready-rests ready);
       }
 
-  pub want-damage : (found : node.Node) → r.ok ≡ false
-      → Wanted structure entries k n w row tree held row tree (record { mark = 8; waiting = n; count = 0; taken = false; node = found })
-  want-damage found bad =
-      want-shut found
+  pub want-damage : {after : List ℕ} → Refused k w.link.tag (wish_of_want w) n row tree held after
+      → Wanted structure entries k n w row tree held row tree (record { fault = Some Damage; waiting = n; count = 0; node = None })
+  want-damage looked =
+      want-shut
       (λ hs ls d c keys. want-damaged (structure_of structure) entries k d (to_want w) c (going n row tree hs ls)
-      (with-held hs ls none keys (looked-damage (wish_of_want w) r ready looked bad)))
+      (with-held hs ls none keys (looked-damage (wish_of_want w) ready looked)))
 
-  module _ (good : r.ok ≡ true) where
+  module _ {after : List ℕ} (r : Looked) (looked : Granted k w.link.tag (wish_of_want w) n row tree held after r) where
     abbrev joint : List Slot
     joint = take r.count (slots_in after)
 
     in-hand : InHand k leaf n (some (wish_for (to_want w))) row tree held (some (get_or joint r.at zero_slot)) (removed true r.at joint)
-    in-hand = looked-hand (wish_of_want w) r ready looked good
+    in-hand = looked-hand (wish_of_want w) ready r looked
 
     in-hand-taken : in-hand.hand.taken ≡ some (to_node r.node)
-    in-hand-taken = taken-node r.at r.count after r.node in-hand (looked.inside refl good) (looked.node refl good)
+    in-hand-taken = taken-node r.at r.count after r.node in-hand (looked.inside refl) (looked.node refl)
 
-    pub want-untested : (found : node.Node) → test (structure_of structure) entries (to_want w) (to_node r.node) ≡ false
-        → Wanted structure entries k n w row tree held row tree (record { mark = 8; waiting = n; count = 0; taken = false; node = found })
-    want-untested found failed =
-        want-shut found
+    pub want-untested : test (structure_of structure) entries (to_want w) (to_node r.node) ≡ false
+        → Wanted structure entries k n w row tree held row tree (record { fault = Some Damage; waiting = n; count = 0; node = None })
+    want-untested failed =
+        want-shut
         (λ hs ls d c keys. want-failed (structure_of structure) entries k d (to_want w) c (going n row tree hs ls) in-hand.hand (to_node r.node)
         (with-held hs ls (some in-hand.hand) keys in-hand.read) in-hand-taken failed)
 
     pub want-goes : {row' tree' : List ℕ} {left : ℕ} (close : Close) → test (structure_of structure) entries (to_want w) (to_node r.node) ≡ true
         → Settled k leaf r.count true r.at after tree row' tree' left → close ≡ closing left (length held + 1)
-        → Wanted structure entries k n w row tree held row' tree' (record { mark = close.mark; waiting = left; count = close.count; taken = true; node = r.node })
+        → Wanted structure entries k n w row tree held row' tree' (record { fault = close.fault; waiting = left; count = close.count; node = Some r.node })
     want-goes {row'} {tree'} {left} close passed settled closed =
         let i = in-hand in
         let room : r.count ≤ places = omega (arith, looked.within, ready.small, ready.few) in
@@ -127,7 +126,7 @@ module _ {k n : ℕ} {row tree held after : List ℕ} (structure entries : ℕ) 
         record {
           round =
               λ hs ls d c keys. closes hs ls d c keys
-              ∙ settled-close ready i settled room hs (heldThen hs d) ls (c (retag d (to_node r.node))) (length held + 1) close.mark (many hs d keys) (ap (λ (x : Close). x.mark) closed);
+              ∙ settled-close ready i settled room hs (heldThen hs d) ls (c (retag d (to_node r.node))) (length held + 1) (mark_of close.fault) (many hs d keys) (closed-mark close left (length held + 1) closed);
           counted =
               λ hs ls d c keys. ap peak_at (closes hs ls d c keys)
               ∙ settled-counts ready i settled room hs (heldThen hs d) ls (c (retag d (to_node r.node))) (length held + 1) close.count (many hs d keys) (ap (λ (x : Close). x.count) closed);

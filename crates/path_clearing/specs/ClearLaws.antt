@@ -137,14 +137,11 @@ unfolding halvings slot_starts
 starts-aligned zero b = four-aligned b [] (all_nil Aligned)
 starts-aligned (suc n) b = four-aligned b (slot_starts (halvings n (b / 2))) (starts-aligned n (b / 2))
 
--- Number i of those that were gathered.
-pub start-aligned : (k t : ℕ) (tree from : List ℕ) (full i : ℕ) → PathGathered k t tree from full → k < levels → i < full → Aligned (get_or from i 0)
-start-aligned k t tree from full i g s h =
-    let l = length-take full from in
-    let f = ap length g.starts in
-    rw (← get_or-take full from i 0 h, g.starts)
-    (all_get_d {P = Aligned} (full_starts tree (slot_starts (path k t))) (full-all {P = Aligned} tree (slot_starts (path k t)) (starts-aligned k (leaf_bucket k t))) i 0
-    (omega (arith, g.sized, g.fewer)))
+-- Number i of a path's full slots.
+pub start-aligned : (k t : ℕ) (tree starts : List ℕ) (i : ℕ) → starts ≡ full_starts tree (slot_starts (path k t)) → i < length starts → Aligned (get_or starts i 0)
+start-aligned k t tree starts i is h =
+    all_get_d {P = Aligned} starts
+    (rw is (full-all {P = Aligned} tree (slot_starts (path k t)) (starts-aligned k (leaf_bucket k t)))) i 0 h
 
 -- Written as number j of its bucket's part.
 pub slot-cleared : (tree part after : List ℕ) (at a n : ℕ) → at + slot_length ≤ length tree → length tree % bucket_length ≡ 0 → Aligned at
@@ -167,24 +164,20 @@ slot-cleared tree part after at a n h m al q r p e =
 
 -- ---- the loop over the full slots
 -- One more is emptied.
-pub emptied-turn : (tree after from : List ℕ) (full i : ℕ) → i < full → full ≤ length from → after ≡ sets tree (get_or from i 0) (slot_bytes zero_slot)
-    → emptied tree (drop i (take full from)) ≡ emptied after (drop (i + 1) (take full from))
+pub emptied-turn : (tree after starts : List ℕ) (i : ℕ) → i < length starts → after ≡ sets tree (get_or starts i 0) (slot_bytes zero_slot)
+    → emptied tree (drop i starts) ≡ emptied after (drop (i + 1) starts)
 unfolding emptied
-emptied-turn tree after from full i h n e =
-    let l = length-take full from in
-    rw (add-one i, drop-cons (take full from) i 0 (omega arith), get_or-take full from i 0 h, e)
+emptied-turn tree after starts i h e = rw (add-one i, drop-cons starts i 0 h, e)
 
-pub emptied-end : (tree from : List ℕ) (full i : ℕ) → full ≤ i → emptied tree (drop i (take full from)) ≡ tree
+pub emptied-end : (tree starts : List ℕ) (i : ℕ) → length starts ≤ i → emptied tree (drop i starts) ≡ tree
 unfolding emptied
-emptied-end tree from full i h =
-    let l = length-take full from in
-    ap (emptied tree) (drop_of_length-le (take full from) {i = i} (omega arith))
+emptied-end tree starts i h = ap (emptied tree) (drop_of_length-le starts {i = i} h)
 
 -- The path is cleared once its full slots are emptied.
-pub path-cleared : (k t : ℕ) (tree from : List ℕ) (full : ℕ) → t < 2 ^ k → length tree ≡ tree_length k → PathGathered k t tree from full
-    → emptied tree (take full from) ≡ cleared tree (path k t)
-path-cleared k t tree from full leaf is g =
-    let h = inside k t tree leaf is in
-    ap (emptied tree) g.starts
+pub path-cleared : (k t : ℕ) (tree starts : List ℕ) → t < 2 ^ k → length tree ≡ tree_length k → starts ≡ full_starts tree (slot_starts (path k t))
+    → emptied tree starts ≡ cleared tree (path k t)
+path-cleared k t tree starts leaf tree-sized is =
+    let h = inside k t tree leaf tree-sized in
+    ap (emptied tree) is
     ∙ full-emptied tree (slot_starts (path k t)) (starts-within k (leaf_bucket k t) tree h)
     ∙ sym (path-emptied k (leaf_bucket k t) tree h)

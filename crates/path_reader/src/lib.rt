@@ -2,114 +2,88 @@
 // written, and with damage the joined ones are taken out again, so that it leaves all as it was.
 #![tactic(auto)]
 
-ghost use Rattle.std.specs.Prelude.{◌≡◌, true, false, [], ◌∷◌, ◌+◌, ◌<◌, ◌≤◌, length, take};
-ghost use Rattle.slot_spec.specs.Tree.{path};
+ghost use Rattle.std.specs.Prelude.{◌≡◌, true, [], ◌∷◌, ◌<◌, length, take};
 ghost use Rattle.slot_spec.specs.Slot.{slot_bytes};
-ghost use Rattle.round_spec.specs.Round.{keys_of, read_buckets};
+ghost use Rattle.round_spec.specs.Round.{keys_of};
 ghost use Rattle.round_spec.specs.Nodes.{words_format};
-ghost use Rattle.word_round_laws.specs.SlotRow.{places, row_length, levels, path_slots, slots_in, Blank};
+ghost use Rattle.word_round_laws.specs.SlotRow.{places, row_length, levels, slots_in, Blank};
 ghost use Rattle.list_spec.specs.Ascending.{ascending};
-ghost use Rattle.held_keys.specs.Held.{most_held};
-ghost use Rattle.path_reader.specs.Joined.{joined_of, ReadingsJoined};
-ghost use Rattle.word_round_laws.specs.Gather.{PathGathered};
-ghost use Rattle.path_reader.specs.Undo.{PathJoined, WereJoined, Undone};
-ghost use Rattle.path_reader.specs.Look.{Fit, LookedFor};
+ghost use Rattle.path_reader.specs.Joined.{ReadingsJoined};
+ghost use Rattle.path_reader.specs.Undo.{WereJoined, Undone};
+ghost use Rattle.path_reader.specs.Look.{Fit, LookedFor, PathFound, PathRead};
 
-use held_keys::{MOST_HELD, is_held};
+use held_keys::is_held;
 use path_slots::{PATH_SLOTS, gather_path};
-use slot_fields::{key_of, no_node, node_of, tag_of};
+use slot_fields::{key_of, node_of, tag_of};
 use slot_row::{find, get, join_slot, take_out};
 use slot_spec::{BUCKET_LENGTH, Node, Reading, Slot};
 use slot_words::load;
 use slots::reading;
 
-// How joining what was read went: ok or damage, and how many slots wait then.
-#[derive(Clone, Copy)]
-pub struct Joined {
-    pub ok: bool,
-    pub count: usize,
-}
+// The path has damage, or the wanted node is not there.
+#[derive(Clone, Copy, PartialEq, Eq)]
+pub struct Damage;
 
-// How joining a path went, and how many of its slots are full.
+// A path that joined: how many slots wait then, and how many of the path's are full.
 #[derive(Clone, Copy)]
 pub struct Gathered {
-    pub ok: bool,
     pub count: usize,
     pub full: usize,
 }
 
-// What a round wants: nothing, or the node with a key, under the tag of the link that leads to it.
+// The node that a round wants: its key, and the tag of the link that leads to it.
 #[derive(Clone, Copy)]
-pub enum Wish {
-    Nothing,
-    Node(u32, u16),
+pub struct Wish {
+    pub key: u32,
+    pub tag: u16,
 }
 
-// What looking for it answers: ok or damage, how many slots are joined, of a wanted node its place among them and the node, and
-// how many slots of the path are full.
+// What looking for it answers: how many slots are joined, of a wanted node its place among them and the node, and how many slots of
+// the path are full.
 #[derive(Clone, Copy)]
 pub struct Looked {
-    pub ok: bool,
     pub count: usize,
     pub at: usize,
     pub node: Node,
     pub full: usize,
 }
 
-// One slot of the path joins the first m.
+// One slot of the path joins the first m; how many wait then.
 fn join_reading(
     s: &mut [u8],
     m: usize,
     x: Slot,
     size: usize,
     bucket: usize,
-    held: &[u32; MOST_HELD],
-    holds: usize,
-) -> Joined
-    requires { (length s.old ≡ row_length) × (m < places) × (ascending (keys_of words_format (take m (slots_in s.old))) ≡ true) × Blank m s.old × (size < levels) × (length held.now ≡ most_held) × (holds ≤ most_held) }
-    ensures { ReadingsJoined size (take holds held.now) (words_format.read size bucket (slot_bytes x) ∷ []) m s.old s.new result }
+    held: &[u32],
+) -> Result<usize, Damage>
+    requires { (length s.old ≡ row_length) × (m < places) × (ascending (keys_of words_format (take m (slots_in s.old))) ≡ true) × Blank m s.old × (size < levels) }
+    ensures { ReadingsJoined size held.now (words_format.read size bucket (slot_bytes x) ∷ []) m s.old s.new result }
 {
-    let r = reading(x, size, bucket);
-    let Reading::Full(n) = r else {
-        let Reading::Empty = r else {
-            return Joined {
-                ok: false,
-                count: m,
-            };
-        };
-        return Joined { ok: true, count: m };
-    };
-    if is_held(held, holds, n.key) {
-        return Joined {
-            ok: false,
-            count: m,
-        };
-    }
-    if !join_slot(s, m, x) {
-        return Joined {
-            ok: false,
-            count: m,
-        };
-    }
-    Joined {
-        ok: true,
-        count: m + 1,
+    match reading(x, size, bucket) {
+        Reading::Empty => Ok(m),
+        Reading::Full(n) => {
+            if !is_held(held, n.key) && join_slot(s, m, x) {
+                Ok(m + 1)
+            } else {
+                Err(Damage)
+            }
+        }
+        Reading::Bad => Err(Damage),
     }
 }
 
-// The slots of a tree that start at the first `joined` numbers and joined, which makes m, are taken out again, the last first.
-pub fn undo(s: &mut [u8], m: usize, tree: &[u8], from: &[u32; PATH_SLOTS], joined: usize)
-    requires { WereJoined tree.now from.now joined m s.old }
-    ensures { Undone tree.now from.now joined m s.old s.new }
+// The slots of a tree that start at some bytes and joined, which makes m, are taken out again, the last first.
+pub fn undo(s: &mut [u8], m: usize, tree: &[u8], starts: &[u32])
+    requires { (length s.old ≡ row_length) × WereJoined tree.now starts.now m s.old }
+    ensures { Undone tree.now starts.now m s.old s.new }
 {
     let mut count = m;
-    let mut i = joined;
-    while 0 < i {
-        let x = load(tree, from[i - 1] as usize);
+    for i in (0..starts.len()).rev() {
+        let x = load(tree, starts[i] as usize);
         let at = find(s, count, key_of(x));
         take_out(s, count, at);
         count -= 1;
-        i -= 1;
     }
 }
 
@@ -120,49 +94,24 @@ fn read_path(
     tree: &[u8],
     size: usize,
     leaf: usize,
-    held: &[u32; MOST_HELD],
-    holds: usize,
+    held: &[u32],
     from: &mut [u32; PATH_SLOTS],
-) -> Gathered
-    requires { Fit size leaf n s.old tree.now (take holds held.now) × (length held.now ≡ most_held) × (holds ≤ most_held) × (length from.old ≡ path_slots) }
-    ensures { ReadingsJoined size (take holds held.now) (read_buckets words_format size tree.now (path size leaf)) n s.old s.new (joined_of result) × PathGathered size leaf tree.now from.new result.full × (result.ok ≡ true → PathJoined size (take holds held.now) (take n (slots_in s.old)) tree.now from.new result.full result.count s.new) }
+) -> Result<Gathered, Damage>
+    requires { Fit size leaf n s.old tree.now held.now }
+    ensures { PathRead size leaf n s.old tree.now held.now from.new s.new result }
 {
     let full = gather_path(tree, size, leaf, from);
     let mut count = n;
-    let mut i = 0;
-    while i < full {
+    for i in 0..full {
         let at = from[i] as usize;
         let x = load(tree, at);
-        let r = join_reading(s, count, x, size, at / BUCKET_LENGTH + 1, held, holds);
-        if !r.ok {
-            undo(s, count, tree, from, i);
-            return Gathered {
-                ok: false,
-                count: n,
-                full,
-            };
-        }
-        count = r.count;
-        i += 1;
+        let Ok(joined) = join_reading(s, count, x, size, at / BUCKET_LENGTH + 1, held) else {
+            undo(s, count, tree, &from[..i]);
+            return Err(Damage);
+        };
+        count = joined;
     }
-    Gathered {
-        ok: true,
-        count,
-        full,
-    }
-}
-
-// What looking for a wanted node answers where there is damage.
-fn damage() -> Looked
-    ensures { (result.ok ≡ false) × (result.count ≡ 0) }
-{
-    Looked {
-        ok: false,
-        count: 0,
-        at: 0,
-        node: no_node(),
-        full: 0,
-    }
+    Ok(Gathered { count, full })
 }
 
 // The read half of a round: the path's slots join the n waiting ones, in key order, and the wanted one is found there. The caller
@@ -173,43 +122,34 @@ pub fn look(
     tree: &[u8],
     size: usize,
     leaf: usize,
-    wish: Wish,
-    held: &[u32; MOST_HELD],
-    holds: usize,
+    wish: Option<Wish>,
+    held: &[u32],
     from: &mut [u32; PATH_SLOTS],
-) -> Looked
-    requires { Fit size leaf n w.old tree.now (take holds held.now) × (length held.now ≡ most_held) × (holds ≤ most_held) × (length from.old ≡ path_slots) }
-    ensures { LookedFor size leaf wish n w.old tree.now (take holds held.now) w.new result × (result.ok ≡ true → PathGathered size leaf tree.now from.new result.full × PathJoined size (take holds held.now) (take n (slots_in w.old)) tree.now from.new result.full result.count w.new) × (length from.new ≡ path_slots) }
+) -> Result<Looked, Damage>
+    requires { Fit size leaf n w.old tree.now held.now }
+    ensures { LookedFor size leaf wish n w.old tree.now held.now w.new result × PathFound size leaf n w.old tree.now held.now from.new w.new result }
 {
-    let r = read_path(w, n, tree, size, leaf, held, holds, from);
-    if !r.ok {
-        return damage();
-    }
-    let count = r.count;
-    let Wish::Node(key, tag) = wish else {
-        return Looked {
-            ok: true,
+    let Gathered { count, full } = read_path(w, n, tree, size, leaf, held, from)?;
+    let Some(wish) = wish else {
+        return Ok(Looked {
             count,
             at: 0,
-            node: no_node(),
-            full: r.full,
-        };
+            node: Node::default(),
+            full,
+        });
     };
-    let at = find(w, count, key);
-    if count <= at {
-        undo(w, count, tree, from, r.full);
-        return damage();
+    let at = find(w, count, wish.key);
+    if at < count {
+        let x = get(w, at);
+        if tag_of(x) == wish.tag {
+            return Ok(Looked {
+                count,
+                at,
+                node: node_of(x),
+                full,
+            });
+        }
     }
-    let x = get(w, at);
-    if tag_of(x) != tag {
-        undo(w, count, tree, from, r.full);
-        return damage();
-    }
-    Looked {
-        ok: true,
-        count,
-        at,
-        node: node_of(x),
-        full: r.full,
-    }
+    undo(w, count, tree, &from[..full]);
+    Err(Damage)
 }

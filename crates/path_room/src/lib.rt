@@ -1,7 +1,7 @@
 // Room on a path: the first level whose bucket has a slot left.
 #![tactic(auto)]
 
-ghost use Rattle.std.specs.Prelude.{◌≡◌, ◌+◌, ◌<◌, ◌≤◌, length, take};
+ghost use Rattle.std.specs.Prelude.{◌≡◌, ◌+◌, ◌<◌, ◌≤◌, take};
 ghost use Rattle.word_round_laws.specs.SlotRow.{levels};
 ghost use Rattle.word_round_laws.specs.Fill.{room_from};
 
@@ -9,15 +9,13 @@ use path_levels::{BUCKET_SLOTS, LEVELS};
 
 // The first level from a given one up whose bucket has room, of the numbers of slots that are used at each; size + 1 if none has.
 pub fn room_from(used: &[usize; LEVELS], size: usize, from: usize) -> usize
-    requires { (length used.now ≡ levels) × (size < levels) × (from ≤ size) }
+    requires { (size < levels) × (from ≤ size) }
     ensures { result ≡ room_from from (take (size + 1) used.now) }
 {
-    let mut level = from;
-    while level <= size {
+    for level in from..size + 1 {
         if used[level] < BUCKET_SLOTS {
             return level;
         }
-        level += 1;
     }
-    level
+    size + 1
 }

@@ -20,39 +20,32 @@ pub const PATH_SLOTS: usize = BUCKET_SLOTS * LEVELS;
 fn full(x: Slot) -> usize
     ensures { result ≡ pick (all_zero (slot_bytes x)) 0 1 }
 {
-    if is_zero(x) {
-        return 0;
-    }
-    1
+    usize::from(!is_zero(x))
 }
 
 // Where the full slots of the bucket that starts at a byte start, after the first m. Each slot's start is written to the next
 // place, and stays there if the slot is full.
 fn gather_bucket(tree: &[u8], start: usize, m: usize, from: &mut [u32; PATH_SLOTS]) -> usize
-    requires { (start + bucket_length ≤ length tree.now) × (start < 2 ^ 24) × (length from.old ≡ path_slots) × (m + 4 ≤ path_slots) }
-    ensures { (length from.new ≡ path_slots) × (result ≤ m + 4) × (take result from.new ≡ take m from.old ++ full_starts tree.now (four_from start)) }
+    requires { (start + bucket_length ≤ length tree.now) × (start < 2 ^ 24) × (m + 4 ≤ path_slots) }
+    ensures { (result ≤ m + 4) × (take result from.new ≡ take m from.old ++ full_starts tree.now (four_from start)) }
 {
     let mut count = m;
-    let mut j = 0;
-    while j < BUCKET_SLOTS {
+    for j in 0..BUCKET_SLOTS {
         let at = start + SLOT_LENGTH * j;
         from[count] = at as u32;
         count += full(load(tree, at));
-        j += 1;
     }
     count
 }
 
 // Where the full slots of a leaf's path start, from the leaf's bucket up.
 pub fn gather_path(tree: &[u8], size: usize, leaf: usize, from: &mut [u32; PATH_SLOTS]) -> usize
-    requires { (size < levels) × (leaf < 2 ^ size) × (length tree.now ≡ tree_length size) × (length from.old ≡ path_slots) }
+    requires { (size < levels) × (leaf < 2 ^ size) × (length tree.now ≡ tree_length size) }
     ensures { PathGathered size leaf tree.now from.new result }
 {
     let mut count = 0;
-    let mut level = 0;
-    while level <= size {
+    for level in 0..size + 1 {
         count = gather_bucket(tree, start_at(size, leaf, level), count, from);
-        level += 1;
     }
     count
 }

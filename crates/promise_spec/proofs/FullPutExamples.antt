@@ -24,7 +24,7 @@ use Rattle.state_spec.specs.Fit.{all_of, root_good, ahead_good, fits, head_fits,
 use Rattle.state_spec.specs.Ticket.{op_in, fields_used, stray_fields}
 use Rattle.state_spec.specs.Opening.{opened}
 use Rattle.operation_spec.specs.declared.Answer.TheVariants.{Replaced}
-use Rattle.call_spec.specs.declared.Reply.TheVariants.{Answered, Refused}
+use Rattle.call_spec.specs.Reply.{Answered, Refused}
 use Rattle.call_spec.specs.Store.{Ended, checks, first_met, decided, called, replied, reply_of}
 use Rattle.promise_spec.specs.FullPut.{full_put, present_on_full, full_put_call, Differ, here, there, OneSlot, stands, ten-then-replaced, OnlyValue}
 use Rattle.promise_spec.specs.AsBefore.{earlier_put_step, earlier_put_prog, earlier_programs, bucket_call_with, called_with, called_before_full_put}

@@ -20,7 +20,7 @@ use Rattle.state_spec.specs.Fit.{all_of, root_good, ahead_good, fits, head_fits,
 use Rattle.state_spec.specs.Ticket.{op_in, fields_used, stray_fields}
 use Rattle.state_spec.specs.Opening.{opened}
 use Rattle.operation_spec.specs.declared.Answer.TheVariants.{Popped}
-use Rattle.call_spec.specs.declared.Reply.TheVariants.{Answered, Refused}
+use Rattle.call_spec.specs.Reply.{Answered, Refused}
 use Rattle.call_spec.specs.Store.{Ended, refusing, checks, first_met, decided, called, replied, reply_of}
 use Rattle.promise_spec.specs.AsBefore.{without, called_before_unused_fields}
 use Rattle.promise_spec.specs.UnusedFields.{checked_before, Heard}

@@ -15,8 +15,7 @@ use Rattle.bucket_call_spec.specs.Fetch.{CallLeft, Round, fetch_rounds}
 use Rattle.bucket_call_spec.specs.Call.{Store, begun, ahead_then, after_fetches, draw_of, bucket_call}
 use Rattle.bucket_call_spec.specs.Peak.{peak_of, rounds_with}
 use Rattle.state_spec.specs.declared.State.{State}
-use Rattle.call_spec.specs.declared.Reply.{Reply}
-use Rattle.call_spec.specs.declared.Reply.TheVariants.{Refused}
+use Rattle.call_spec.specs.Reply.{Reply, Refused}
 use Rattle.call_spec.specs.Store.{Ended, replied, store_of, state_left, refusing, ending, by_rounds, Check, called_by, every}
 
 -- ---- change 2: an earlier put

@@ -4,7 +4,7 @@ use Rattle.std.specs.Prelude.{ℕ, ◌^◌, ◌<◌, ◌≡◌, Bool, ◌&&◌, 
 use Rattle.std.proofs.Math.Option.{Option, none, some}
 use Rattle.list_spec.specs.Choice.{pick}
 use Rattle.slot_spec.specs.LittleEndian.{Bytes, bytes}
-use Rattle.call_spec.specs.declared.Reply.{Reply}
+use Rattle.call_spec.specs.Reply.{Reply}
 use Rattle.call_spec.specs.Store.{Ended}
 use Rattle.lent_bytes_spec.specs.Numbers.{numbers_of}
 use Rattle.lent_bytes_spec.specs.StateBytes.{state_length, head_in, state_bytes}

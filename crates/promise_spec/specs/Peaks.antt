@@ -11,7 +11,7 @@ use Rattle.bucket_call_spec.specs.Call.{draw_of}
 use Rattle.bucket_call_spec.specs.Peak.{counts_of, call_rounds}
 use Rattle.state_spec.specs.declared.State.{State}
 use Rattle.state_spec.specs.Ticket.{op_in, structure_of}
-use Rattle.call_spec.specs.declared.Reply.TheVariants.{Refused}
+use Rattle.call_spec.specs.Reply.{Refused}
 use Rattle.call_spec.specs.Store.{store_of, called}
 use Rattle.demand_spec.specs.History.{changes_nothing, early}
 

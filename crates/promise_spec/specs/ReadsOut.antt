@@ -7,7 +7,7 @@ use Rattle.method_spec.specs.Plain.{Contents, Entries, plain, plain_contents, no
 use Rattle.method_spec.specs.Call.{capacity}
 use Rattle.bucket_call_spec.specs.Simulates.{Remains}
 use Rattle.state_spec.specs.Ticket.{op_in}
-use Rattle.call_spec.specs.declared.Reply.TheVariants.{Refused}
+use Rattle.call_spec.specs.Reply.{Refused}
 use Rattle.readout_spec.specs.Taken.{pair_of_entry, entries, report}
 use Rattle.readout_spec.specs.ReadOut.{file_of, writing, read_out}
 use Rattle.readout_spec.specs.ReadBack.{read_back}

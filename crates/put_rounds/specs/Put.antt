@@ -14,6 +14,7 @@ use Rattle.bucket_call_spec.specs.Peak.{rounds_from, peak_of}
 use Rattle.leaf_spec.specs.Leaf.{ProperLeaf}
 use Rattle.stash_laws.specs.Waiting.{waiting_in, Holds}
 use Rattle.one_round.specs.OneRound.{going, ended_with, keys_waiting}
+use Rattle.round_close.specs.Fault.{mark_of}
 use Rattle.idle_rounds.specs.declared.idle.Idle.{Idle}
 
 -- After the step: the tree is one of that size, the waiting nodes are proper and have room, and where their keys do not ascend
@@ -30,9 +31,9 @@ pub record Stepped (k n : ℕ) (row tree : List ℕ) : Type 0 where
 -- their leaves follow those of the F fetch rounds in the trace.
 pub record Puts (k n : ℕ) (draw : ℕ → ℕ) (F first : ℕ) (row tree trace row' tree' trace' : List ℕ) (r : Idle) : Type 0 where
   pub rounds : (ls : List ℕ) (o : Outcome ℕ) → put_rounds k draw F first o (going n row tree [] ls)
-      ≡ ended_with r.mark (going r.waiting row' tree' [] (ls ++ draws_from draw r.shown first)) (done o)
+      ≡ ended_with (mark_of r.fault) (going r.waiting row' tree' [] (ls ++ draws_from draw r.shown first)) (done o)
   pub peaked : (s : Structure) (e : ℕ) (ls : List ℕ) (o : Outcome ℕ) → peak_of (rounds_from s e k draw F first (done o) (going n row tree [] ls)) ≡ r.peak
   pub revealed : trace' ≡ sets trace F (draws_from draw r.shown first)
   pub holds : Holds r.waiting row'
   pub no_more : r.shown ≤ F
-  pub all_shown : r.mark ≡ 0 → r.shown ≡ F
+  pub all_shown : mark_of r.fault ≡ 0 → r.shown ≡ F

@@ -1,5 +1,5 @@
 -- The put rounds: all of them, or the damage that the first finds.
-use Rattle.std.specs.Prelude.{◌≡◌, refl, true, false, List, [], ◌∷◌, ◌++◌, ℕ, suc, ◌-◌, ◌≤◌, set}
+use Rattle.std.specs.Prelude.{◌≡◌, refl, true, false, List, [], ◌∷◌, ◌++◌, ℕ, suc, ◌-◌, ◌≤◌, set, Some}
 use Rattle.std.proofs.Common.{sym, ◌∙◌, ap, append-nil, arith}
 use Rattle.method_spec.specs.Prog.{done}
 use Rattle.method_spec.specs.Outcome.{Outcome}
@@ -18,6 +18,7 @@ use Rattle.stash_laws.specs.Waiting.{waiting_in}
 use Rattle.idle_rounds.specs.declared.idle.Idle.{Idle}
 use Rattle.idle_rounds.specs.Idle.{Between, IdledAll}
 use Rattle.idle_rounds.specs.IdleLaws.{put-shuts, draws-one}
+use Rattle.round_close.specs.declared.Fault.TheVariants.{Damage}
 use Rattle.put_rounds.specs.Put.{Stepped, Puts}
 
 module _ {k n : ℕ} {row tree : List ℕ} (b : Stepped k n row tree) where
@@ -52,7 +53,7 @@ module _ (k n : ℕ) (draw : ℕ → ℕ) (F first : ℕ) (row tree trace : List
 
   -- A key that stands twice is damage to the first round.
   pub puts-twice : Stepped k n row tree → ascending (keys_waiting n row) ≡ false → 1 ≤ F → (leaf : ℕ) → leaf ≡ draw first
-      → Puts k n draw F first row tree trace row tree (set trace F leaf) (record { mark = 8; waiting = n; shown = 1; peak = 0 })
+      → Puts k n draw F first row tree trace row tree (set trace F leaf) (record { fault = Some Damage; waiting = n; shown = 1; peak = 0 })
   puts-twice b e some leaf drawn =
       let one : draws_from draw 1 first ≡ leaf ∷ [] = draws-one draw first ∙ ap (λ (d : ℕ). d ∷ []) (sym drawn) in
       let more : F ≡ suc (F - 1) = omega arith in

@@ -3,13 +3,12 @@
 
 ghost use Rattle.std.specs.Prelude.{◌+◌, ◌*◌, ◌≤◌, length};
 ghost use Rattle.bucket_call_spec.specs.Call.{draw_of};
-ghost use Rattle.one_round.specs.OneRound.{Lent};
 ghost use Rattle.put_rounds.specs.Put.{Stepped, Puts};
 
-use held_keys::MOST_HELD;
 use idle_rounds::idle::{Idle, draw_at, idle_rounds};
 use one_round::ascends;
 use path_slots::PATH_SLOTS;
+use round_close::Fault;
 
 // So many put rounds, from draw `first` on. A new node whose key waits already is damage that the first of them finds.
 pub fn put_rounds(
@@ -19,24 +18,33 @@ pub fn put_rounds(
     size: usize,
     rounds: usize,
     first: usize,
-    keys: &[u32; MOST_HELD],
     tape: &[u16],
     trace: &mut [u16],
     from: &mut [u32; PATH_SLOTS],
 ) -> Idle
-    requires { (Stepped size n w.old tree.old) × (Lent keys.now 0 from.old) × ((1 ≤ rounds) × ((first + rounds ≤ length tape.now) × (2 * rounds ≤ length trace.old))) }
+    requires { (Stepped size n w.old tree.old) × ((1 ≤ rounds) × ((first + rounds ≤ length tape.now) × (2 * rounds ≤ length trace.old))) }
     ensures { Puts size n (draw_of size tape.now) rounds first w.old tree.old trace.old w.new tree.new trace.new result }
 {
     if !ascends(w, n) {
         trace[rounds] = draw_at(tape, first, size) as u16;
         return Idle {
-            mark: 8,
+            fault: Some(Fault::Damage),
             waiting: n,
             shown: 1,
             peak: 0,
         };
     }
     idle_rounds(
-        w, n, tree, size, keys, 0, tape, first, rounds, trace, rounds, from,
+        w,
+        n,
+        tree,
+        size,
+        &[],
+        tape,
+        first,
+        rounds,
+        trace,
+        rounds,
+        from,
     )
 }

@@ -1,5 +1,5 @@
 -- A call over bytes: refused by lengths, head or slots, or made by the core over the state that the bytes are read as.
-use Rattle.std.specs.Prelude.{◌≡◌, Bool, true, false, ◌&&◌, List, [], ◌++◌, ℕ, ◌-◌, ◌*◌, ◌/◌, ◌%◌, eqb, length, take, drop}
+use Rattle.std.specs.Prelude.{◌≡◌, Bool, true, false, ◌&&◌, Ok, Err, List, [], ◌++◌, ℕ, ◌-◌, ◌*◌, ◌/◌, ◌%◌, eqb, length, take, drop}
 use Rattle.std.proofs.Math.Path.{refl, ap}
 use Rattle.std.proofs.Common.{sym, ◌∙◌, append-nil, arith, length-drop, take-append-drop, drop_of_length-le, take_all, drop_at, length-take-le}
 use Rattle.std.proofs.Math.Bool.{and-false, and-eq-true_iff}
@@ -11,7 +11,9 @@ use Rattle.slot_laws.specs.LittleEndianLaws.{bytes_drop}
 use Rattle.state_spec.specs.declared.State.{State}
 use Rattle.state_spec.specs.Fit.{places, fits, places_fit, head_fits}
 use Rattle.state_laws.specs.FitLaws.{fits-parts, head-true}
-use Rattle.call_spec.specs.Store.{called}
+use Rattle.call_spec.specs.declared.Refusal.{Refusal}
+use Rattle.call_spec.specs.Reply.{number_of, to_reply}
+use Rattle.call_spec.specs.Store.{refusing, called}
 use Rattle.stash_laws.specs.Waiting.{waiting_in}
 use Rattle.stash.specs.Stash.{saved}
 use Rattle.lent_bytes_spec.specs.declared.StateHead.{StateHead}
@@ -20,13 +22,12 @@ use Rattle.lent_bytes_spec.specs.StateBytes.{head_length, state_length, head_in,
 use Rattle.lent_bytes_laws.specs.NumbersLaws.{numbers-written}
 use Rattle.lent_bytes_laws.specs.StateLaws.{bytes_back}
 use Rattle.host_laws.specs.LengthLaws.{good-lengths}
-use Rattle.byte_states.specs.Refusal.{bytes_refusal}
+use Rattle.byte_states.specs.Refusal.{bytes_refusal, core_head}
 use Rattle.byte_states.specs.PlacesFit.{state_of}
 use Rattle.byte_states.specs.HeadLaws.{Refuses, closed, unfit, neither, refuses}
 use Rattle.byte_states.specs.RowLaws.{fit-loaded}
 use Rattle.call_ending.specs.declared.Ran.{Ran}
 use Rattle.call_core.specs.Run.{StandsFor, left_of, CallsAs}
-use Rattle.host_calls.specs.Left.{core_head}
 use Rattle.host_spec.specs.Result.{reply_number, reply_value, result_bytes}
 use Rattle.host_spec.specs.Host.{host_leaving, lengths_good, host_ended_as, host_called}
 
@@ -159,8 +160,26 @@ module _ (state tree ticket tape trace result : List ℕ) where
               loaded = fit-loaded h slots few (slots-sized state sizes) (bytes_drop head_length state bytes) both.0 both.1;
             }
 
+        same-called : (trace' : List ℕ) → called (state_of h slots) tree ticket (numbers_of tape) trace' ≡ called (state_in state) tree ticket (numbers_of tape) trace'
+        same-called trace' = ap (λ (x : State). called x tree ticket (numbers_of tape) trace') same-state
+
+        -- Where the core refuses, all is as it came.
+        pub core-refuses : {n : Refusal} {row' tree' : List ℕ} (trace' : List ℕ) → CallsAs (core_head h) slots tree ticket (numbers_of tape) (numbers_of trace) row' tree' (numbers_of trace') (Err n)
+            → Bytes trace' → length trace' ≡ length trace
+            → host_leaving (number_of n) (lent state row') tree' trace' result ≡ host_called state tree ticket tape trace result
+        unfolding host_called
+        core-refuses {n} {row'} {tree'} trace' made trace-bytes same =
+            let s = state_of h slots in
+            let row-back : lent state row' ≡ state_bytes s =
+            ap (lent state) made.waits ∙ lent_back state ∙ sym (ap state_bytes same-state ∙ bytes_back state bytes sizes both.0) in
+            let g = good-lengths (length state) (length tape) (length trace) (length result) lengths in
+            let back : trace' ≡ numbers_bytes (numbers_of trace') = sym (numbers-written (length trace' / 2) trace' trace-bytes (omega (arith, same, g.trace-even))) in
+            let made_so : host_leaving (number_of n) (lent state row') tree' trace' result ≡ host_ended_as result (refusing (number_of n) s tree' (numbers_of trace')) =
+            rw (row-back, ← back) in
+            made_so ∙ ap (host_ended_as result) (made.calls s stands ∙ same-called (numbers_of trace)) ∙ rw (lengths, eq-eqb h.mark 0 p.unmarked, fits_whole)
+
         -- What the core left is what the call leaves.
-        module _ {r : Ran} {row' tree' : List ℕ} (trace' : List ℕ) (made : CallsAs (core_head h) slots tree ticket (numbers_of tape) (numbers_of trace) row' tree' (numbers_of trace') r)
+        module _ {r : Ran} {row' tree' : List ℕ} (trace' : List ℕ) (made : CallsAs (core_head h) slots tree ticket (numbers_of tape) (numbers_of trace) row' tree' (numbers_of trace') (Ok r))
             (trace-bytes : Bytes trace') (same : length trace' ≡ length trace) where
           abbrev s : State
           s = state_of h slots
@@ -168,26 +187,19 @@ module _ (state tree ticket tape trace result : List ℕ) where
           abbrev saving : List ℕ → State
           saving row = saved h.structure h.size r.mark r.entries r.root r.ahead (waiting_in r.waiting row)
 
-          ended : called (state_in state) tree ticket (numbers_of tape) (numbers_of trace) ≡ left_of s r row' tree' (numbers_of trace')
-          ended = ap (λ (x : State). called x tree ticket (numbers_of tape) (numbers_of trace)) (sym same-state) ∙ sym (made.calls s stands)
-
-          state-left : pick r.ran (state_bytes (saving (drop head_length (lent state row')))) (lent state row') ≡ state_bytes (pick r.ran (saving row') s)
-          state-left = go r.ran refl
-            where
-              go : (b : Bool) → r.ran ≡ b → pick b (state_bytes (saving (drop head_length (lent state row')))) (lent state row') ≡ state_bytes (pick b (saving row') s)
-              go true e = ap (λ (row : List ℕ). state_bytes (saving row)) (lent_row state sizes row')
-              go false e = ap (lent state) (made.kept e) ∙ lent_back state ∙ sym (ap state_bytes same-state ∙ bytes_back state bytes sizes both.0)
+          ended : called (state_in state) tree ticket (numbers_of tape) (numbers_of trace) ≡ left_of s (Ok r) row' tree' (numbers_of trace')
+          ended = sym (made.calls s stands ∙ same-called (numbers_of trace))
 
           trace-left-so : length trace % number_length ≡ 0 → trace' ≡ numbers_bytes (numbers_of trace')
           trace-left-so even = sym (numbers-written (length trace' / 2) trace' trace-bytes (omega (arith, same, even)))
 
-          pub call_ends : (number : ℕ) (left filled : List ℕ) → number ≡ reply_number r.reply
-              → left ≡ pick r.ran (state_bytes (saving (drop head_length (lent state row')))) (lent state row')
-              → filled ≡ pick (eqb r.leaves 0) result (result_bytes (reply_value r.reply) r.leaves r.peak)
-              → host_leaving number left tree' trace' filled ≡ host_called state tree ticket tape trace result
+          pub call_ends : (left filled : List ℕ)
+              → left ≡ state_bytes (saving (drop head_length (lent state row')))
+              → filled ≡ pick (eqb r.leaves 0) result (result_bytes (reply_value (to_reply r.reply)) r.leaves r.peak)
+              → host_leaving (reply_number (to_reply r.reply)) left tree' trace' filled ≡ host_called state tree ticket tape trace result
           unfolding host_called
-          call_ends number left filled en el ef =
+          call_ends left filled el ef =
               let g = good-lengths (length state) (length tape) (length trace) (length result) lengths in
-              let made_so : host_leaving number left tree' trace' filled ≡ host_ended_as result (left_of s r row' tree' (numbers_of trace')) =
-              rw (en, el ∙ state-left, ef, ← trace-left-so g.trace-even) in
+              let made_so : host_leaving (reply_number (to_reply r.reply)) left tree' trace' filled ≡ host_ended_as result (left_of s (Ok r) row' tree' (numbers_of trace')) =
+              rw (el ∙ ap (λ (row : List ℕ). state_bytes (saving row)) (lent_row state sizes row'), ef, ← trace-left-so g.trace-even) in
               made_so ∙ ap (host_ended_as result) (sym ended) ∙ rw (lengths, eq-eqb h.mark 0 p.unmarked, fits_whole)

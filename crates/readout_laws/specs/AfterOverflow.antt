@@ -17,7 +17,7 @@ use Rattle.bucket_call_spec.specs.Simulates.{Remains}
 use Rattle.simulation_laws.specs.Entries.{entries-perm}
 use Rattle.state_spec.specs.declared.State.{State}
 use Rattle.state_spec.specs.Ticket.{op_in}
-use Rattle.call_spec.specs.declared.Reply.TheVariants.{Refused}
+use Rattle.call_spec.specs.Reply.{Refused}
 use Rattle.demand_spec.specs.History.{Brought, StateAndTree, call_on, left_by, finally, pairs_in}
 use Rattle.demand_spec.specs.Demands.{fetching, opened_store, method, start, before, asked, left, ClosedBy, Ending, stays_open, closes}
 use Rattle.list_spec.specs.Ascending.{ascending}

@@ -27,7 +27,7 @@ use Rattle.fitness_laws.specs.FitState.{places-length}
 use Rattle.method_spec.specs.Plain.{Pair}
 use Rattle.readout_spec.specs.Seen.{Seen, slot_place, bucket_of, slot_count, slot_bytes_at, place_reading, slots_seen, waiting_seen}
 use Rattle.readout_spec.specs.Taken.{Entry, pair_of_entry, good, firsts, entries, Omitted, report}
-use Rattle.readout_spec.specs.ReadOut.ReadOut.{Written}
+use Rattle.readout_spec.specs.ReadOut.{Written}
 use Rattle.readout_spec.specs.ReadOut.{file_of, known, read_out}
 use Rattle.readout_spec.specs.File.{count_width, key_width, offset_width, value_width, place_width, reason_width, index_width, report_width, index, values_part, report_part, values_start, report_start, file}
 use Rattle.readout_spec.specs.ReadBack.{number_at, entries_at, report_at, count_in, read_back}

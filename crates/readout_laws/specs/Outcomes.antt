@@ -5,7 +5,7 @@ use Rattle.std.proofs.lemmas.Bool.{not-false}
 use Rattle.list_spec.specs.Choice.{pick}
 use Rattle.slot_spec.specs.Tree.{tree_length}
 use Rattle.state_spec.specs.declared.State.{State}
-use Rattle.readout_spec.specs.ReadOut.ReadOut.{Written, Refused}
+use Rattle.readout_spec.specs.ReadOut.{Written, Refused}
 use Rattle.readout_spec.specs.ReadOut.{file_of, closed_mark, known, ReadOutLeft, read_out_refusing, writing, read_out}
 
 -- The four checks and what is left, with each test's value in the place of the test.

@@ -4,7 +4,7 @@ use Rattle.std.proofs.Common.{sym, ◌∙◌, ap, arith, length-append}
 use Rattle.slot_spec.specs.Tree.{tree_length}
 use Rattle.state_spec.specs.declared.State.{State}
 use Rattle.readout_spec.specs.declared.NoFile.{NoFile}
-use Rattle.readout_spec.specs.ReadOut.ReadOut.{Written}
+use Rattle.readout_spec.specs.ReadOut.{Written}
 use Rattle.readout_spec.specs.ReadOut.{ReadOutLeft, read_out, file_of, closed_mark, known, read_out_leaving, read_out_refusing, writing, to_read_out}
 use Rattle.list_spec.specs.Choice.{pick}
 

@@ -9,7 +9,7 @@ use Rattle.slot_spec.specs.declared.Node.{Node}
 use Rattle.state_spec.specs.declared.Place.{Place}
 use Rattle.state_spec.specs.declared.State.{State}
 use Rattle.state_spec.specs.Fit.{places_from, no_place}
-use Rattle.readout_spec.specs.ReadOut.ReadOut.{Written, Refused}
+use Rattle.readout_spec.specs.ReadOut.{Written, Refused}
 use Rattle.readout_spec.specs.Seen.{slots_from, waiting_from}
 use Rattle.readout_spec.specs.Taken.{good_at, good_in, others, firsts, omitted_at, omitted_in, Omitted}
 use Rattle.readout_spec.specs.File.{index, values_part, report_part, file}

@@ -1,9 +1,6 @@
 // Reading out a closed store (document 02, change 3): definitions.
 #![tactic(auto)]
 
-ghost use Rattle.std.specs.Prelude.{◌≡◌};
-ghost use Rattle.readout_spec.specs.ReadOut.{number_of};
-
 use state_spec::PLACES;
 
 // The most slots and waiting places that a store has: those of the largest tree, of size 8, and of a state.
@@ -37,12 +34,4 @@ pub enum NoFile {
     // The mark is neither 8 nor 9.
     NotClosed = 14,
     ShortBuffer = 15,
-}
-
-impl NoFile {
-    pub fn number(self) -> u8
-        ensures { result ≡ number_of self }
-    {
-        self as u8
-    }
 }

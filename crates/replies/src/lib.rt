@@ -1,30 +1,34 @@
-// What a call replies.
+// What a call that made its rounds replies.
 #![tactic(auto)]
 
 ghost use Rattle.std.specs.Prelude.{◌≡◌};
 ghost use Rattle.operation_spec.specs.Method.{to_step_answer};
-ghost use Rattle.call_spec.specs.Store.{reply_of};
-ghost use Rattle.replies.specs.Answered.{answered};
+ghost use Rattle.call_spec.specs.Reply.{to_reply};
+ghost use Rattle.round_close.specs.Fault.{mark_of as fault_mark};
+ghost use Rattle.replies.specs.Answered.{answered, mark_of};
 
-use call_spec::Reply;
+use call_spec::Refusal;
 use operation_spec::{Answer, Full};
+use round_close::Fault;
 
-// The paper's answer, or for a full store its number.
-fn reply_of(answer: Result<Answer, Full>) -> Reply
-    ensures { result ≡ reply_of (to_step_answer answer) }
+// The cause for which a round closed the store, if one did.
+pub fn cause_of(fault: Option<Fault>) -> Option<Refusal>
+    ensures { mark_of result ≡ fault_mark fault }
 {
-    match answer {
-        Ok(told) => Reply::Answered(told),
-        Err(Full) => Reply::Refused(10),
+    match fault {
+        None => None,
+        Some(Fault::Damage) => Some(Refusal::Damage),
+        Some(Fault::Overflow) => Some(Refusal::Overflow),
     }
 }
 
-// The answer, unless a put round closed the store.
-pub fn reply_after(mark: u8, answer: Result<Answer, Full>) -> Reply
-    ensures { result ≡ answered mark (to_step_answer answer) }
+// The paper's answer, or for a full store a refusal, unless a put round closed the store for a cause.
+#[tactic(auto, using(crate::specs::AnsweredLaws::answer_replied, crate::specs::AnsweredLaws::cause_told), unfolding(call_spec::specs::Store::reply_of))]
+pub fn reply_after(cause: Option<Refusal>, answer: Result<Answer, Full>) -> Result<Answer, Refusal>
+    ensures { to_reply result ≡ answered (mark_of cause) (to_step_answer answer) }
 {
-    if mark != 0 {
-        return Reply::Refused(mark);
+    if let Some(met) = cause {
+        return Err(met);
     }
-    reply_of(answer)
+    answer.map_err(|_| Refusal::Full)
 }

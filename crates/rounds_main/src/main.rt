@@ -7,13 +7,15 @@
 
 ghost use Rattle.std.specs.Prelude.{◌≡◌, ◌≤◌, length};
 ghost use Rattle.slot_spec.specs.Tree.{tree_length};
-ghost use Rattle.word_round_laws.specs.SlotRow.{places, row_length, path_slots};
+ghost use Rattle.round_close.specs.Fault.{mark_of};
+ghost use Rattle.word_round_laws.specs.SlotRow.{places, row_length};
 ghost use Rattle.test_rounds.specs.Single.{Resting, Rests};
 
 use bucket_writer::read_slot;
 use path_reader::Wish;
 use path_slots::PATH_SLOTS;
-use slot_fields::{no_link, node_of};
+use round_close::Fault;
+use slot_fields::node_of;
 use slot_row::{ROW_LENGTH, get};
 use slot_spec::{Node, Reading, SLOT_LENGTH};
 use test_rounds::{Closed, round, take_round, wait};
@@ -40,8 +42,8 @@ fn say_number(text: &[u8], n: u64) {
 }
 
 fn print_node(n: Node) {
-    say_number(b" key ", n.key as u64);
-    say_number(b" tag ", n.tag as u64);
+    say_number(b" key ", u64::from(n.key));
+    say_number(b" tag ", u64::from(n.tag));
     say_number(b" value ", n.value);
     say(b"\n");
 }
@@ -67,10 +69,8 @@ fn print_slot(slot: usize, r: Reading)
 fn print_tree(tree: &[u8])
     requires { length tree.now ≡ tree_length 2 }
 {
-    let mut i = 0;
-    while i < SLOTS {
+    for i in 0..SLOTS {
         print_slot(i, read_slot(tree, SLOT_LENGTH * i, SIZE, i / 4 + 1));
-        i += 1;
     }
 }
 
@@ -82,40 +82,43 @@ fn print_waits(n: Node) {
 fn print_waiting(w: &[u8], n: usize)
     requires { (length w.now ≡ row_length) × (n ≤ places) }
 {
-    let mut i = 0;
-    while i < n {
+    for i in 0..n {
         print_waits(node_of(get(w, i)));
-        i += 1;
     }
 }
 
-fn announce(kind: u8, key: u16, tag: u16, leaf: u16) {
-    if kind == b'n' {
-        say_number(b"node ", key as u64);
-        say_number(b" waits under tag ", tag as u64);
-        say(b"\n");
-        return;
+// A step of the script.
+#[derive(Clone, Copy)]
+struct Step {
+    kind: u8,
+    key: u16,
+    tag: u16,
+    leaf: u16,
+}
+
+fn announce(step: Step) {
+    match step.kind {
+        b'n' => {
+            say_number(b"node ", u64::from(step.key));
+            say_number(b" waits under tag ", u64::from(step.tag));
+        }
+        b'r' => {
+            say_number(b"round of leaf ", u64::from(step.leaf));
+        }
+        _ => {
+            say_number(b"round of leaf ", u64::from(step.tag));
+            say_number(b" wants node ", u64::from(step.key));
+            say_number(b", new tag ", u64::from(step.leaf));
+        }
     }
-    if kind == b'r' {
-        say_number(b"round of leaf ", leaf as u64);
-        say(b"\n");
-        return;
-    }
-    say_number(b"round of leaf ", tag as u64);
-    say_number(b" wants node ", key as u64);
-    say_number(b", new tag ", leaf as u64);
     say(b"\n");
 }
 
-fn say_stopped() {
-    say(b"  stopped\n");
-}
-
 // What a step left; a node that came to wait is not worth a list.
-fn print_store(kind: u8, mark: u8, w: &[u8], n: usize, tree: &[u8])
+fn print_store(kind: u8, fault: Option<Fault>, w: &[u8], n: usize, tree: &[u8])
     requires { (length w.now ≡ row_length) × (n ≤ places) × (length tree.now ≡ tree_length 2) }
 {
-    if mark != 0 {
+    if fault.is_some() {
         say(b"  damage: nothing is changed\n");
     }
     if kind != b'n' {
@@ -126,93 +129,83 @@ fn print_store(kind: u8, mark: u8, w: &[u8], n: usize, tree: &[u8])
 
 // ---- the script
 fn new_node(key: u16, tag: u16) -> Node {
-    let none = no_link();
     Node {
-        key: key as u32,
-        value: 49 + (key as u64),
+        key: u32::from(key),
+        value: 49 + u64::from(key),
         tag,
-        left: none,
-        right: none,
+        ..Node::default()
     }
 }
 
-fn stopped(n: usize, node: Node) -> Closed
-    ensures { result.mark ≡ 9 }
+fn stopped(n: usize) -> Closed
+    ensures { mark_of result.fault ≡ 9 }
 {
     Closed {
-        mark: 9,
+        fault: Some(Fault::Overflow),
         waiting: n,
-        node,
+        node: None,
     }
 }
 
-// One step of the script; with mark 9 the next one cannot be made.
-fn step(
-    kind: u8,
-    key: u16,
-    tag: u16,
-    leaf: u16,
-    w: &mut [u8],
-    n: usize,
-    tree: &mut [u8],
-    from: &mut [u32; PATH_SLOTS],
-) -> Closed
-    requires { Resting 2 n w.old tree.old × (length from.old ≡ path_slots) }
-    ensures { Rests 2 w.new tree.new result × (length from.new ≡ path_slots) }
+// One step of the script; after an overflow the next one cannot be made.
+fn make(step: Step, w: &mut [u8], n: usize, tree: &mut [u8], from: &mut [u32; PATH_SLOTS]) -> Closed
+    requires { Resting 2 n w.old tree.old }
+    ensures { Rests 2 w.new tree.new result }
 {
-    let node = new_node(key, tag);
-    if kind == b'n' {
-        if !wait(w, n, SIZE, node) {
-            return stopped(n, node);
+    if step.kind == b'n' {
+        if !wait(w, n, SIZE, new_node(step.key, step.tag)) {
+            return stopped(n);
         }
         return Closed {
-            mark: 0,
+            fault: None,
             waiting: n + 1,
-            node,
+            node: None,
         };
     }
-    if LEAVES <= tag {
-        return stopped(n, node);
+    if LEAVES <= step.tag || LEAVES <= step.leaf {
+        return stopped(n);
     }
-    if LEAVES <= leaf {
-        return stopped(n, node);
+    if step.kind == b'r' {
+        return round(w, n, tree, SIZE, usize::from(step.leaf), None, from);
     }
-    if kind == b'r' {
-        return round(w, n, tree, SIZE, leaf as usize, Wish::Nothing, from);
-    }
-    take_round(w, n, tree, SIZE, key as u32, tag, leaf, from)
+    let wish = Wish {
+        key: u32::from(step.key),
+        tag: step.tag,
+    };
+    take_round(w, n, tree, SIZE, wish, step.leaf, from)
 }
 
 // A digit, or a letter for 10 and more.
 fn number(c: u8) -> u16 {
-    if b'a' <= c {
-        return (c - b'a') as u16 + 10;
+    match c {
+        b'a'..=b'z' => u16::from(c - b'a') + 10,
+        b'0'..=b'9' => u16::from(c - b'0'),
+        _ => 0,
     }
-    if b'0' <= c {
-        return (c - b'0') as u16;
-    }
-    0
 }
 
 fn run(script: &[u8], w: &mut [u8], tree: &mut [u8], from: &mut [u32; PATH_SLOTS])
-    requires { Resting 2 0 w.old tree.old × (length from.old ≡ path_slots) × (length script.now ≤ 1000) }
+    requires { Resting 2 0 w.old tree.old × (length script.now ≤ 1000) }
 {
     let mut n = 0;
-    let mut i = 0;
-    while i + 3 < script.len() {
-        let kind = script[i];
-        let key = number(script[i + 1]);
-        let tag = number(script[i + 2]);
-        let leaf = number(script[i + 3]);
-        announce(kind, key, tag, leaf);
-        let r = step(kind, key, tag, leaf, w, n, tree, from);
-        if r.mark == 9 {
-            say_stopped();
+    for word in script.split(|c| *c == b' ') {
+        let [kind, key, tag, leaf] = *word else {
+            return;
+        };
+        let step = Step {
+            kind,
+            key: number(key),
+            tag: number(tag),
+            leaf: number(leaf),
+        };
+        announce(step);
+        let r = make(step, w, n, tree, from);
+        if r.fault == Some(Fault::Overflow) {
+            say(b"  stopped\n");
             return;
         }
         n = r.waiting;
-        print_store(kind, r.mark, w, n, tree);
-        i += 5;
+        print_store(step.kind, r.fault, w, n, tree);
     }
 }
 

@@ -4,7 +4,7 @@
 ghost use Rattle.std.specs.Prelude.{◌≡◌, length};
 ghost use Rattle.slot_spec.specs.Tree.{slot_length};
 ghost use Rattle.slot_spec.specs.Slot.{Ranged};
-ghost use Rattle.readout_spec.specs.ReadOut.{closed_mark, read_out_leaving, to_read_out, read_out};
+ghost use Rattle.readout_spec.specs.ReadOut.{closed_mark, number_of, read_out_leaving, to_read_out, read_out};
 ghost use Rattle.lent_bytes_spec.specs.StateBytes.{place_bytes};
 ghost use Rattle.store_readout.specs.Refusal.{known_numbers, number_if, refusal_of};
 
@@ -19,6 +19,13 @@ use tree_paths::tree_length;
 
 // The bytes of all waiting places as slots.
 const WAITING_LENGTH: usize = SLOT_LENGTH * PLACES;
+
+// The number that a host gets for a store that is not read out.
+pub fn number_of(cause: NoFile) -> u8
+    ensures { result ≡ number_of cause }
+{
+    cause as u8
+}
 
 // Whether a store was closed by damage, 8, or overflow, 9.
 fn closed_mark(mark: u8) -> bool

@@ -8,7 +8,7 @@ use Rattle.slot_laws.specs.LittleEndianLaws.{length-bytes}
 use Rattle.readout_spec.specs.Taken.{Entry}
 use Rattle.readout_spec.specs.File.{count_width, report_width, index, values_part, report_part, values_start, report_start, file}
 use Rattle.readout_spec.specs.ReadOut.{read_out_leaving, read_out_refusing}
-use Rattle.readout_spec.specs.ReadOut.ReadOut.{Written}
+use Rattle.readout_spec.specs.ReadOut.{Written}
 use Rattle.survey_laws.specs.Items.{key_in, slots_in, value_in, taken_items, cleared, entry_for, omitted_by, all_keys, all_marks, items_file, slots_file, fitting}
 use Rattle.survey_laws.specs.FileLaws.{index-length, values_length, report-length, file-length}
 

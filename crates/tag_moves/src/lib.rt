@@ -25,9 +25,10 @@ fn moved_in(n: Node, from: From, tag: u16) -> Node
             if n.key == key {
                 let mut link = child_link(left, n);
                 link.tag = tag;
-                return with_child(left, n, link);
+                with_child(left, n, link)
+            } else {
+                n
             }
-            n
         }
     }
 }
@@ -47,11 +48,9 @@ fn move_links(held: &mut [u64; ROW], count: usize, from: From, tag: u16)
     requires { (length held.old ≡ words) × (count ≤ fetches) }
     ensures { (m : method.Node ℕ) → m.tag ≡ tag → LinksMoved (fetch_of (to_from from) m) count held.old held.new }
 {
-    let mut i = 0;
-    while i < count {
+    for i in 0..count {
         let n = node_at(held, i);
         set_node(held, i, moved_in(n, from, tag));
-        i += 1;
     }
 }
 
@@ -61,13 +60,11 @@ pub fn move_tags(held: &mut [u64; ROW], count: usize, froms: &[u64; FETCHES], ro
     ensures { TagsMoved count froms.now (to_link root) held.old held.new (to_link result) }
 {
     let mut link = root;
-    let mut i = 0;
-    while i < count {
+    for i in 0..count {
         let n = node_at(held, i);
         let from = from_at(froms, i);
         move_links(held, count, from, n.tag);
         link = moved_root(link, from, n.tag);
-        i += 1;
     }
     link
 }

@@ -1,5 +1,6 @@
 -- A round by itself, over the row that holds the waiting nodes: nothing is held but the node that it takes out.
-use Rattle.std.specs.Prelude.{ℕ, ◌+◌, ◌≤◌, ◌≡◌, Bool, true, List, [], length, take}
+use Rattle.std.specs.Prelude as prelude
+use Rattle.std.specs.Prelude.{Some, ℕ, ◌+◌, ◌≤◌, ◌≡◌, Bool, true, List, [], length, take}
 use Rattle.std.proofs.Math.Option.{Option, none, some}
 use Rattle.list_spec.specs.Choice.{pick}
 use Rattle.slot_spec.specs.Tree.{tree_length}
@@ -12,6 +13,7 @@ use Rattle.word_round_laws.specs.SlotRow.{row_length, slots_in, Blank, Leaves}
 use Rattle.list_spec.specs.Ascending.{ascending}
 use Rattle.path_reader.specs.Look.{wish_of}
 use Rattle.path_reader.specs.declared.Wish.{Wish}
+use Rattle.round_close.specs.Fault.{mark_of}
 use Rattle.test_rounds.specs.declared.Closed.{Closed}
 
 -- What a round leaves: its mark, what waits, and the tree.
@@ -62,12 +64,12 @@ pub record Waiting (k n : ℕ) (x : Slot) (row row' : List ℕ) (r : Bool) : Typ
   pub waits : r ≡ true → Waits k (n + 1) row'
 
 -- What a round did, and that the store rests after it unless too many wait.
-pub record Rounded (k leaf : ℕ) (wish : Wish) (n : ℕ) (row tree row' tree' : List ℕ) (r : Closed) : Type 0 where
-  pub round : round_of k leaf (wish_of wish) (take n (slots_in row)) tree ≡ record { mark = r.mark; waiting = take r.waiting (slots_in row'); tree = tree' }
+pub record Rounded (k leaf : ℕ) (wish : prelude.Option Wish) (n : ℕ) (row tree row' tree' : List ℕ) (r : Closed) : Type 0 where
+  pub round : round_of k leaf (wish_of wish) (take n (slots_in row)) tree ≡ record { mark = mark_of r.fault; waiting = take r.waiting (slots_in row'); tree = tree' }
   pub node : (h : Hand Slot) (x : Slot) → reading k leaf (wish_of wish) (take n (slots_in row)) tree ≡ some h → h.taken ≡ some x
-      → r.node ≡ node_of (fields_in (slot_bytes x))
-  pub rests : (r.mark ≡ 9 → ⊥) → Resting k r.waiting row' tree'
+      → r.node ≡ Some (node_of (fields_in (slot_bytes x)))
+  pub rests : (mark_of r.fault ≡ 9 → ⊥) → Resting k r.waiting row' tree'
 
 -- What several steps leave: a store at rest, unless the last has mark 9.
 pub record Rests (k : ℕ) (row tree : List ℕ) (r : Closed) : Type 0 where
-  pub rests : (r.mark ≡ 9 → ⊥) → Resting k r.waiting row tree
+  pub rests : (mark_of r.fault ≡ 9 → ⊥) → Resting k r.waiting row tree

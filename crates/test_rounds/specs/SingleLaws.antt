@@ -1,5 +1,6 @@
 -- What the two halves of a round need follows from a store at rest, and what they leave is the round's, with the store at rest again.
-use Rattle.std.specs.Prelude.{◌≡◌, refl, Bool, true, false, not, List, [], ◌∷◌, ◌++◌, ℕ, ◌+◌, ◌^◌, ◌≤◌, ◌<◌, length, take, get_or, replicate, ltb}
+use Rattle.std.specs.Option.{unwrap_or, option_and}
+use Rattle.std.specs.Prelude.{◌≡◌, refl, Bool, true, false, not, is_some, Option, Some, None, List, [], ◌∷◌, ◌++◌, ℕ, ◌+◌, ◌^◌, ◌≤◌, ◌<◌, length, take, get_or, replicate, ltb}
 use Rattle.std.proofs.Common.{sym, ◌∙◌, ap, ap₂, subst, append-nil, arith, get_or-take, ne_eqb, ltb-false}
 use Rattle.std.proofs.Math.Option.{none, some}
 use Rattle.list_spec.specs.Choice.{pick}
@@ -16,12 +17,16 @@ use Rattle.list_spec.specs.Ascending.{ascending}
 use Rattle.word_round_laws.specs.StashLaws.{Above, Ascending, ascending-holds, ascending-test, insert-ascending}
 use Rattle.slot_row.specs.SlotJoined.{SlotJoined}
 use Rattle.word_round_laws.specs.JoinLaws.{insert_all}
-use Rattle.path_reader.specs.Look.{wish_of, wanted, hand_of, Fit, LookedFor}
+use Rattle.path_reader.specs.Look.{wish_of, wanted, hand_of, Fit, Granted, Refused}
 use Rattle.eviction.specs.Settle.{Joint, Settled}
 use Rattle.eviction.specs.SettleLaws.{removed-leaves}
 use Rattle.word_round_laws.specs.KeepLaws.{read-ascending, write-ascending, write-holds}
 use Rattle.path_reader.specs.declared.Looked.{Looked}
 use Rattle.path_reader.specs.declared.Wish.{Wish}
+use Rattle.slot_spec.specs.declared.Node.{Node as NodeOf}
+use Rattle.round_close.specs.Fault.{mark_of, overflow_if, overflow-mark}
+use Rattle.round_close.specs.declared.Fault.{Fault}
+use Rattle.round_close.specs.declared.Fault.TheVariants.{Damage}
 use Rattle.test_rounds.specs.declared.Closed.{Closed}
 use Rattle.test_rounds.specs.Single.{held_count, closing, reading, Waits, Resting, Waiting, Rounded, Rests}
 
@@ -39,6 +44,23 @@ apart (k ∷ ks) a = rw (above-absent k ks a.0) (apart ks a.1)
 ascending-apart : (ks : List ℕ) → ascending ks ≡ true → none_twice (ks ++ []) ≡ true
 ascending-apart ks a = rw (append-nil ks) (apart ks (ascending-holds ks a))
 
+-- ---- the place of a wanted node
+abbrev pub taken_at : Option Wish → ℕ → Option ℕ
+taken_at wish at = option_and wish (Some at)
+
+inside-out : (wish : Option Wish) (at m : ℕ) → (wanted wish ≡ true → at < m) → is_some (taken_at wish at) ≡ true → unwrap_or (taken_at wish at) 0 < m
+inside-out None at m h t = let z : ◌≡◌ {A = ℕ} 0 1 = cc in absurd (omega arith)
+inside-out (Some w) at m h t = h refl
+
+pub settled-as : {k leaf m : ℕ} (wish : Option Wish) (at : ℕ) {row tree row' tree' : List ℕ} {r : ℕ}
+    → Settled k leaf m (is_some (taken_at wish at)) (unwrap_or (taken_at wish at) 0) row tree row' tree' r → Settled k leaf m (wanted wish) at row tree row' tree' r
+settled-as None at s = record { sized = s.sized; fewer = s.fewer; blank = s.blank; half = s.half; counted = s.counted }
+settled-as (Some w) at s = s
+
+pub node-out : (wish : Option Wish) (n : NodeOf) → wanted wish ≡ true → option_and wish (Some n) ≡ Some n
+node-out None n t = let z : ◌≡◌ {A = ℕ} 0 1 = cc in absurd (omega arith)
+node-out (Some w) n t = refl
+
 -- ---- what the halves need
 module _ {k n : ℕ} {row tree : List ℕ} (rest : Resting k n row tree) (leaf : ℕ) (is_leaf : leaf < 2 ^ k) where
   pub resting-fit : Fit k leaf n row tree []
@@ -54,18 +76,18 @@ module _ {k n : ℕ} {row tree : List ℕ} (rest : Resting k n row tree) (leaf :
         distinct = ascending-apart (keys_of words_format (take n (slots_in row))) rest.waits.order;
       }
 
-  pub looked-joint : {after : List ℕ} (wish : Wish) (r : Looked) → LookedFor k leaf wish n row tree [] after r → r.ok ≡ true
-      → (taken : Bool) → taken ≡ wanted wish → Joint k leaf r.count taken r.at after tree
-  looked-joint wish r looked good taken is =
+  pub looked-joint : {after : List ℕ} (wish : Option Wish) (r : Looked) → Granted k leaf wish n row tree [] after r → length after ≡ row_length
+      → Joint k leaf r.count (is_some (taken_at wish r.at)) (unwrap_or (taken_at wish r.at) 0) after tree
+  looked-joint wish r looked sized =
       record {
         size = omega (arith, rest.small);
         is_leaf = is_leaf;
         tree-sized = rest.tree-sized;
-        sized = looked.sized;
-        blank = looked.blank good;
+        sized = sized;
+        blank = looked.blank;
         room = omega (arith, looked.within, rest.small, rest.waits.few);
-        inside = λ t. looked.inside (sym is ∙ t) good;
-        leaves = looked.leaves good rest.waits.leaves;
+        inside = inside-out wish r.at r.count looked.inside;
+        leaves = looked.leaves rest.waits.leaves;
       }
 
 -- ---- the close of a round
@@ -102,27 +124,30 @@ pub count_small : (taken : Bool) → pick taken 1 0 ≤ 1
 count_small true = omega arith
 count_small false = omega arith
 
-module _ {k n : ℕ} {row tree after : List ℕ} (rest : Resting k n row tree) (leaf : ℕ) (wish : Wish) (r : Looked)
-    (looked : LookedFor k leaf wish n row tree [] after r) where
+-- Damage: all is as it was.
+pub round-damage : {k n : ℕ} {row tree after : List ℕ} (rest : Resting k n row tree) (leaf : ℕ) (wish : Option Wish) → Refused k leaf wish n row tree [] after
+    → Rounded k leaf wish n row tree after tree (record { fault = Some Damage; waiting = n; node = None })
+round-damage {k} {n} {row} {tree} rest leaf wish looked =
+    let ws : List Slot = take n (slots_in row) in
+    subst (λ (row' : List ℕ). Rounded k leaf wish n row tree row' tree (record { fault = Some Damage; waiting = n; node = None })) (sym looked.same)
+    (record {
+      round = ap (closing k leaf ws tree) looked.half ∙ closing-damage k leaf ws tree;
+      node = λ h x e t. let f : none ≡ some h = sym looked.half ∙ e in let z : ◌≡◌ {A = ℕ} 0 1 = cc in absurd (omega arith);
+      rests = λ _. rest;
+    })
+
+module _ {k n : ℕ} {row tree after : List ℕ} (rest : Resting k n row tree) (leaf : ℕ) (wish : Option Wish) (r : Looked)
+    (looked : Granted k leaf wish n row tree [] after r) where
   abbrev ws : List Slot
   ws = take n (slots_in row)
 
   abbrev joint : List Slot
   joint = take r.count (slots_in after)
 
-  -- Damage: all is as it was.
-  pub round-damage : r.ok ≡ false → Rounded k leaf wish n row tree after tree (record { mark = 8; waiting = n; node = r.node })
-  round-damage bad =
-      let read : reading k leaf (wish_of wish) ws tree ≡ none = looked.half ∙ rw bad in
-      subst (λ (row' : List ℕ). Rounded k leaf wish n row tree row' tree (record { mark = 8; waiting = n; node = r.node })) (sym (looked.same bad))
-      (record {
-        round = ap (closing k leaf ws tree) read ∙ closing-damage k leaf ws tree;
-        node = λ h x e t. let z : ◌≡◌ {A = ℕ} 0 1 = cc in absurd (omega arith);
-        rests = λ _. rest;
-      })
+  module _ {row' tree' : List ℕ} {left : ℕ} (settled : Settled k leaf r.count (wanted wish) r.at after tree row' tree' left) where
+    abbrev taken : Bool
+    taken = wanted wish
 
-  module _ {row' tree' : List ℕ} {left : ℕ} (good : r.ok ≡ true) (taken : Bool) (is : taken ≡ wanted wish)
-      (settled : Settled k leaf r.count taken r.at after tree row' tree' left) where
     abbrev hand : Hand Slot
     hand = hand_of taken r.at joint
 
@@ -130,7 +155,7 @@ module _ {k n : ℕ} {row tree after : List ℕ} (rest : Resting k n row tree) (
     written = write_half words_format k leaf hand.waiting tree
 
     hand-read : reading k leaf (wish_of wish) ws tree ≡ some hand
-    hand-read = looked.half ∙ rw (good, is)
+    hand-read = looked.half
 
     left-waits : written.waiting ≡ take left (slots_in row')
     left-waits = ap (λ (v : Written Slot). v.waiting) settled.half
@@ -146,11 +171,13 @@ module _ {k n : ℕ} {row tree after : List ℕ} (rest : Resting k n row tree) (
     left-leaves =
         subst (Leaves k) left-waits
         (write-holds words_format k leaf hand.waiting tree (λ (x : Slot). words_format.tag x < 2 ^ k)
-        (removed-leaves k taken r.at joint (looked.leaves good rest.waits.leaves)))
+        (removed-leaves k taken r.at joint (looked.leaves rest.waits.leaves)))
 
-    pub round-close : (held mark : ℕ) → held ≡ pick taken 1 0 → mark ≡ pick (exceeds_limit left held) 9 0 → length tree' ≡ length tree
-        → Rounded k leaf wish n row tree row' tree' (record { mark = mark; waiting = left; node = r.node })
-    round-close held mark counted marked same =
+    pub round-close : (held : ℕ) (fault : Option Fault) → held ≡ pick taken 1 0 → fault ≡ overflow_if (exceeds_limit left held) → length tree' ≡ length tree
+        → Rounded k leaf wish n row tree row' tree' (record { fault = fault; waiting = left; node = option_and wish (Some r.node) })
+    round-close held fault counted closed same =
+        let mark : ℕ = mark_of fault in
+        let marked : mark ≡ pick (exceeds_limit left held) 9 0 = ap mark_of closed ∙ overflow-mark (exceeds_limit left held) in
         let mark-is : pick (exceeds_limit (length written.waiting) (held_count hand.taken)) 9 0 ≡ mark =
         ap₂ (λ (a b : ℕ). pick (exceeds_limit a b) 9 0) (sym settled.counted) (held-count taken (get_or joint r.at zero_slot) ∙ sym counted) ∙ sym marked in
         record {
@@ -162,10 +189,11 @@ module _ {k n : ℕ} {row tree after : List ℕ} (rest : Resting k n row tree) (
           node =
               λ h x e t. let same-hand : hand ≡ h = cc hand-read in
               let q = in-hand taken (get_or joint r.at zero_slot) x (ap (λ (g : Hand Slot). g.taken) same-hand ∙ t) in
-              let want : wanted wish ≡ true = sym is ∙ q.0 in
-              looked.node want good
+              let want : wanted wish ≡ true = q.0 in
+              node-out wish r.node want
+              ∙ ap (λ (m : NodeOf). Some m) (looked.node want
               ∙ ap (λ (y : Slot). node_of (fields_in (slot_bytes y)))
-              (sym (get_or-take r.count (slots_in after) r.at zero_slot (looked.inside want good)) ∙ q.1);
+              (sym (get_or-take r.count (slots_in after) r.at zero_slot (looked.inside want)) ∙ q.1));
           rests =
               λ other. record {
                 small = rest.small;
@@ -194,15 +222,15 @@ not-among a true e t = let z : ◌≡◌ {A = ℕ} 0 1 = cc in absurd (omega ari
 not-among a false e t = refl
 
 module _ (k n : ℕ) (x : Slot) (row row' : List ℕ) (r : Bool) (before : Waits k n row) (joined : SlotJoined n x row row' r) where
-  pub slot-waits : n ≤ 64 → words_format.tag x < 2 ^ k → Waiting k n x row row' r
-  slot-waits few leaf =
+  pub slot-waits : length row' ≡ row_length → n ≤ 64 → words_format.tag x < 2 ^ k → Waiting k n x row row' r
+  slot-waits sized few leaf =
       record {
         joined = joined.joined;
         waits =
             λ t. let new = not-among r (among (words_format.key x) (keys_of words_format (take n (slots_in row)))) joined.is-new t in
             let now = joined.joined t in
             record {
-              sized = joined.sized;
+              sized = sized;
               few = omega arith;
               blank = joined.rest t ∙ blank-more row n (n + 1) (omega arith) before.blank;
               order =
@@ -221,7 +249,7 @@ pub resting-waits : {k n : ℕ} {row tree row' : List ℕ} {x : Slot} {r : Bool}
     → Resting k (n + 1) row' tree
 resting-waits rest waiting ok = record { small = rest.small; waits = waiting.waits ok; tree-sized = rest.tree-sized }
 
-pub rounded-rests : {k leaf n : ℕ} {wish : Wish} {row tree row' tree' : List ℕ} (r : Closed) → Rounded k leaf wish n row tree row' tree' r → r.mark ≡ 0
+pub rounded-rests : {k leaf n : ℕ} {wish : Option Wish} {row tree row' tree' : List ℕ} (r : Closed) → Rounded k leaf wish n row tree row' tree' r → mark_of r.fault ≡ 0
     → Resting k r.waiting row' tree'
 rounded-rests r rounded ok = rounded.rests (λ e. let z : ⊥ = omega arith in z)
 
@@ -242,5 +270,5 @@ none-waits k row tree small zeros tree-sized =
       tree-sized = tree-sized;
     }
 
-pub stopped-rests : {k : ℕ} {row tree : List ℕ} (r : Closed) → r.mark ≡ 9 → Rests k row tree r
+pub stopped-rests : {k : ℕ} {row tree : List ℕ} (r : Closed) → mark_of r.fault ≡ 9 → Rests k row tree r
 stopped-rests r e = record { rests = λ other. let z : ⊥ = other e in absurd z }

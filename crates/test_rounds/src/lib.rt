@@ -3,47 +3,24 @@
 #![tactic(auto)]
 
 ghost use Rattle.std.specs.Prelude.{◌≡◌, true, ◌+◌, ◌^◌, ◌<◌, length};
-ghost use Rattle.list_spec.specs.Choice.{pick};
 ghost use Rattle.slot_spec.specs.Slot.{slot_of};
-ghost use Rattle.word_round_laws.specs.SlotRow.{path_slots};
-ghost use Rattle.path_reader.specs.Look.{wanted};
 ghost use Rattle.test_rounds.specs.Single.{Waits, Resting, Waiting, Rounded, Rests};
 
 use eviction::settle;
-use held_keys::MOST_HELD;
 use path_reader::{Wish, look};
 use path_slots::PATH_SLOTS;
-use round_close::{LIMIT, mark_at_close};
+use round_close::{Fault, LIMIT, fault_at_close};
 use slot_fields::{slot_of, tag_of};
 use slot_row::join_slot;
 use slot_spec::Node;
 use tree_paths::leaves;
 
-// How a round closed: mark 0, or 8 damage or 9 overflow; how many nodes wait then; and the node that was taken out, if one was.
+// How a round closed: the fault, if there was one; how many nodes wait then; and the node that was taken out, if one was.
 #[derive(Clone, Copy)]
 pub struct Closed {
-    pub mark: u8,
+    pub fault: Option<Fault>,
     pub waiting: usize,
-    pub node: Node,
-}
-
-fn is_wanted(wish: Wish) -> bool
-    ensures { result ≡ wanted wish }
-{
-    match wish {
-        Wish::Nothing => false,
-        Wish::Node(_, _) => true,
-    }
-}
-
-// How many nodes a round took out.
-fn taken_count(taken: bool) -> usize
-    ensures { result ≡ pick taken 1 0 }
-{
-    if taken {
-        return 1;
-    }
-    0
+    pub node: Option<Node>,
 }
 
 // A round of a leaf. The n waiting nodes are the first slots of w; `from` is scratch space.
@@ -53,27 +30,25 @@ pub fn round(
     tree: &mut [u8],
     size: usize,
     leaf: usize,
-    wish: Wish,
+    wish: Option<Wish>,
     from: &mut [u32; PATH_SLOTS],
 ) -> Closed
-    requires { Resting size n w.old tree.old × (leaf < 2 ^ size) × (length from.old ≡ path_slots) }
-    ensures { Rounded size leaf wish n w.old tree.old w.new tree.new result × (length from.new ≡ path_slots) }
+    requires { Resting size n w.old tree.old × (leaf < 2 ^ size) }
+    ensures { Rounded size leaf wish n w.old tree.old w.new tree.new result }
 {
-    let r = look(w, n, tree, size, leaf, wish, &[0u32; MOST_HELD], 0, from);
-    let node = r.node;
-    if !r.ok {
+    let Ok(r) = look(w, n, tree, size, leaf, wish, &[], from) else {
         return Closed {
-            mark: 8,
+            fault: Some(Fault::Damage),
             waiting: n,
-            node,
+            node: None,
         };
-    }
-    let taken = is_wanted(wish);
-    let left = settle(w, r.count, taken, r.at, tree, size, leaf, from, r.full);
+    };
+    let out = wish.and(Some(r.at));
+    let waiting = settle(w, r.count, out, tree, size, leaf, &from[..r.full]);
     Closed {
-        mark: mark_at_close(left, taken_count(taken)),
-        waiting: left,
-        node,
+        fault: fault_at_close(waiting, usize::from(wish.is_some())),
+        waiting,
+        node: wish.and(Some(r.node)),
     }
 }
 
@@ -83,47 +58,44 @@ pub fn wait(w: &mut [u8], n: usize, size: usize, node: Node) -> bool
     ensures { Waiting size n (slot_of node) w.old w.new result }
 {
     let x = slot_of(node);
-    if LIMIT < n {
+    if n > LIMIT {
         return false;
     }
-    if leaves(size) <= tag_of(x) as usize {
-        return false;
-    }
-    join_slot(w, n, x)
+    usize::from(tag_of(x)) < leaves(size) && join_slot(w, n, x)
 }
 
-// A node is taken out by a round of its leaf, and waits again under a new tag. Mark 8 is damage, as of the round; with mark 9
-// too many nodes wait.
+// A node is taken out by a round of its leaf, and waits again under a new tag. Damage is that of the round; with an overflow too many
+// nodes wait.
 pub fn take_round(
     w: &mut [u8],
     n: usize,
     tree: &mut [u8],
     size: usize,
-    key: u32,
-    tag: u16,
+    wish: Wish,
     new_tag: u16,
     from: &mut [u32; PATH_SLOTS],
 ) -> Closed
-    requires { Resting size n w.old tree.old × (tag < 2 ^ size) × (length from.old ≡ path_slots) }
-    ensures { Rests size w.new tree.new result × (length from.new ≡ path_slots) }
+    requires { Resting size n w.old tree.old × (wish.tag < 2 ^ size) }
+    ensures { Rests size w.new tree.new result }
 {
-    let r = round(w, n, tree, size, tag as usize, Wish::Node(key, tag), from);
-    if r.mark != 0 {
+    let r = round(w, n, tree, size, usize::from(wish.tag), Some(wish), from);
+    let Some(mut node) = r.node else {
+        return r;
+    };
+    if r.fault.is_some() {
         return r;
     }
-    let left = r.waiting;
-    let mut node = r.node;
     node.tag = new_tag;
-    if !wait(w, left, size, node) {
+    if !wait(w, r.waiting, size, node) {
         return Closed {
-            mark: 9,
-            waiting: left,
-            node,
+            fault: Some(Fault::Overflow),
+            waiting: r.waiting,
+            node: Some(node),
         };
     }
     Closed {
-        mark: 0,
-        waiting: left + 1,
-        node,
+        fault: None,
+        waiting: r.waiting + 1,
+        node: Some(node),
     }
 }

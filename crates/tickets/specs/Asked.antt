@@ -1,5 +1,6 @@
 -- What a ticket asks of a structure, as the code says it.
-use Rattle.std.specs.Prelude.{ℕ, eqb, List}
+use Rattle.std.specs.Prelude as code
+use Rattle.std.specs.Prelude.{ℕ, eqb, List, Some, None}
 use Rattle.list_spec.specs.Choice.{pick}
 use Rattle.std.proofs.Math.Option.{Option, none, some}
 use Rattle.method_spec.specs.Answer as method
@@ -7,8 +8,6 @@ use Rattle.method_spec.specs.Answer.{Structure, get, put, remove, push, pop, add
 use Rattle.operation_spec.specs.declared.Op.{Op}
 use Rattle.operation_spec.specs.declared.Op.TheVariants.{Get, Put, Remove, Push, Pop, Add, Take, Enqueue, Dequeue}
 use Rattle.state_spec.specs.Ticket.{op_in, structure_of}
-use Rattle.tickets.specs.declared.Asked.{Asked}
-use Rattle.tickets.specs.declared.Asked.TheVariants.{Call, Unknown}
 
 unfoldable pub from_op : {s : Structure} → method.Op s → Op
 from_op (get k) = Get k
@@ -21,12 +20,12 @@ from_op take = Take
 from_op (enqueue v) = Enqueue v
 from_op dequeue = Dequeue
 
-unfoldable pub from_asked : {s : Structure} → Option (method.Op s) → Asked
-from_asked none = Unknown
-from_asked (some op) = Call (from_op op)
+unfoldable pub from_asked : {s : Structure} → Option (method.Op s) → code.Option Op
+from_asked none = None
+from_asked (some op) = Some (from_op op)
 
 -- The structure is one of the four, by its number.
-abbrev pub asked : ℕ → List ℕ → Asked
+abbrev pub asked : ℕ → List ℕ → code.Option Op
 asked structure ticket = from_asked (op_in (structure_of structure) ticket)
 
 -- An operation of a map by its kind, 1 to 3, of a stack, 4 or 5, of a heap, 6 or 7, and of a queue, 8 or 9.

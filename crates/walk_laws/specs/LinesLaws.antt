@@ -9,11 +9,10 @@ use Rattle.io.specs.Counts.{IsPrefixLen}
 use Rattle.io.specs.Digits.{last_digits, hex_digit_ascii, IsDigitCount}
 use Rattle.slot_laws.specs.WordLaws.{sets-append}
 use Rattle.operation_spec.specs.declared.Answer.TheVariants.{Found, Absent, Replaced, New, Removed, Pushed, Popped, Added, Taken, Queued, Dequeued, Empty}
-use Rattle.call_spec.specs.declared.Reply.{Reply}
-use Rattle.call_spec.specs.declared.Reply.TheVariants.{Answered, Refused}
+use Rattle.call_spec.specs.Reply.{Reply, Answered, Refused}
 use Rattle.call_spec.specs.Store.{reply_meaning}
 use Rattle.host_spec.specs.Result.{reply_number, reply_value, result_value}
-use Rattle.walk_spec.specs.Lines.{blank, newline, digit, leading, decimal, numbers, reply_word, value_or_zero, reply_shown, line_of, longest_line, most_leaves, Put}
+use Rattle.walk_spec.specs.Lines.{blank, newline, digit, leading, decimal, numbers, ascii, reply_word, value_or_zero, reply_shown, line_of, longest_line, most_leaves, Put}
 
 -- ---- how long numbers are
 leading_length : (more n k : ℕ) → n < 10 ^ k → length (leading more n) ≤ k
@@ -216,20 +215,35 @@ first-leaves [] (suc n) f i = omega arith
 first-leaves (t ∷ trace) (suc n) f zero = f 0
 first-leaves (t ∷ trace) (suc n) f (suc i) = first-leaves trace n (λ j. f (suc j)) i
 
+-- A line of a word, a number and leaves.
+abbrev pub line_with : List ℕ → ℕ → List ℕ → List ℕ
+line_with word v leaves = word ++ (numbers (v ∷ leaves) ++ (newline ∷ []))
+
 -- There is room for each part of the line.
-module _ (reply : Reply) {a b : List ℕ} {word : ℕ} (w : Put (reply_word reply) 0 a b word) (room : longest_line ≤ length a) (v : ℕ) (h : v < 2 ^ 64) where
+module _ {text : List ℕ} (short : length text ≤ 8) {a b : List ℕ} {word : ℕ} (w : Put text 0 a b word) (room : longest_line ≤ length a) (v : ℕ) (h : v < 2 ^ 64) where
   pub value_room : word + length (numbers (v ∷ [])) ≤ length b
-  value_room = omega (arith, number-length v 19 (omega arith), put-length w, w.ends, word-length reply)
+  value_room = omega (arith, number-length v 19 (omega arith), put-length w, w.ends, short)
 
   pub leaves-room : {c : List ℕ} {value : ℕ} (leaves : List ℕ) → Put (numbers (v ∷ [])) word b c value → length leaves ≤ most_leaves
       → ((i : ℕ) → get_or leaves i 0 < 2 ^ 16) → value + length (numbers leaves) < length c
   leaves-room leaves p few f =
-      omega (arith, number-length v 19 (omega arith), leaves-length leaves f, put-length w, w.ends, put-length p, p.ends, word-length reply)
+      omega (arith, number-length v 19 (omega arith), leaves-length leaves f, put-length w, w.ends, put-length p, p.ends, short)
 
 -- The line is put part by part.
-module _ (reply : Reply) (leaves : List ℕ) {a b c d e : List ℕ} {word value end all : ℕ} where
-  pub line-put : Put (reply_word reply) 0 a b word → Put (numbers (reply_shown reply ∷ [])) word b c value → Put (numbers leaves) value c d end
-      → Put (newline ∷ []) end d e all → Put (line_of reply leaves) 0 a e all
-  unfolding line_of
-  line-put w v n t =
-      rw (numbers-append (reply_shown reply ∷ []) leaves, append_assoc) (put_then w (put_then v (put_then n t)))
+module _ (text : List ℕ) (v : ℕ) (leaves : List ℕ) {a b c d e : List ℕ} {word value end all : ℕ} where
+  pub line-put : Put text 0 a b word → Put (numbers (v ∷ [])) word b c value → Put (numbers leaves) value c d end
+      → Put (newline ∷ []) end d e all → Put (line_with text v leaves) 0 a e all
+  line-put w p n t =
+      rw (numbers-append (v ∷ []) leaves, append_assoc) (put_then w (put_then p (put_then n t)))
+
+pub line-is : (reply : Reply) (leaves : List ℕ) → line_with (reply_word reply) (reply_shown reply) leaves ≡ line_of reply leaves
+unfolding line_of
+line-is reply leaves = refl
+
+shown-refused : (n : ℕ) → reply_shown (Refused n) ≡ n
+shown-refused zero = refl
+shown-refused (suc n) = rw (ne_eqb (suc n) 0 (λ e. omega (arith, e)))
+
+pub refused-is : (n : ℕ) → line_with (ascii "refused") n [] ≡ line_of (Refused n) []
+unfolding line_of
+refused-is n = rw (shown-refused n)

@@ -6,7 +6,7 @@ use Rattle.std.proofs.lemmas.List.{length-replicate, take-append-le}
 use Rattle.method_spec.specs.Answer.{Structure, Op}
 use Rattle.state_spec.specs.declared.State.{State}
 use Rattle.state_spec.specs.Ticket.{structure_of}
-use Rattle.call_spec.specs.declared.Reply.{Reply}
+use Rattle.call_spec.specs.Reply.{Reply}
 use Rattle.call_spec.specs.Store.{Ended, refusing, by_rounds, called}
 use Rattle.check_laws.specs.Decided.{Decided, refused, rounded, how-decided}
 use Rattle.walk_spec.specs.Lines.{line_of, most_leaves}

@@ -18,7 +18,7 @@ use Rattle.method_spec.specs.Rounds.{rounds, spare}
 use Rattle.leaf_spec.specs.Leaf.{read_leaf}
 use Rattle.bucket_call_spec.specs.Fetch.{moved_link, moved_node, closing, at_close, idle_round, took_round, want_round, fetch_round, fetch_rounds}
 use Rattle.bucket_call_spec.specs.Call.{put_rounds, after_puts, after_fetches, bucket_call}
-use Rattle.call_spec.specs.declared.Reply.TheVariants.{Answered, Refused}
+use Rattle.call_spec.specs.Reply.{Answered, Refused}
 use Rattle.list_spec.specs.Ascending.{ascending_from, ascending}
 use Rattle.state_spec.specs.Fit.{all_of, root_good, ahead_good, fits, head_fits, places_from}
 use Rattle.state_spec.specs.Ticket.{op_in, fields_used, stray_fields}

@@ -6,7 +6,7 @@ use Rattle.std.proofs.Math.Option.{Option, none, some}
 use Rattle.std.proofs.lemmas.List.Edits.{sets}
 use Rattle.list_spec.specs.Choice.{pick}
 use Rattle.method_spec.specs.Answer.{Meaning}
-use Rattle.call_spec.specs.declared.Reply.{Reply}
+use Rattle.call_spec.specs.Reply.{Reply}
 use Rattle.call_spec.specs.Store.{reply_meaning}
 use Rattle.state_spec.specs.Fetching.{most_rounds}
 

@@ -2,7 +2,7 @@
 use Rattle.std.specs.Prelude.{ℕ, zero, suc, ◌*◌, ◌≡◌, Bool, true, false, List, [], ◌∷◌, ◌++◌, eqb, length, take, drop, replicate, ⊤, Result, Ok, Err}
 use Rattle.state_spec.specs.declared.State.{State}
 use Rattle.state_spec.specs.Opening.{Opened, opened}
-use Rattle.call_spec.specs.declared.Reply.TheVariants.{Refused}
+use Rattle.call_spec.specs.Reply.{Refused}
 use Rattle.call_spec.specs.Store.{Ended, called}
 use Rattle.walk_spec.specs.declared.Stop.{Stop}
 use Rattle.walk_spec.specs.declared.Stop.TheVariants.{End, Short}

@@ -1,5 +1,5 @@
 -- The rounds that want a node, with the held nodes in rows: in the shapes in which the code has them.
-use Rattle.std.specs.Prelude.{◌≡◌, refl, true, false, List, [], ◌∷◌, ◌++◌, ℕ, max, ◌+◌, ◌^◌, ◌≤◌, ◌<◌, length, take, set}
+use Rattle.std.specs.Prelude.{◌≡◌, refl, true, false, List, [], ◌∷◌, ◌++◌, ℕ, max, ◌+◌, ◌^◌, ◌≤◌, ◌<◌, length, take, set, None}
 use Rattle.std.proofs.Common.{sym, ◌∙◌, ap, ap₂, append-nil, add-one, arith, length-append, take-suc-set}
 use Rattle.std.proofs.lemmas.List.{map-append}
 use Rattle.std.proofs.Math.Option.{none, some}
@@ -16,8 +16,9 @@ use Rattle.node_rows.specs.HeldLaws.{first-length, first_more, held_more_lem, he
 use Rattle.held_keys.specs.Held.{most_held}
 use Rattle.tag_moves.specs.Moved.{held_of}
 use Rattle.one_round.specs.declared.Took.{Took}
-use Rattle.one_round.specs.OneRound.{RoundReady, taken_as, Wanted}
+use Rattle.one_round.specs.OneRound.{RoundReady, taken_as, Wanted, took, node_taken}
 use Rattle.idle_rounds.specs.Idle.{keys_held}
+use Rattle.round_close.specs.Fault.{mark_of}
 use Rattle.want_rounds.specs.declared.Job.{Job}
 use Rattle.want_rounds.specs.declared.Fetched.{Fetched}
 use Rattle.want_rounds.specs.Wanting.{held_by, nodes_held, program_of, Begins, Walked, InRows, Walks}
@@ -78,7 +79,7 @@ module _ {h : Held} {froms keys : List ℕ} (rows : InRows h froms keys) (few : 
 
 -- None is wanted any more.
 pub walks-on : {j : Job} {draw : ℕ → ℕ} {n : ℕ} {row₀ tree₀ trace₀ : List ℕ} {h : Held} {froms row tree keys trace : List ℕ} {r : Fetched} {m leaves peak : ℕ}
-    → r ≡ record { count = h.count; waiting = m; mark = 0; leaves = leaves; peak = peak }
+    → r ≡ record { count = h.count; waiting = m; fault = None; leaves = leaves; peak = peak }
     → Walked j draw n row₀ tree₀ trace₀ (held_by h froms) m peak row tree trace → InRows h froms keys
     → wanted_in (after (program_of j) (nodes_held (held_by h froms))) ≡ none
     → Walks j draw n row₀ tree₀ trace₀ h froms row tree keys trace r
@@ -86,8 +87,8 @@ walks-on e walked rows finished = rw e (record { goes = λ z. (walked, rows); fi
 
 -- A round that took nothing out has closed the store.
 pub not_taken : {structure entries k n : ℕ} {want : Want} {row tree held row' tree' : List ℕ} {r : Took}
-    → Wanted structure entries k n want row tree held row' tree' r → r.taken ≡ false → r.mark ≡ 0 → ⊥
-not_taken {r = r} round t e = let g : r.taken ≡ true = round.goes_on e in let z : ◌≡◌ {A = ℕ} 0 1 = cc in omega arith
+    → Wanted structure entries k n want row tree held row' tree' r → took r ≡ false → mark_of r.fault ≡ 0 → ⊥
+not_taken {r = r} round t e = let g : took r ≡ true = round.goes_on e in let z : ◌≡◌ {A = ℕ} 0 1 = cc in omega arith
 
 module _ (j : Job) (draw : ℕ → ℕ) (is_IsLeaf : (d : ℕ) → draw d < 2 ^ j.size) {n : ℕ} {row₀ tree₀ : List ℕ} (b : Begins j draw n row₀ tree₀)
     (trace₀ : List ℕ) {h : Held} {froms : List ℕ} {m peak : ℕ} {row tree keys trace : List ℕ}
@@ -117,7 +118,7 @@ module _ (j : Job) (draw : ℕ → ℕ) (is_IsLeaf : (d : ℕ) → draw d < 2 ^ 
       round-now = rw rows.keys-are round
 
       -- Damage.
-      pub walks-damaged : {f : Fetched} → f ≡ record { count = h.count; waiting = r.waiting; mark = r.mark; leaves = h.count + 1; peak = peak' } → r.taken ≡ false
+      pub walks-damaged : {f : Fetched} → f ≡ record { count = h.count; waiting = r.waiting; fault = r.fault; leaves = h.count + 1; peak = peak' } → took r ≡ false
           → Walks j draw n row₀ tree₀ trace₀ h froms row' tree' keys shown f
       walks-damaged e t =
           let marked = not_taken round t in
@@ -125,14 +126,14 @@ module _ (j : Job) (draw : ℕ → ℕ) (is_IsLeaf : (d : ℕ) → draw d < 2 ^ 
           rw e (record { goes = λ z. absurd (marked z); finished = λ z. absurd (marked z); stops = λ z. record { came = rw (append-nil (held_by h froms), rows.counted) at came; nodes-are = rows.nodes-are } })
 
       module _ {h' : Held} {x : node.Node} {d : ℕ} (v : ℕ) (is : h' ≡ record { nodes = set h.nodes h.count x; count = h.count + 1 })
-          (same : x ≡ record { key = r.node.key; value = r.node.value; tag = d; left = r.node.left; right = r.node.right })
+          (same : x ≡ record { key = (node_taken r).key; value = (node_taken r).value; tag = d; left = (node_taken r).left; right = (node_taken r).right })
           (drawn : d ≡ draw h.count) (from_is : from_in v ≡ to_from want.from) (row_sized : length h.nodes ≡ places) (froms-sized : length froms ≡ fetches)
-          (keys-sized : length keys ≡ most_held) (taken : r.taken ≡ true) where
+          (keys-sized : length keys ≡ most_held) (taken : took r ≡ true) where
         abbrev g : fetch.Held
-        g = taken_as want (draw h.count) (to_node r.node)
+        g = taken_as want (draw h.count) (to_node (node_taken r))
 
-        node-is : to_node x ≡ retag (draw h.count) (to_node r.node)
-        node-is = ap to_node same ∙ ap (λ (t : ℕ). retag t (to_node r.node)) drawn
+        node-is : to_node x ≡ retag (draw h.count) (to_node (node_taken r))
+        node-is = ap to_node same ∙ ap (λ (t : ℕ). retag t (to_node (node_taken r))) drawn
 
         few : h.count < 33
         few = omega (arith, at_most j draw is_IsLeaf b)
@@ -140,21 +141,21 @@ module _ (j : Job) (draw : ℕ → ℕ) (is_IsLeaf : (d : ℕ) → draw d < 2 ^ 
         then-held : held_by h' (set froms h.count v) ≡ held_by h froms ++ (g ∷ [])
         then-held = rw is (held-more-is rows few row_sized froms-sized keys-sized x v {g = g} node-is from_is)
 
-        then-rows : InRows h' (set froms h.count v) (set keys h.count r.node.key)
+        then-rows : InRows h' (set froms h.count v) (set keys h.count x.key)
         then-rows =
-            rw (is, ← ap (λ (n : node.Node). n.key) same) (rows_more rows few row_sized froms-sized keys-sized x v {g = g} node-is from_is)
+            rw is (rows_more rows few row_sized froms-sized keys-sized x v {g = g} node-is from_is)
 
         -- Overflow.
-        pub walks-overflow : {f : Fetched} → f ≡ record { count = h.count + 1; waiting = r.waiting; mark = r.mark; leaves = h.count + 1; peak = peak' } → (r.mark ≡ 0 → ⊥)
-            → Walks j draw n row₀ tree₀ trace₀ h' (set froms h.count v) row' tree' (set keys h.count r.node.key) shown f
+        pub walks-overflow : {f : Fetched} → f ≡ record { count = h.count + 1; waiting = r.waiting; fault = r.fault; leaves = h.count + 1; peak = peak' } → (mark_of r.fault ≡ 0 → ⊥)
+            → Walks j draw n row₀ tree₀ trace₀ h' (set froms h.count v) row' tree' (set keys h.count x.key) shown f
         walks-overflow e marked =
-            let many = sym (length-append (held_by h froms) (taken_as want (draw (length (held_by h froms))) (to_node r.node) ∷ []) ∙ ap (λ (n : ℕ). n + 1) rows.counted) in
+            let many = sym (length-append (held_by h froms) (taken_as want (draw (length (held_by h froms))) (to_node (node_taken r)) ∷ []) ∙ ap (λ (n : ℕ). n + 1) rows.counted) in
             let came = rw rows.counted at (walked-shut j draw is_IsLeaf b trace₀ inv want asked-now fewer round-now raised within true taken marked {count = h.count + 1} many) in
             rw e (record { goes = λ z. absurd (marked z); finished = λ z. absurd (marked z); stops = λ z. record { came = rw then-held came; nodes-are = then-rows.nodes-are } })
 
         -- One round more.
-        pub walked_next : r.mark ≡ 0
+        pub walked_next : mark_of r.fault ≡ 0
             → Walked j draw n row₀ tree₀ trace₀ (held_by h' (set froms h.count v)) r.waiting peak' row' tree' shown
-            × InRows h' (set froms h.count v) (set keys h.count r.node.key)
+            × InRows h' (set froms h.count v) (set keys h.count x.key)
         walked_next e =
             (rw then-held (rw rows.counted at (walked_on j draw is_IsLeaf b trace₀ inv want asked-now fewer round-now raised within taken e)), then-rows)

@@ -17,15 +17,14 @@ use Rattle.leaf_spec.specs.Entries.{OpFits, KeyLeft}
 use Rattle.state_spec.specs.Ticket as ticket
 use Rattle.leaf_spec.specs.Convert.{to_link, to_ahead, to_node}
 use Rattle.operation_spec.specs.Method.{to_op, structure_asked, program_for, wanted_in}
-use Rattle.node_rows.specs.Row.{words as rowWords, fetches, froms_in}
+use Rattle.node_rows.specs.Row.{froms_in}
 use Rattle.node_rows.specs.Held.{Held, nodes_of}
 use Rattle.node_rows.specs.Heights.{Lows}
 use Rattle.tag_moves.specs.Moved.{held_of}
-use Rattle.word_round_laws.specs.SlotRow.{path_slots}
-use Rattle.held_keys.specs.Held.{most_held}
 use Rattle.stash_laws.specs.Waiting.{waiting_in}
 use Rattle.short_outcomes.specs.OneFetch.{one_fetch}
 use Rattle.one_round.specs.OneRound.{going, ended_with, Rests}
+use Rattle.round_close.specs.Fault.{mark_of}
 use Rattle.want_rounds.specs.declared.Job.{Job}
 use Rattle.want_rounds.specs.declared.Fetched.{Fetched}
 use Rattle.want_rounds.specs.declared.FetchedOne.{FetchedOne}
@@ -89,19 +88,10 @@ pub record Begins (j : Job) (draw : ℕ → ℕ) (n : ℕ) (row tree : List ℕ)
 abbrev pub LongEnough : Job → (tape trace : List ℕ) → Type 0
 LongEnough j tape trace = (j.puts + j.rounds ≤ length tape) × (2 * j.rounds ≤ length trace)
 
--- The rows that the code lends: the held nodes, where their links stood, the nodes of a step, the held keys, and where a path's full slots start.
-pub record RowsSized (held froms made keys from : List ℕ) : Type 0 where
-  pub held-row : length held ≡ rowWords
-  pub froms-row : length froms ≡ fetches
-  pub made_row : length made ≡ rowWords
-  pub keys-row : length keys ≡ most_held
-  pub from_row : length from ≡ path_slots
-
 -- What the fetch rounds of a map or a heap need.
-pub record CanFetch (j : Job) (n : ℕ) (row tree held froms made keys tape trace from : List ℕ) : Type 0 where
+pub record CanFetch (j : Job) (n : ℕ) (row tree tape trace : List ℕ) : Type 0 where
   pub begins : Begins j (draw_of j.size tape) n row tree
   pub more-fetches : one_fetch (structure_in j) ≡ false
-  pub rows : RowsSized held froms made keys from
   pub long : LongEnough j tape trace
 
 -- ---- what rounds came to, with these nodes held, and their peak
@@ -120,15 +110,15 @@ pub record Walked (j : Job) (draw : ℕ → ℕ) (n : ℕ) (row₀ tree₀ trace
 -- After all fetch rounds, or after one that closed the store.
 pub record FetchedAs (j : Job) (draw : ℕ → ℕ) (n : ℕ) (row tree trace : List ℕ) (hs : List fetch.Held) (row' tree' trace' : List ℕ) (r : Fetched) : Type 0 where
   pub outcome : fetched j draw j.rounds n row tree
-      ≡ ended_with r.mark (going r.waiting row' tree' hs (take r.leaves trace')) (after (program_of j) (nodes_held hs))
+      ≡ ended_with (mark_of r.fault) (going r.waiting row' tree' hs (take r.leaves trace')) (after (program_of j) (nodes_held hs))
   pub peaked : peak_of (listed_by j draw n row tree) ≡ r.peak
-  pub finished : r.mark ≡ 0 → wanted_in (after (program_of j) (nodes_held hs)) ≡ none
+  pub finished : mark_of r.fault ≡ 0 → wanted_in (after (program_of j) (nodes_held hs)) ≡ none
   pub counted : r.count ≡ length hs
   pub upto : length hs ≤ j.rounds
   pub rests : Rests r.waiting row' (keys_held hs)
   pub low : Lows 100 (nodes_held hs)
   pub no_more : r.leaves ≤ j.rounds
-  pub all_shown : r.mark ≡ 0 → r.leaves ≡ j.rounds
+  pub all_shown : mark_of r.fault ≡ 0 → r.leaves ≡ j.rounds
   pub trace-sized : length trace' ≡ length trace
   pub untouched : drop r.leaves trace' ≡ drop r.leaves trace
 
@@ -145,6 +135,6 @@ pub record Fetches (j : Job) (draw : ℕ → ℕ) (n : ℕ) (row tree trace : Li
 
 -- The rounds that want a node: if they go on none is wanted any more, else they came to what all of them come to.
 pub record Walks (j : Job) (draw : ℕ → ℕ) (n : ℕ) (row tree trace : List ℕ) (h : Held) (froms row' tree' keys' trace' : List ℕ) (r : Fetched) : Type 0 where
-  pub goes : r.mark ≡ 0 → Walked j draw n row tree trace (held_by h froms) r.waiting r.peak row' tree' trace' × InRows h froms keys'
-  pub finished : r.mark ≡ 0 → wanted_in (after (program_of j) (nodes_held (held_by h froms))) ≡ none
-  pub stops : (r.mark ≡ 0 → ⊥) → Fetches j draw n row tree trace h froms row' tree' trace' r
+  pub goes : mark_of r.fault ≡ 0 → Walked j draw n row tree trace (held_by h froms) r.waiting r.peak row' tree' trace' × InRows h froms keys'
+  pub finished : mark_of r.fault ≡ 0 → wanted_in (after (program_of j) (nodes_held (held_by h froms))) ≡ none
+  pub stops : (mark_of r.fault ≡ 0 → ⊥) → Fetches j draw n row tree trace h froms row' tree' trace' r

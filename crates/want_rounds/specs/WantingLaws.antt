@@ -36,6 +36,7 @@ use Rattle.none_lost_laws.specs.Lost.{FetchEnds, fetch-rounds, never-left-wantin
 use Rattle.want_rounds.specs.Splits.{goes_on, fetches-none, fetches-next, fetches-split}
 use Rattle.idle_rounds.specs.Idle.{Between, keys_held}
 use Rattle.idle_rounds.specs.IdleLaws.{put-none, put-goes, put-shuts, goes_on_lem, stops-here, between-ready}
+use Rattle.round_close.specs.Fault.{mark_of}
 use Rattle.want_rounds.specs.declared.Job.{Job}
 use Rattle.bucket_call_spec.specs.Peak.{rounds_from, peak_of, peak_at}
 use Rattle.peak_laws.specs.PeakLaws.{wanting-round, peak-goes, peak-shuts}
@@ -49,7 +50,7 @@ use Rattle.state_laws.specs.FetchingLaws.{rounds-most}
 use Rattle.structures.specs.WantLaws.{wanted-low, tested_low}
 use Rattle.stash_laws.specs.WaitingLaws.{waiting-length}
 use Rattle.one_round.specs.declared.Took.{Took}
-use Rattle.one_round.specs.OneRound.{going, ended_with, RoundReady, Rests, held_too, taken_as, Wanted}
+use Rattle.one_round.specs.OneRound.{going, ended_with, RoundReady, Rests, held_too, taken_as, Wanted, took, node_taken}
 
 -- ---- programs after some nodes
 module _ {A : Type 0} where
@@ -242,11 +243,11 @@ module _ (j : Job) (draw : ℕ → ℕ) (is_IsLeaf : (d : ℕ) → draw d < 2 ^ 
     module _ {row' tree' : List ℕ} {r : Took} (more : length hs < j.rounds) (round : Wanted j.structure j.entries j.size m want row tree (keys_held hs) row' tree' r)
         {peak' : ℕ} (raised : peak' ≡ max peak r.count) (room : length hs < length trace₀) where
       abbrev fetched_node : Node ℕ
-      fetched_node = retag (draw i) (to_node r.node)
+      fetched_node = retag (draw i) (to_node (node_taken r))
 
       -- The node as it is held.
       abbrev pub now_held : fetch.Held
-      now_held = taken_as want (draw i) (to_node r.node)
+      now_held = taken_as want (draw i) (to_node (node_taken r))
 
       abbrev trace' : List ℕ
       trace' = set trace i want.link.tag
@@ -257,13 +258,13 @@ module _ (j : Job) (draw : ℕ → ℕ) (is_IsLeaf : (d : ℕ) → draw d < 2 ^ 
       one-leaf-more : take i trace ++ (want.link.tag ∷ []) ≡ take (i + 1) trace'
       one-leaf-more = rw (add-one i) (sym (take-suc-set trace i want.link.tag (omega (arith, inv.trace-sized))))
 
-      this-round : (taken : Bool) → r.taken ≡ taken
+      this-round : (taken : Bool) → took r ≡ taken
           → want_round (structure_in j) j.entries j.size (draw i) (to_want want) there.then here
-          ≡ ended_with r.mark (ended (hs ++ held_too taken now_held)) (there.then fetched_node)
+          ≡ ended_with (mark_of r.fault) (ended (hs ++ held_too taken now_held)) (there.then fetched_node)
       this-round taken t = rw (← b.structure-is, ← one-leaf-more, ← t) (round.round hs (take i trace) (draw i) there.then refl)
 
-      next-round : (taken : Bool) → r.taken ≡ taken
-          → fetched j draw (i + 1) n row₀ tree₀ ≡ ended_with r.mark (ended (hs ++ held_too taken now_held)) (there.then fetched_node)
+      next-round : (taken : Bool) → took r ≡ taken
+          → fetched j draw (i + 1) n row₀ tree₀ ≡ ended_with (mark_of r.fault) (ended (hs ++ held_too taken now_held)) (there.then fetched_node)
       next-round taken t =
           round-more (structure_in j) j.entries j.size draw (program_of j) (going n row₀ tree₀ [] []) i here (to_want want) there.then
           (inv.so_far ∙ ap (on here) there.is)
@@ -293,24 +294,24 @@ module _ (j : Job) (draw : ℕ → ℕ) (is_IsLeaf : (d : ℕ) → draw d < 2 ^ 
       trace-length : length trace' ≡ length trace₀
       trace-length = length-set trace i want.link.tag ∙ inv.trace-sized
 
-      keys-then : (taken : Bool) → keys_held (hs ++ held_too taken now_held) ≡ keys_held hs ++ held_too taken r.node.key
+      keys-then : (taken : Bool) → keys_held (hs ++ held_too taken now_held) ≡ keys_held hs ++ held_too taken (node_taken r).key
       keys-then true = map-append (λ (h : fetch.Held). h.node.key) hs (now_held ∷ [])
       keys-then false = map-append (λ (h : fetch.Held). h.node.key) hs []
 
-      rests-then : (taken : Bool) → r.taken ≡ taken → Rests r.waiting row' (keys_held (hs ++ held_too taken now_held))
+      rests-then : (taken : Bool) → took r ≡ taken → Rests r.waiting row' (keys_held (hs ++ held_too taken now_held))
       rests-then taken t = rw (keys-then taken, ← t) round.rests
 
       -- The wanted link is low, and so is the node that passed its test.
-      node-low : r.taken ≡ true → Low 100 fetched_node
+      node-low : took r ≡ true → Low 100 fetched_node
       node-low t =
           let low = wanted-low (to_op j.op) (spares_in j.spares) j.limit j.entries (to_ahead j.spares.ahead) (to_link j.root) (nodes_held hs) 100 (omega arith) (root-low j draw is_IsLeaf b) inv.low asked in
-          let passed : test (structure_in j) j.entries (to_want want) (to_node r.node) ≡ true = rw (← b.structure-is) (round.tested t) in
-          tested_low (structure_in j) j.entries (to_want want) (to_node r.node) 100 passed (omega arith) low
+          let passed : test (structure_in j) j.entries (to_want want) (to_node (node_taken r)) ≡ true = rw (← b.structure-is) (round.tested t) in
+          tested_low (structure_in j) j.entries (to_want want) (to_node (node_taken r)) 100 passed (omega arith) low
 
       nodes-more : nodes_held (hs ++ (now_held ∷ [])) ≡ nodes_held hs ++ (fetched_node ∷ [])
       nodes-more = map-append (λ (h : fetch.Held). h.node) hs (now_held ∷ [])
 
-      lows-then : (taken : Bool) → r.taken ≡ taken → Lows 100 (nodes_held (hs ++ held_too taken now_held))
+      lows-then : (taken : Bool) → took r ≡ taken → Lows 100 (nodes_held (hs ++ held_too taken now_held))
       lows-then true t = rw nodes-more (lows-append 100 (nodes_held hs) fetched_node inv.low (node-low t))
       lows-then false t = rw (append-nil hs) inv.low
 
@@ -319,20 +320,20 @@ module _ (j : Job) (draw : ℕ → ℕ) (is_IsLeaf : (d : ℕ) → draw d < 2 ^ 
       counted-then false = omega (arith, ap length (append-nil hs))
 
       -- The store was closed in this round, whether the node was taken out, as with overflow, or not, as with damage.
-      pub walked-shut : (taken : Bool) → r.taken ≡ taken → (r.mark ≡ 0 → ⊥) → {count : ℕ} → count ≡ length (hs ++ held_too taken now_held)
+      pub walked-shut : (taken : Bool) → took r ≡ taken → (mark_of r.fault ≡ 0 → ⊥) → {count : ℕ} → count ≡ length (hs ++ held_too taken now_held)
           → FetchedAs j draw n row₀ tree₀ trace₀ (hs ++ held_too taken now_held) row' tree' trace'
-          (record { count = count; waiting = r.waiting; mark = r.mark; leaves = length hs + 1; peak = peak' })
+          (record { count = count; waiting = r.waiting; fault = r.fault; leaves = length hs + 1; peak = peak' })
       walked-shut taken t marked counted =
           let hs' = hs ++ held_too taken now_held in
           record {
             outcome =
-                closed-early (structure_in j) j.entries j.size draw (program_of j) (going n row₀ tree₀ [] []) (i + 1) j.rounds r.mark (ended hs') (omega arith)
-                (next-round taken t ∙ stops-here r.mark (ended hs') (there.then fetched_node) marked)
-                ∙ sym (stops-here r.mark (ended hs') (after (program_of j) (nodes_held hs')) marked);
+                closed-early (structure_in j) j.entries j.size draw (program_of j) (going n row₀ tree₀ [] []) (i + 1) j.rounds (mark_of r.fault) (ended hs') (omega arith)
+                (next-round taken t ∙ stops-here (mark_of r.fault) (ended hs') (there.then fetched_node) marked)
+                ∙ sym (stops-here (mark_of r.fault) (ended hs') (after (program_of j) (nodes_held hs')) marked);
             peaked =
                 inv.peaks ∙ rw rounds-then
-                (peak-shuts (structure_in j) j.entries j.size draw (j.rounds - (i + 1)) i q here (ended hs') r.mark
-                (listed-wants ∙ this-round taken t ∙ stops-here r.mark (ended hs') (there.then fetched_node) marked) peak
+                (peak-shuts (structure_in j) j.entries j.size draw (j.rounds - (i + 1)) i q here (ended hs') (mark_of r.fault)
+                (listed-wants ∙ this-round taken t ∙ stops-here (mark_of r.fault) (ended hs') (there.then fetched_node) marked) peak
                 ∙ most-then);
             finished = λ e. absurd (marked e);
             counted = counted;
@@ -351,13 +352,13 @@ module _ (j : Job) (draw : ℕ → ℕ) (is_IsLeaf : (d : ℕ) → draw d < 2 ^ 
       pub more-counted : length held_more ≡ length hs + 1
       more-counted = length-append hs (now_held ∷ [])
 
-      went : r.mark ≡ 0 → ended_with r.mark (ended held_more) (there.then fetched_node) ≡ on (ended held_more) (after (program_of j) (nodes_held held_more))
+      went : mark_of r.fault ≡ 0 → ended_with (mark_of r.fault) (ended held_more) (there.then fetched_node) ≡ on (ended held_more) (after (program_of j) (nodes_held held_more))
       went e =
-          goes_on_lem r.mark (ended held_more) (there.then fetched_node) e
+          goes_on_lem (mark_of r.fault) (ended held_more) (there.then fetched_node) e
           ∙ ap (on (ended held_more)) (sym (ap (after (program_of j)) nodes-more ∙ after_more (program_of j) (nodes_held hs) fetched_node there.is))
 
       -- The call goes on.
-      pub walked_on : r.taken ≡ true → r.mark ≡ 0 → Walked j draw n row₀ tree₀ trace₀ held_more r.waiting peak' row' tree' trace'
+      pub walked_on : took r ≡ true → mark_of r.fault ≡ 0 → Walked j draw n row₀ tree₀ trace₀ held_more r.waiting peak' row' tree' trace'
       walked_on t e =
           record {
             upto = omega (arith, more-counted);

@@ -4,15 +4,16 @@
 ghost use Rattle.std.specs.Prelude.{◌≡◌};
 ghost use Rattle.bucket_call_spec.specs.Call.{draw_of};
 ghost use Rattle.node_rows.specs.Held.{held_in};
-ghost use Rattle.want_rounds.specs.Wanting.{CanFetch, RowsSized, Walks};
+ghost use Rattle.want_rounds.specs.Wanting.{CanFetch, Walks};
 
+use fetch_tests::passes;
 use held_keys::MOST_HELD;
 use idle_rounds::idle::draw_at;
 use node_rows::{FETCHES, ROW, set_node, word_of};
 use one_round::want_round;
 use operation_spec::{Op, Spares};
 use path_slots::PATH_SLOTS;
-use round_close::greater;
+use round_close::Fault;
 use slot_spec::{Link, Node};
 use structures::wanted;
 
@@ -31,31 +32,38 @@ pub struct Job {
     pub puts: usize,
 }
 
-// What the fetch rounds came to: how many nodes are held and how many wait, mark 0, or 8 damage or 9 overflow, how many leaves were
-// revealed, and the largest count at the close of a round.
+// What the fetch rounds came to: how many nodes are held and how many wait, the fault, if one closed the store, how many leaves
+// were revealed, and the largest count at the close of a round.
 #[derive(Clone, Copy)]
 pub struct Fetched {
     pub count: usize,
     pub waiting: usize,
-    pub mark: u8,
+    pub fault: Option<Fault>,
     pub leaves: usize,
     pub peak: usize,
 }
 
-// What the one fetch round of a stack or a queue came to, and the node that is held under the round's draw, if one is.
+// What the one fetch round of a stack or a queue came to, and the node that is held under the round's draw, if one is. No Option says so
+// again: the count is 1 then, and what ends the call asks no more than the count.
 #[derive(Clone, Copy)]
 pub struct FetchedOne {
     pub fetched: Fetched,
     pub node: Node,
 }
 
-pub fn came_to(count: usize, waiting: usize, mark: u8, leaves: usize, peak: usize) -> Fetched
-    ensures { result ≡ record { count = count; waiting = waiting; mark = mark; leaves = leaves; peak = peak } }
+pub fn came_to(
+    count: usize,
+    waiting: usize,
+    fault: Option<Fault>,
+    leaves: usize,
+    peak: usize,
+) -> Fetched
+    ensures { result ≡ record { count = count; waiting = waiting; fault = fault; leaves = leaves; peak = peak } }
 {
     Fetched {
         count,
         waiting,
-        mark,
+        fault,
         leaves,
         peak,
     }
@@ -77,49 +85,40 @@ pub fn want_rounds(
     trace: &mut [u16],
     from: &mut [u32; PATH_SLOTS],
 ) -> Fetched
-    requires { CanFetch job n w.old tree.old held.old froms.old made.old keys.old tape.now trace.old from.old }
-    ensures { Walks job (draw_of job.size tape.now) n w.old tree.old trace.old (held_in held.new result.count) froms.new w.new tree.new keys.new trace.new result × RowsSized held.new froms.new made.new keys.new from.new }
+    requires { CanFetch job n w.old tree.old tape.now trace.old }
+    ensures { Walks job (draw_of job.size tape.now) n w.old tree.old trace.old (held_in held.new result.count) froms.new w.new tree.new keys.new trace.new result }
 {
-    let op = job.op;
-    let root = job.root;
-    let spares = job.spares;
-    let mut count = 0;
     let mut waiting = n;
     let mut peak = 0;
-    while count < job.rounds {
-        let next = wanted(op, job.limit, job.entries, root, spares, held, count, made);
-        let Some(want) = next else {
-            return came_to(count, waiting, 0, count, peak);
-        };
-        let link = want.link;
-        let origin = want.from;
-        trace[count] = link.tag;
-        let r = want_round(
-            job.structure,
+    for i in 0..job.rounds {
+        let next = wanted(
+            job.op,
+            job.limit,
             job.entries,
-            want,
-            w,
-            waiting,
-            tree,
-            job.size,
-            keys,
-            count,
-            from,
+            job.root,
+            job.spares,
+            held,
+            i,
+            made,
         );
-        peak = greater(peak, r.count);
-        if !r.taken {
-            return came_to(count, r.waiting, r.mark, count + 1, peak);
-        }
-        let mut node = r.node;
-        node.tag = draw_at(tape, count, job.size) as u16;
-        set_node(held, count, node);
-        froms[count] = word_of(origin);
-        keys[count] = node.key;
-        count += 1;
-        if r.mark != 0 {
-            return came_to(count, r.waiting, r.mark, count, peak);
-        }
+        let Some(want) = next else {
+            return came_to(i, waiting, None, i, peak);
+        };
+        trace[i] = want.link.tag;
+        let test = |node| passes(job.structure, job.entries, want, node);
+        let r = want_round(test, want, w, waiting, tree, job.size, &keys[..i], from);
         waiting = r.waiting;
+        peak = peak.max(r.count);
+        let Some(mut node) = r.node else {
+            return came_to(i, waiting, r.fault, i + 1, peak);
+        };
+        node.tag = draw_at(tape, i, job.size) as u16;
+        set_node(held, i, node);
+        froms[i] = word_of(want.from);
+        keys[i] = node.key;
+        if r.fault.is_some() {
+            return came_to(i + 1, waiting, r.fault, i + 1, peak);
+        }
     }
-    came_to(count, waiting, 0, count, peak)
+    came_to(job.rounds, waiting, None, job.rounds, peak)
 }

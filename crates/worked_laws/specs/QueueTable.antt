@@ -2,7 +2,7 @@
 use Rattle.std.specs.Prelude.{◌≡◌, refl, [], ◌∷◌, ◌++◌, replicate}
 use Rattle.slot_spec.specs.Slot.{no_link, encode}
 use Rattle.operation_spec.specs.declared.Answer.TheVariants.{Queued, Dequeued}
-use Rattle.call_spec.specs.declared.Reply.TheVariants.{Answered, Refused}
+use Rattle.call_spec.specs.Reply.{Answered, Refused}
 use Rattle.worked_laws.specs.Table.{Ticketed, from, last_of}
 
 abbrev in_fifty : Ticketed

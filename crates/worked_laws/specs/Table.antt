@@ -24,7 +24,7 @@ use Rattle.bucket_call_spec.specs.Call.{put_rounds, after_puts, after_fetches, b
 use Rattle.operation_spec.specs.declared.Answer.TheVariants.{Absent, Pushed, Popped}
 use Rattle.slot_spec.specs.declared.Reading.TheVariants.{Full}
 use Rattle.state_spec.specs.declared.State.{State}
-use Rattle.call_spec.specs.declared.Reply.TheVariants.{Answered, Refused}
+use Rattle.call_spec.specs.Reply.{Answered, Refused}
 use Rattle.list_spec.specs.Ascending.{ascending_from, ascending}
 use Rattle.state_spec.specs.Fit.{all_of, root_good, ahead_good, fits, head_fits, places_from}
 use Rattle.state_spec.specs.Ticket.{op_in, fields_used, stray_fields}

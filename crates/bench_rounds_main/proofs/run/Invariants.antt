@@ -1,16 +1,7 @@
 -- `bench_rounds_main::run` meets its contract. The loop's invariant: the store is at rest.
-use mathlib.Core.Path.{◌≡◌}
-use Prim.Native.Nat.{◌≤◌, ◌-◌}
-use lib.ListN.{length}
-use Rattle.word_round_laws.specs.SlotRow.{path_slots}
 use Rattle.test_rounds.specs.Single.{Resting}
-use Rattle.bench_rounds_main.specs.Run.{size, nodes}
+use Rattle.bench_rounds_main.specs.Run.{size}
 use Rattle.bench_rounds_main.proofs.run.Given as goal
 
-abbrev pub invariant-loop-i : goal.invariant-loop-i
-invariant-loop-i l =
-    (l.i ≤ l.rounds) × Resting size l.n l.w l.tree × (length l.tags ≡ nodes) × (length l.from ≡ path_slots) × (length l.w ≡ length l.initial.w) × (length l.tree ≡ length l.initial.tree)
-
-abbrev pub decreases-loop-i : goal.decreases-loop-i
-decreases-loop-i l =
-    l.rounds - l.i
+abbrev pub invariant-loop-turn : goal.invariant-loop-turn
+invariant-loop-turn l = Resting size l.n l.w l.tree

@@ -19,7 +19,7 @@ put_rounds-puts-requires c =
     (let f = c.args.f in
     let joined = c.join_nodes-m.ensures in
     can-put c.args.job f held c.requires.0 joined.holds (joined.waiting ∙ ap (λ (o : Outcome ℕ). join leaf_format o.nodes (waiting_in f.waiting c.args.w.now)) c.step_of-o.ensures.0)) in
-    (puts-begin.after-step, c.requires.1.1.0, (c.requires.0.some-rounds, c.requires.1.1.1))
+    (puts-begin.after-step, (c.requires.0.some-rounds, c.requires.1.1))
 
 pub returns : goal.returns
 returns c =
@@ -27,4 +27,4 @@ returns c =
     let f = c.args.f in
     let joined = c.join_nodes-m.ensures in
     finish-ends c.args.job f held c.requires.0 joined.holds (joined.waiting ∙ ap (λ (o : Outcome ℕ). join leaf_format o.nodes (waiting_in f.waiting c.args.w.now)) c.step_of-o.ensures.0) c.step_of-o.ensures.0
-    (c.finished.ensures _ _ _ _ _ _ _ _ _ c.requires.1.1.1.1 c.put_rounds-puts.ensures)
+    (c.finished.ensures _ _ _ _ _ _ _ _ _ c.requires.1.1.1 c.put_rounds-puts.ensures)

@@ -16,5 +16,5 @@ returns c =
     let a = c.args in
     let moved = c.move_tags-root.ensures in
     let joined = c.join_nodes-waiting.ensures in
-    shut-ends a.job a.f (held_by (held_in a.held.now a.f.count) a.froms.now) moved.link joined.holds
+    shut-ends a.job a.f a.cause (held_by (held_in a.held.now a.f.count) a.froms.now) moved.link joined.holds
     (joined.waiting ∙ ap (λ (ns : List (Node ℕ)). join leaf_format ns (waiting_in a.f.waiting a.w.now)) moved.nodes) c.closed.ensures

@@ -12,10 +12,6 @@ use Rattle.eviction.proofs.fill_path.Given as goal
 
 abbrev pub invariant-loop-i : goal.invariant-loop-i
 invariant-loop-i l =
-    (l.i ≤ l.m) × Swept (slots_in l.initial.w) l.i l.w l.kept
+    Swept (slots_in l.initial.w) l.i l.w l.kept
     × ((start : List ℕ) → length start ≡ tree_length l.size → l.initial.tree ≡ cleared start (path l.size l.leaf)
     → Placing l.size l.leaf start (without l.out (take l.i (slots_in l.initial.w))) l.tree l.used (take l.kept (slots_in l.w)))
-
-abbrev pub decreases-loop-i : goal.decreases-loop-i
-decreases-loop-i l =
-    l.m - l.i

@@ -1,36 +1,21 @@
--- `held_keys::is_held` meets its contract. The invariant: none of the first i is the key.
-use mathlib.Core.Path.{◌≡◌, sym, ◌∙◌}
-use mathlib.Core.List.{List}
-use Prim.Native.Nat.{ℕ, ◌≤◌, ◌<◌}
-use lib.ListN.{length, take, length-take}
-use lib.Seq.{get_or-take}
-use Rattle.word_round_laws.specs.JoinLaws.{among-here, among_later, among-end}
-use native.Mathlib.Omega.{arith}
+-- `held_keys::is_held` meets its contract: the slice's own search asks each key the other way round.
+use Rattle.std.proofs.Common.{◌≡◌, refl, sym, ◌∙◌, ap, ap₂, ℕ, Bool, ◌||◌, eqb, List, [], ◌∷◌}
+use Rattle.std.proofs.Math.Decide.{ℕ_discrete}
+use Rattle.std.proofs.Common.{eq-eqb, ne_eqb}
+use Rattle.std.specs.List.{list_any}
+use Rattle.slot_spec.specs.Tree.{among}
 use Rattle.held_keys.proofs.is_held.Goals as goal
 
--- The first count are so many.
-first_count : (held : List ℕ) (count : ℕ) → count ≤ length held → length (take count held) ≡ count
-first_count held count h = simp length-take (omega arith)
+eqb-turned : (a b : ℕ) → eqb a b ≡ eqb b a
+eqb-turned a b = elim (ℕ_discrete a b) [
+  | yes e ↦ eq-eqb a b e ∙ sym (eq-eqb b a (sym e))
+  | no d ↦ ne_eqb a b d ∙ sym (ne_eqb b a (λ e. d (sym e)))
+]
 
-pub returns-then-held-i : goal.returns-then-held-i
-returns-then-held-i c =
-    let a = c.args in
-    let l = c.loop-i in
-    let n = first_count a.held.now a.count (omega (arith, c.requires.0, c.requires.1)) in
-    let h : l.i < a.count = c.loop-i-test.true in
-    sym (l.invariant.1 ∙ among-here a.key (take a.count a.held.now) l.i (omega arith) (rw (get_or-take a.count a.held.now l.i 0 h) c.if-held-i.true))
-
-pub loop-i-preserved : goal.loop-i-preserved
-loop-i-preserved c =
-    let a = c.args in
-    let l = c.loop-i in
-    let n = first_count a.held.now a.count (omega (arith, c.requires.0, c.requires.1)) in
-    let h : l.i < a.count = c.loop-i-test.true in
-    (omega arith, l.invariant.1 ∙ among_later a.key (take a.count a.held.now) l.i (omega arith) (rw (get_or-take a.count a.held.now l.i 0 h) c.if-held-i.false))
+any-among : (key : ℕ) (ks : List ℕ) → list_any (λ k. eqb k key) ks ≡ among key ks
+unfolding among
+any-among key [] = refl
+any-among key (k ∷ ks) = ap₂ (λ (a b : Bool). a || b) (eqb-turned k key) (any-among key ks)
 
 pub returns : goal.returns
-returns c =
-    let a = c.args in
-    let l = c.loop-i in
-    let n = first_count a.held.now a.count (omega (arith, c.requires.0, c.requires.1)) in
-    sym (l.invariant.1 ∙ among-end a.key (take a.count a.held.now) l.i (omega arith))
+returns c = c.contains.ensures.value ∙ any-among c.args.key c.args.held.now

@@ -1,5 +1,4 @@
 -- `host_calls::leave_state` meets its contract.
-use borrow.Author.Tests.{not-false}
 use borrow.Author.Rules.{rules}
 use Rattle.slot_laws.specs.LittleEndianLaws.{bytes-from}
 use Rattle.host_calls.specs.LeftLaws.{state-left}
@@ -8,6 +7,5 @@ use Rattle.host_calls.proofs.leave_state.Goals as goal
 pub returns : goal.returns
 returns c =
     let a = c.args in
-    rw (not-false a.r.ran c.if-not-r.false)
-    (state-left a.h a.r a.state.now c.requires (bytes-from a.state.now (λ i g. search rules))
-    c.head_left.result c.write_head.new.state c.head_left.ensures c.write_head.ensures)
+    state-left a.h a.r a.state.now c.requires (bytes-from a.state.now (λ i g. search rules))
+    c.head_left.result c.write_head.new.state c.head_left.ensures c.write_head.ensures

@@ -1,42 +1,38 @@
--- `one_round::ascends` meets its contract. The invariant: the keys ascend exactly if those from i on do.
-use mathlib.Core.Path.{sym, ◌∙◌}
-use Prim.Native.Nat.{◌+◌}
-use native.Mathlib.Omega.{arith}
+-- `one_round::ascends` meets its contract: two neighbours at a time.
+use Rattle.std.proofs.Common.{◌≡◌, refl, sym, ◌∙◌, ap, ◌+◌, ◌-◌, ℕ, drop, arith}
+use Rattle.list_spec.specs.Ascending.{ascending}
 use Rattle.one_round.specs.OneRound.{keys_waiting}
 use Rattle.one_round.specs.AscendLaws.{ascends-here, descends-here, ascends-last, keys-count, waiting-key}
 use Rattle.one_round.proofs.ascends.Goals as goal
+
+pub loop-i-init : goal.loop-i-init
+loop-i-init c = refl
 
 pub returns-then-next-key : goal.returns-then-next-key
 returns-then-next-key c =
     let a = c.args in
     let l = c.loop-i in
-    let t = c.loop-i-test.true in
-    let get = c.get in
-    let key = c.key_of-key in
-    let get2 = c.get-in-loop-i in
-    let key2 = c.key_of-next in
+    let here : l.i - 1 + 1 ≡ l.i = omega arith in
     let n = keys-count a.n a.w.now c.requires in
-    let e = waiting-key a.n a.w.now c.requires l.i get.result key.result (omega arith) get.ensures key.ensures in
-    let f = waiting-key a.n a.w.now c.requires (l.i + 1) get2.result key2.result t get2.ensures key2.ensures in
-    sym (l.invariant.1 ∙ descends-here (keys_waiting a.n a.w.now) l.i (omega arith) (rw (e, f) c.if-next-key.true))
+    let e = waiting-key a.n a.w.now c.requires (l.i - 1) c.get.result c.key_of-key.result (omega (arith, c.loop-i-test.true)) c.get.ensures c.key_of-key.ensures in
+    let f = waiting-key a.n a.w.now c.requires l.i c.get-in-loop-i.result c.key_of-next.result c.loop-i-test.true c.get-in-loop-i.ensures c.key_of-next.ensures in
+    sym (l.invariant ∙ descends-here (keys_waiting a.n a.w.now) (l.i - 1) (omega (arith, c.loop-i-test.true)) (rw (here, e, f) c.if-next-key.true))
 
 pub loop-i-preserved : goal.loop-i-preserved
 loop-i-preserved c =
     let a = c.args in
     let l = c.loop-i in
-    let t = c.loop-i-test.true in
-    let get = c.get in
-    let key = c.key_of-key in
-    let get2 = c.get-in-loop-i in
-    let key2 = c.key_of-next in
+    let here : l.i - 1 + 1 ≡ l.i = omega arith in
+    let next : l.i ≡ l.i + 1 - 1 = omega arith in
     let n = keys-count a.n a.w.now c.requires in
-    let e = waiting-key a.n a.w.now c.requires l.i get.result key.result (omega arith) get.ensures key.ensures in
-    let f = waiting-key a.n a.w.now c.requires (l.i + 1) get2.result key2.result t get2.ensures key2.ensures in
-    (omega arith, l.invariant.1 ∙ ascends-here (keys_waiting a.n a.w.now) l.i (omega arith) (rw (e, f) c.if-next-key.false))
+    let e = waiting-key a.n a.w.now c.requires (l.i - 1) c.get.result c.key_of-key.result (omega (arith, c.loop-i-test.true)) c.get.ensures c.key_of-key.ensures in
+    let f = waiting-key a.n a.w.now c.requires l.i c.get-in-loop-i.result c.key_of-next.result c.loop-i-test.true c.get-in-loop-i.ensures c.key_of-next.ensures in
+    l.invariant ∙ ascends-here (keys_waiting a.n a.w.now) (l.i - 1) (omega (arith, c.loop-i-test.true)) (rw (here, e, f) c.if-next-key.false)
+    ∙ ap (λ (i : ℕ). ascending (drop i (keys_waiting a.n a.w.now))) (here ∙ next)
 
 pub returns : goal.returns
 returns c =
     let a = c.args in
     let l = c.loop-i in
     let n = keys-count a.n a.w.now c.requires in
-    sym (l.invariant.1 ∙ ascends-last (keys_waiting a.n a.w.now) l.i (omega arith))
+    sym (l.invariant ∙ ascends-last (keys_waiting a.n a.w.now) (l.i - 1) (omega (arith, c.loop-i-test.false)))

@@ -6,16 +6,17 @@ use Rattle.word_round_laws.specs.SlotRow.{places}
 use Rattle.word_round_laws.specs.UndoLaws.{FullAt}
 use Rattle.path_reader.specs.UndoneLaws.{last-full, count_fits, last-inside, undoing-turn, undoing-end}
 use native.Mathlib.Omega.{arith}
+use borrow.Author.Rules.{rules}
 use Rattle.path_reader.proofs.undo.Goals as goal
 
 pub load-x-requires : goal.load-x-requires
 load-x-requires c =
     let more : 0 < c.loop-i.i =
     (omega (arith, c.loop-i-test.true)) in
-    let last : FullAt c.args.tree.now (get_or c.args.from.now (c.loop-i.i - 1) 0) =
+    let last : FullAt c.args.tree.now (get_or c.args.starts.now (c.loop-i.i - 1) 0) =
     (let a = c.args in
     let l = c.loop-i in
-    last-full a.tree.now a.from.now a.joined a.m a.s.now l.s l.count l.i c.requires l.invariant more) in
+    last-full a.tree.now a.starts.now a.m a.s.now l.s l.count l.i c.requires.1 l.invariant more) in
     last.0
 
 pub take_out-requires : goal.take_out-requires
@@ -25,16 +26,16 @@ take_out-requires c =
     let fits : c.loop-i.count ≤ places =
     (let a = c.args in
     let l = c.loop-i in
-    count_fits a.tree.now a.from.now a.joined a.m a.s.now l.s l.count l.i c.requires l.invariant more) in
+    count_fits a.tree.now a.starts.now a.m a.s.now l.s l.count l.i c.requires.1 l.invariant more) in
     let words : Words c.load-x.result =
     (omega (arith, c.load-x.type_inv)) in
     let inside : c.find-at.result < c.loop-i.count =
     (let a = c.args in
     let l = c.loop-i in
     let x = c.load-x in
-    last-inside a.tree.now a.from.now a.joined a.m a.s.now l.s l.count l.i c.requires l.invariant more
+    last-inside a.tree.now a.starts.now a.m a.s.now l.s l.count l.i c.requires.1 l.invariant more
     x.result words x.ensures c.key_of.result c.find-at.result c.key_of.ensures c.find-at.ensures) in
-    (c.loop-i.invariant.sized, fits, inside)
+    (search rules, fits, inside)
 
 pub overflow_sub-count : goal.overflow_sub-count
 overflow_sub-count c =
@@ -46,7 +47,7 @@ overflow_sub-count c =
     (let a = c.args in
     let l = c.loop-i in
     let x = c.load-x in
-    last-inside a.tree.now a.from.now a.joined a.m a.s.now l.s l.count l.i c.requires l.invariant more
+    last-inside a.tree.now a.starts.now a.m a.s.now l.s l.count l.i c.requires.1 l.invariant more
     x.result words x.ensures c.key_of.result c.find-at.result c.key_of.ensures c.find-at.ensures) in
     omega (arith, inside)
 
@@ -60,12 +61,12 @@ loop-i-preserved c =
     let l = c.loop-i in
     let x = c.load-x in
     let o = c.take_out in
-    undoing-turn a.tree.now a.from.now a.joined a.m a.s.now l.s l.count l.i c.requires l.invariant more
+    undoing-turn a.tree.now a.starts.now a.m a.s.now l.s l.count l.i c.requires.1 l.invariant more
     x.result words x.ensures c.key_of.result c.find-at.result c.key_of.ensures c.find-at.ensures
-    o.new.s o.ensures.0 o.ensures.1 o.ensures.2
+    o.new.s o.ensures.0 o.ensures.1
 
 pub returns : goal.returns
 returns c =
     let a = c.args in
     let l = c.loop-i in
-    undoing-end a.tree.now a.from.now a.joined a.m a.s.now l.s l.count l.i l.invariant (omega (arith, c.loop-i-test.false))
+    undoing-end a.tree.now a.starts.now a.m a.s.now l.s l.count l.i l.invariant (omega (arith, c.loop-i-test.false))

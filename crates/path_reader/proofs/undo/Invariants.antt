@@ -3,9 +3,4 @@ use Rattle.path_reader.specs.UndoneLaws.{Undoing}
 use Rattle.path_reader.proofs.undo.Given as goal
 
 abbrev pub invariant-loop-i : goal.invariant-loop-i
-invariant-loop-i l =
-    Undoing l.tree l.from l.joined l.m l.initial.s l.s l.count l.i
-
-abbrev pub decreases-loop-i : goal.decreases-loop-i
-decreases-loop-i l =
-    l.i
+invariant-loop-i l = Undoing l.tree l.starts l.m l.initial.s l.s l.count l.i

@@ -11,23 +11,23 @@ pub returns-then-used-level-lt-BUCKET_SLOTS : goal.returns-then-used-level-lt-BU
 returns-then-used-level-lt-BUCKET_SLOTS c =
     let a = c.args in
     let l = c.loop-level in
-    let n : length (take (a.size + 1) a.used.now) ≡ a.size + 1 = simp length-take (omega (arith, c.requires.0)) in
+    let n : length (take (a.size + 1) a.used.now) ≡ a.size + 1 = simp length-take (omega arith) in
     let t : l.level < a.size + 1 = omega arith in
     let g = get_or-take (a.size + 1) a.used.now l.level 0 t in
-    sym (l.invariant.1 ∙ (let e = crowded-here (take (a.size + 1) a.used.now) l.level (omega arith) (rw g c.if-used-level-lt-BUCKET_SLOTS.true) in omega arith))
+    sym (l.invariant ∙ (let e = crowded-here (take (a.size + 1) a.used.now) l.level (omega arith) (rw g c.if-used-level-lt-BUCKET_SLOTS.true) in omega arith))
 
 pub loop-level-preserved : goal.loop-level-preserved
 loop-level-preserved c =
     let a = c.args in
     let l = c.loop-level in
-    let n : length (take (a.size + 1) a.used.now) ≡ a.size + 1 = simp length-take (omega (arith, c.requires.0)) in
+    let n : length (take (a.size + 1) a.used.now) ≡ a.size + 1 = simp length-take (omega arith) in
     let t : l.level < a.size + 1 = omega arith in
     let g = get_or-take (a.size + 1) a.used.now l.level 0 t in
-    (omega arith, l.invariant.1 ∙ crowded-past (take (a.size + 1) a.used.now) l.level (omega arith) (rw g c.if-used-level-lt-BUCKET_SLOTS.false))
+    l.invariant ∙ crowded-past (take (a.size + 1) a.used.now) l.level (omega arith) (rw g c.if-used-level-lt-BUCKET_SLOTS.false)
 
 pub returns : goal.returns
 returns c =
     let a = c.args in
     let l = c.loop-level in
-    let n : length (take (a.size + 1) a.used.now) ≡ a.size + 1 = simp length-take (omega (arith, c.requires.0)) in
-    sym (l.invariant.1 ∙ (let e = crowded-end (take (a.size + 1) a.used.now) l.level (omega arith) in omega arith))
+    let n : length (take (a.size + 1) a.used.now) ≡ a.size + 1 = simp length-take (omega arith) in
+    sym (l.invariant ∙ (let e = crowded-end (take (a.size + 1) a.used.now) l.level (omega arith) in omega arith))

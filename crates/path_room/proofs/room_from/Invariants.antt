@@ -1,14 +1,8 @@
 -- `path_room::room_from` meets its contract. The invariant: no level before has room.
-use mathlib.Core.Path.{◌≡◌}
-use Prim.Native.Nat.{◌+◌, ◌-◌, ◌≤◌}
-use lib.ListN.{take, drop}
+use Rattle.std.proofs.Common.{◌≡◌, ◌+◌, take, drop}
 use Rattle.word_round_laws.specs.Fill.{crowded, room_from}
 use Rattle.path_room.proofs.room_from.Given as goal
 
 abbrev pub invariant-loop-level : goal.invariant-loop-level
 invariant-loop-level l =
-    (l.level ≤ l.size + 1) × (room_from l.from (take (l.size + 1) l.used) ≡ l.level + crowded (drop l.level (take (l.size + 1) l.used)))
-
-abbrev pub decreases-loop-level : goal.decreases-loop-level
-decreases-loop-level l =
-    l.size + 1 - l.level
+    room_from l.from (take (l.size + 1) l.used) ≡ l.level + crowded (drop l.level (take (l.size + 1) l.used))

@@ -17,10 +17,8 @@ loop-j-preserved c =
     let x = c.load in
     let before = take a.m a.from.now ++ full_starts a.tree.now (four_from a.start) in
     let u = full-one (all_zero (slot_bytes x.result)) in (
-      omega arith,
-      omega (arith, c.full-count.ensures, l.invariant.1),
-      length-set l.from l.count (a.start + 32 * l.j) ∙ l.invariant.2,
-      gather-four a.tree.now before l.from l.count a.start l.j (slot_bytes x.result) c.full-count.result t (omega (arith, l.invariant.1, l.invariant.2)) x.ensures c.full-count.ensures l.invariant.3,
+      omega (arith, c.full-count.ensures, l.invariant.0),
+      gather-four a.tree.now before l.from l.count a.start l.j (slot_bytes x.result) c.full-count.result t (omega (arith, l.invariant.0)) x.ensures c.full-count.ensures l.invariant.1,
     )
 
 pub returns : goal.returns
@@ -28,4 +26,4 @@ returns c =
     let a = c.args in
     let l = c.loop-j in
     let before = take a.m a.from.now ++ full_starts a.tree.now (four_from a.start) in
-    (l.invariant.2, omega (arith, l.invariant.1), gather-four-end a.tree.now before l.from l.count a.start l.j (omega arith) l.invariant.3)
+    (omega (arith, l.invariant.0), gather-four-end a.tree.now before l.from l.count a.start l.j (omega arith) l.invariant.1)

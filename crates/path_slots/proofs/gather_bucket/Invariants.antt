@@ -9,9 +9,5 @@ use Rattle.path_slots.proofs.gather_bucket.Given as goal
 
 abbrev pub invariant-loop-j : goal.invariant-loop-j
 invariant-loop-j l =
-    (l.j ≤ 4) × (l.count ≤ l.m + l.j) × (length l.from ≡ path_slots)
+    (l.count ≤ l.m + l.j)
     × (take l.m l.initial.from ++ full_starts l.tree (four_from l.start) ≡ take l.count l.from ++ full_starts l.tree (drop l.j (four_from l.start)))
-
-abbrev pub decreases-loop-j : goal.decreases-loop-j
-decreases-loop-j l =
-    4 - l.j

@@ -10,9 +10,5 @@ use Rattle.path_slots.proofs.gather_path.Given as goal
 
 abbrev pub invariant-loop-level : goal.invariant-loop-level
 invariant-loop-level l =
-    (l.level ≤ l.size + 1) × (l.count ≤ 4 * l.level) × (length l.from ≡ path_slots)
+    (l.count ≤ 4 * l.level) × (length l.from ≡ path_slots)
     × (full_starts l.tree (slot_starts (path l.size l.leaf)) ≡ take l.count l.from ++ full_starts l.tree (slot_starts (drop l.level (path l.size l.leaf))))
-
-abbrev pub decreases-loop-level : goal.decreases-loop-level
-decreases-loop-level l =
-    l.size + 1 - l.level

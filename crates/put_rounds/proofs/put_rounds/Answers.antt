@@ -10,9 +10,9 @@ returns-then-not-ascends c =
     let a = c.args in
     let ascends = c.ascends in
     puts-twice a.size a.n (draw_of a.size a.tape.now) a.rounds a.first a.w.now a.tree.now a.trace.now c.requires.0
-    (sym ascends.ensures ∙ c.if-not-ascends.true) c.requires.2.0 c.draw_at.result c.draw_at.ensures.0
+    (sym ascends.ensures ∙ c.if-not-ascends.true) c.requires.1.0 c.draw_at.result c.draw_at.ensures.0
 
 pub idle_rounds-requires : goal.idle_rounds-requires
 idle_rounds-requires c =
     let ascends = c.ascends in
-    (stepped-between c.requires.0 (sym ascends.ensures ∙ c.if-not-ascends.false), c.requires.1, (omega (arith, c.requires.2), omega (arith, c.requires.2)))
+    (stepped-between c.requires.0 (sym ascends.ensures ∙ c.if-not-ascends.false), (omega (arith, c.requires.1), omega (arith, c.requires.1)))

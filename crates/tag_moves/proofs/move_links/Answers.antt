@@ -14,5 +14,5 @@ loop-i-preserved c =
       λ m t. moving-turn (fetch_of (to_from c.args.from) m) c.args.held.now c.requires.0 l.held c.set_node.new.row l.i (l.invariant.0 m t)
           (omega (arith, c.loop-i-test.true, c.requires.1)) (c.moved_in.ensures m t ∙ ap (λ (x : node.Node). moved_node (fetch_of (to_from c.args.from) m) (to_node x)) c.node_at-n.ensures)
           c.set_node.ensures.0 c.set_node.ensures.1,
-      (omega (arith, c.loop-i-test.true), c.set_node.ensures.1),
+      c.set_node.ensures.1,
     )

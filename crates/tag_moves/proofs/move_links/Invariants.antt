@@ -10,8 +10,4 @@ use Rattle.tag_moves.proofs.move_links.Given as goal
 
 abbrev pub invariant-loop-i : goal.invariant-loop-i
 invariant-loop-i l =
-    ((m : Node ℕ) → m.tag ≡ l.tag → Moving (fetch_of (to_from l.from) m) l.initial.held l.held l.i) × ((l.i ≤ l.count) × (length l.held ≡ words))
-
-abbrev pub decreases-loop-i : goal.decreases-loop-i
-decreases-loop-i l =
-    l.count - l.i
+    ((m : Node ℕ) → m.tag ≡ l.tag → Moving (fetch_of (to_from l.from) m) l.initial.held l.held l.i) × (length l.held ≡ words)

@@ -6,7 +6,3 @@ use Rattle.tag_moves.proofs.move_tags.Given as goal
 abbrev pub invariant-loop-i : goal.invariant-loop-i
 invariant-loop-i l =
     MovingTo l.count l.froms (to_link l.initial.link) l.initial.held l.held (to_link l.link) l.i
-
-abbrev pub decreases-loop-i : goal.decreases-loop-i
-decreases-loop-i l =
-    l.count - l.i

@@ -1,27 +1,32 @@
 -- `test_rounds::round` meets its contract: one case of the round for each return.
-use mathlib.Core.Path.{◌≡◌, refl}
-use mathlib.Core.Bool.{true}
-use native.Mathlib.Omega.{arith}
-use borrow.Author.Tests.{not-true, not-false}
-use Rattle.test_rounds.specs.SingleLaws.{resting-fit, round-damage, round-close}
+use Rattle.std.proofs.Common.{◌≡◌, refl, ◌∙◌, ap, ℕ, Bool, Option, Some, None, is_some, rules}
+use mir.Val.{bool_byte}
+use Rattle.list_spec.specs.Choice.{pick}
+use Rattle.path_reader.specs.Look.{wanted}
+use Rattle.path_reader.specs.declared.Wish.{Wish}
+use Rattle.test_rounds.specs.SingleLaws.{resting-fit, looked-joint, settled-as, round-damage, round-close}
 use Rattle.test_rounds.proofs.round.Goals as goal
 
-pub look-r-requires : goal.look-r-requires
-look-r-requires c =
-    (resting-fit c.requires.0 c.args.leaf c.requires.1, refl, omega arith, c.requires.2)
+held_if : (wish : Option Wish) → bool_byte (is_some wish) ≡ pick {A = ℕ} (wanted wish) 1 0
+held_if None = refl
+held_if (Some w) = refl
 
-pub returns-then-not-r : goal.returns-then-not-r
-returns-then-not-r c =
-    let look = c.look-r in
-    let bad = not-true look.result.ok c.if-not-r.true in
-    (round-damage c.requires.0 c.args.leaf c.args.wish look.result look.ensures.0 bad, look.ensures.2)
+pub look-requires : goal.look-requires
+look-requires c = resting-fit c.requires.0 c.args.leaf c.requires.1
+
+pub returns-in_default : goal.returns-in_default
+returns-in_default c = round-damage c.requires.0 c.args.leaf c.args.wish c.in_default.ensures.0
+
+pub settle-waiting-requires : goal.settle-waiting-requires
+settle-waiting-requires c = (
+  rw c.and-out.ensures (looked-joint c.requires.0 c.args.leaf c.requires.1 c.args.wish c.in-Ok.r c.in-Ok.ensures.0 (search rules)),
+  c.in-Ok.ensures.1.gathered.starts,
+)
 
 pub returns : goal.returns
 returns c =
-    let good : c.look-r.result.ok ≡ true = not-false c.look-r.result.ok c.if-not-r.false in
-    let look = c.look-r in
-    let count = c.taken_count in (
-      round-close c.requires.0 c.args.leaf c.args.wish look.result look.ensures.0 good c.is_wanted-taken.result c.is_wanted-taken.ensures
-          c.settle-left.ensures count.result c.mark_at_close.result count.ensures c.mark_at_close.ensures c.settle-left.auto.tree,
-      look.ensures.2,
-    )
+    let wish = c.args.wish in
+    let settled = settled-as wish c.in-Ok.r.at (rw c.and-out.ensures at c.settle-waiting.ensures) in
+    let held : c.from.result ≡ pick {A = ℕ} (wanted wish) 1 0 = c.from.ensures ∙ ap bool_byte c.is_some.ensures ∙ held_if wish in
+    rw c.and.ensures
+    (round-close c.requires.0 c.args.leaf wish c.in-Ok.r c.in-Ok.ensures.0 settled c.from.result c.fault_at_close.result held c.fault_at_close.ensures c.settle-waiting.auto.tree)

@@ -1,31 +1,37 @@
 -- `call_core::run::run` meets its contract: a fetch round closed the store, or the step and the put rounds follow.
-use Rattle.call_core.specs.RunLaws.{still-long, run-few, run-shuts, run-ends-shut, run-finishes, run-ends-finished, run-low}
-use native.Mathlib.Omega.{arith}
+use Rattle.std.proofs.Common.{rules}
+use Rattle.call_core.specs.RunLaws.{marked, went_on, still-long, run-few, run-shuts, run-ends-shut, run-finishes, run-ends-finished, run-low}
 use Rattle.call_core.proofs.run.run.Goals as goal
 
 pub shut-requires : goal.shut-requires
 shut-requires c =
     let ok = c.requires.0 in
     let f = c.fetch_rounds-f.ensures in
-    (run-shuts ok f.0.came (λ e. omega (arith, e, c.if-f-ne0.true)), (run-few ok f.0.came, (f.1.held-row, f.1.froms-row)))
+    let met = marked c.in-Some.is c.cause_of.ensures in
+    (run-shuts ok f.came met.0, (run-few ok f.came, (search rules, search rules)))
 
-pub returns-then-f-ne0 : goal.returns-then-f-ne0
-returns-then-f-ne0 c =
-    run-ends-shut c.requires.0 c.fetch_rounds-f.ensures.0.came (λ e. omega (arith, e, c.if-f-ne0.true)) c.shut.ensures
+pub returns-in-Some : goal.returns-in-Some
+returns-in-Some c =
+    let ok = c.requires.0 in
+    let came = c.fetch_rounds-f.ensures.came in
+    let met = marked c.in-Some.is c.cause_of.ensures in
+    run-ends-shut ok came met.0 met.1 c.shut.ensures
 
 pub finish-requires : goal.finish-requires
 finish-requires c =
     let ok = c.requires.0 in
     let f = c.fetch_rounds-f.ensures in
-    let low = run-low ok f.0 in (
-      rw f.0.nodes-are at (run-finishes ok f.0.came (omega (arith, c.if-f-ne0.false))),
+    let low = run-low ok f in
+    let went = went_on c.in_default.not-Some c.cause_of.ensures in (
+      rw f.nodes-are at (run-finishes ok f.came went),
       (
-        (record { sized = f.1.held-row; few = run-few ok f.0.came; low = low.0; root-low = low.1 }, (f.1.made_row, c.requires.1)),
-        ((f.1.keys-row, omega arith, f.1.from_row), still-long ok f.0.came),
+        (record { sized = search rules; few = run-few ok f.came; low = low.0; root-low = low.1 }, (search rules, c.requires.1)),
+        still-long ok f.came,
       ),
     )
 
 pub returns : goal.returns
 returns c =
+    let ok = c.requires.0 in
     let f = c.fetch_rounds-f.ensures in
-    run-ends-finished c.requires.0 f.0.came (omega (arith, c.if-f-ne0.false)) (rw f.0.nodes-are c.finish.ensures)
+    run-ends-finished ok f.came (went_on c.in_default.not-Some c.cause_of.ensures) (rw f.nodes-are c.finish.ensures)

@@ -22,7 +22,7 @@ put_rounds-puts-requires c =
     (let f = c.args.r.fetched in
     let joined = c.join_made-m.ensures in
     can-put c.args.job f held c.requires.0 joined.holds (made-joined f.waiting c.short_step-o.result joined ∙ ap (λ (o : Outcome ℕ). join leaf_format o.nodes (waiting_in f.waiting c.args.w.now)) made)) in
-    (puts-begin.after-step, c.requires.1.1.0, (c.requires.0.some-rounds, c.requires.1.1.1))
+    (puts-begin.after-step, (c.requires.0.some-rounds, c.requires.1.1))
 
 pub returns : goal.returns
 returns c =
@@ -31,4 +31,4 @@ returns c =
     let f = c.args.r.fetched in
     let joined = c.join_made-m.ensures in
     finish-ends c.args.job f held c.requires.0 joined.holds (made-joined f.waiting c.short_step-o.result joined ∙ ap (λ (o : Outcome ℕ). join leaf_format o.nodes (waiting_in f.waiting c.args.w.now)) made) made
-    (c.finished.ensures _ _ _ _ _ _ _ _ _ c.requires.1.1.1.1 c.put_rounds-puts.ensures)
+    (c.finished.ensures _ _ _ _ _ _ _ _ _ c.requires.1.1.1 c.put_rounds-puts.ensures)

@@ -3,7 +3,7 @@ use mathlib.Core.List.{List}
 use mathlib.Core.Option.{none, some}
 use Prim.Native.Nat.{ℕ, ◌^◌, ◌≤◌, ◌<◌}
 use lib.ListN.{length}
-use borrow.Author.Tests.{not-true, not-false}
+use borrow.Author.Rules.{rules}
 use Rattle.bucket_call_spec.specs.Call.{draw_of}
 use Rattle.operation_spec.specs.declared.Want.{Want}
 use Rattle.operation_spec.specs.Method.{to_want, to_wanted, wanted_in}
@@ -19,90 +19,88 @@ idle_rounds-r-requires c =
     let job : Job = c.args.job in
     let draw : ℕ → ℕ = draw_of job.size c.args.tape.now in
     let is_leaf : (d : ℕ) → draw d < 2 ^ job.size = draw-leaf job.size c.args.tape.now in
-    let begins : Begins job draw c.args.n c.args.w.now c.args.tree.now = c.requires.0.begins in
+    let begins : Begins job draw c.args.n c.args.w.now c.args.tree.now = c.requires.begins in
     let trace₀ : List ℕ = c.args.trace.now in
-    let one : job.rounds ≡ 1 = rounds-one job draw is_leaf begins trace₀ c.requires.0.one-fetch in
-    let room : 1 ≤ length trace₀ = omega (arith, one, c.requires.0.long.1) in
-    let drawable : 1 ≤ length c.args.tape.now = omega (arith, one, c.requires.0.long.0) in
-    (one-between job draw is_leaf begins trace₀ c.requires.0.one-fetch, c.requires.1, (omega (arith, drawable), omega (arith, room)))
+    let one : job.rounds ≡ 1 = rounds-one job draw is_leaf begins trace₀ c.requires.one-fetch in
+    let room : 1 ≤ length trace₀ = omega (arith, one, c.requires.long.1) in
+    let drawable : 1 ≤ length c.args.tape.now = omega (arith, one, c.requires.long.0) in
+    (one-between job draw is_leaf begins trace₀ c.requires.one-fetch, (omega (arith, drawable), omega (arith, room)))
 
 pub returns-in_default : goal.returns-in_default
 returns-in_default c =
     let job : Job = c.args.job in
     let draw : ℕ → ℕ = draw_of job.size c.args.tape.now in
     let is_leaf : (d : ℕ) → draw d < 2 ^ job.size = draw-leaf job.size c.args.tape.now in
-    let begins : Begins job draw c.args.n c.args.w.now c.args.tree.now = c.requires.0.begins in
+    let begins : Begins job draw c.args.n c.args.w.now c.args.tree.now = c.requires.begins in
     let trace₀ : List ℕ = c.args.trace.now in
-    let one : job.rounds ≡ 1 = rounds-one job draw is_leaf begins trace₀ c.requires.0.one-fetch in
-    let room : 1 ≤ length trace₀ = omega (arith, one, c.requires.0.long.1) in
+    let one : job.rounds ≡ 1 = rounds-one job draw is_leaf begins trace₀ c.requires.one-fetch in
+    let room : 1 ≤ length trace₀ = omega (arith, one, c.requires.long.1) in
     let idled = c.idle_rounds-r.ensures in
     let finished : wanted_in (program_of job) ≡ none = sym (c.short_wanted-next.ensures job.spares job.limit) ∙ ap to_wanted c.in_default.is in
     rw c.came_to.ensures
-    (one-idle job draw is_leaf begins trace₀ c.requires.0.one-fetch room finished idled.0, (c.requires.1.0, c.requires.1.1, idled.1))
+    (one-idle job draw is_leaf begins trace₀ c.requires.one-fetch room finished idled)
 
 pub bounds-trace-0 : goal.bounds-trace-0
 bounds-trace-0 c =
     let job : Job = c.args.job in
     let draw : ℕ → ℕ = draw_of job.size c.args.tape.now in
     let is_leaf : (d : ℕ) → draw d < 2 ^ job.size = draw-leaf job.size c.args.tape.now in
-    let begins : Begins job draw c.args.n c.args.w.now c.args.tree.now = c.requires.0.begins in
+    let begins : Begins job draw c.args.n c.args.w.now c.args.tree.now = c.requires.begins in
     let trace₀ : List ℕ = c.args.trace.now in
-    let one : job.rounds ≡ 1 = rounds-one job draw is_leaf begins trace₀ c.requires.0.one-fetch in
-    let room : 1 ≤ length trace₀ = omega (arith, one, c.requires.0.long.1) in
+    let one : job.rounds ≡ 1 = rounds-one job draw is_leaf begins trace₀ c.requires.one-fetch in
+    let room : 1 ≤ length trace₀ = omega (arith, one, c.requires.long.1) in
     omega (arith, room)
 
-pub short_round-r-requires : goal.short_round-r-requires
-short_round-r-requires c =
+pub want_round-r-requires : goal.want_round-r-requires
+want_round-r-requires c =
     let job : Job = c.args.job in
     let draw : ℕ → ℕ = draw_of job.size c.args.tape.now in
     let is_leaf : (d : ℕ) → draw d < 2 ^ job.size = draw-leaf job.size c.args.tape.now in
-    let begins : Begins job draw c.args.n c.args.w.now c.args.tree.now = c.requires.0.begins in
+    let begins : Begins job draw c.args.n c.args.w.now c.args.tree.now = c.requires.begins in
     let trace₀ : List ℕ = c.args.trace.now in
     let want : Want = c.in-Some.want in
-    let asked : wanted_in (program_of job) ≡ some (to_want want) = sym (c.short_wanted-next.ensures job.spares job.limit) ∙ ap to_wanted c.in-Some.is in (
-      one-ready job draw is_leaf begins trace₀ c.requires.0.one-fetch want asked,
-      c.requires.1,
-      structure-one job draw is_leaf begins trace₀ c.requires.0.one-fetch,
-    )
+    let asked : wanted_in (program_of job) ≡ some (to_want want) = sym (c.short_wanted-next.ensures job.spares job.limit) ∙ ap to_wanted c.in-Some.is in
+    let stack_or_queue = structure-one job draw is_leaf begins trace₀ c.requires.one-fetch in
+    record { ready = one-ready job draw is_leaf begins trace₀ c.requires.one-fetch want asked; asked = search rules }
 
 pub draw_at-requires : goal.draw_at-requires
 draw_at-requires c =
     let job : Job = c.args.job in
     let draw : ℕ → ℕ = draw_of job.size c.args.tape.now in
     let is_leaf : (d : ℕ) → draw d < 2 ^ job.size = draw-leaf job.size c.args.tape.now in
-    let begins : Begins job draw c.args.n c.args.w.now c.args.tree.now = c.requires.0.begins in
+    let begins : Begins job draw c.args.n c.args.w.now c.args.tree.now = c.requires.begins in
     let trace₀ : List ℕ = c.args.trace.now in
-    let one : job.rounds ≡ 1 = rounds-one job draw is_leaf begins trace₀ c.requires.0.one-fetch in
-    let drawable : 1 ≤ length c.args.tape.now = omega (arith, one, c.requires.0.long.0) in
+    let one : job.rounds ≡ 1 = rounds-one job draw is_leaf begins trace₀ c.requires.one-fetch in
+    let drawable : 1 ≤ length c.args.tape.now = omega (arith, one, c.requires.long.0) in
     (omega (arith, drawable), begins.small)
 
-pub returns-then-not-r : goal.returns-then-not-r
-returns-then-not-r c =
+pub returns-in_default-node : goal.returns-in_default-node
+returns-in_default-node c =
     let job : Job = c.args.job in
     let draw : ℕ → ℕ = draw_of job.size c.args.tape.now in
     let is_leaf : (d : ℕ) → draw d < 2 ^ job.size = draw-leaf job.size c.args.tape.now in
-    let begins : Begins job draw c.args.n c.args.w.now c.args.tree.now = c.requires.0.begins in
+    let begins : Begins job draw c.args.n c.args.w.now c.args.tree.now = c.requires.begins in
     let trace₀ : List ℕ = c.args.trace.now in
-    let one : job.rounds ≡ 1 = rounds-one job draw is_leaf begins trace₀ c.requires.0.one-fetch in
-    let room : 1 ≤ length trace₀ = omega (arith, one, c.requires.0.long.1) in
+    let one : job.rounds ≡ 1 = rounds-one job draw is_leaf begins trace₀ c.requires.one-fetch in
+    let room : 1 ≤ length trace₀ = omega (arith, one, c.requires.long.1) in
     let want : Want = c.in-Some.want in
     let asked : wanted_in (program_of job) ≡ some (to_want want) = sym (c.short_wanted-next.ensures job.spares job.limit) ∙ ap to_wanted c.in-Some.is in
-    let r = c.short_round-r in
-    rw c.came_to-then-not-r.ensures
-    (one-damaged job draw is_leaf begins trace₀ c.requires.0.one-fetch want asked room (r.ensures.0 job.entries) (not-true r.result.taken c.if-not-r.true), (c.requires.1.0, c.requires.1.1, r.ensures.1))
+    let round = c.want_round-r.ensures job.structure job.entries (λ node r said. search rules) in
+    rw c.came_to-in_default-node.ensures
+    (one-damaged job draw is_leaf begins trace₀ c.requires.one-fetch want asked room round (rw c.in_default-node.is refl))
 
 pub returns : goal.returns
 returns c =
     let job : Job = c.args.job in
     let draw : ℕ → ℕ = draw_of job.size c.args.tape.now in
     let is_leaf : (d : ℕ) → draw d < 2 ^ job.size = draw-leaf job.size c.args.tape.now in
-    let begins : Begins job draw c.args.n c.args.w.now c.args.tree.now = c.requires.0.begins in
+    let begins : Begins job draw c.args.n c.args.w.now c.args.tree.now = c.requires.begins in
     let trace₀ : List ℕ = c.args.trace.now in
-    let one : job.rounds ≡ 1 = rounds-one job draw is_leaf begins trace₀ c.requires.0.one-fetch in
-    let room : 1 ≤ length trace₀ = omega (arith, one, c.requires.0.long.1) in
+    let one : job.rounds ≡ 1 = rounds-one job draw is_leaf begins trace₀ c.requires.one-fetch in
+    let room : 1 ≤ length trace₀ = omega (arith, one, c.requires.long.1) in
     let want : Want = c.in-Some.want in
     let asked : wanted_in (program_of job) ≡ some (to_want want) = sym (c.short_wanted-next.ensures job.spares job.limit) ∙ ap to_wanted c.in-Some.is in
-    let r = c.short_round-r in
-    let drawn = c.draw_at in
+    let round = c.want_round-r.ensures job.structure job.entries (λ node r said. search rules) in
+    let n = c.in-Some-node.node in
     rw c.came_to-2.ensures
-    (one-taken job draw is_leaf begins trace₀ c.requires.0.one-fetch want asked room (r.ensures.0 job.entries) refl drawn.ensures.0 (not-false r.result.taken c.if-not-r.false), (c.requires.1.0, c.requires.1.1, r.ensures.1))
+    (one-taken job draw is_leaf begins trace₀ c.requires.one-fetch want asked room round {x = record { key = n.key; value = n.value; tag = c.draw_at.result; left = n.left; right = n.right }} (rw c.in-Some-node.is refl) c.draw_at.ensures.0 (rw c.in-Some-node.is refl))

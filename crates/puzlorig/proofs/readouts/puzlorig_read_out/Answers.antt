@@ -11,7 +11,7 @@ returns-then-state-ne-STATE_LENGTH c = let a = c.args in read-bad-length a.state
 pub returns-in-Err : goal.returns-in-Err
 returns-in-Err c =
     let a = c.args in
-    rw (c.from.ensures, c.number.ensures)
+    rw (c.from.ensures, c.number_of.ensures)
     (refused-by a.state.now a.tree.now a.out.now c.read_head-h.result c.read_head-h.ensures c.if-state-ne-STATE_LENGTH.false c.in-Err.cause c.in-Err.ensures)
 
 pub slice_bounds-read_out_slots-end : goal.slice_bounds-read_out_slots-end
@@ -38,6 +38,6 @@ unfolding read_out_number length_of
 returns-in-Err-read_out_slots c =
     let a = c.args in
     let e = c.in-Err-read_out_slots in
-    rw (c.from-in-Err-read_out_slots.ensures, c.number-in-Err-read_out_slots.ensures)
+    rw (c.from-in-Err-read_out_slots.ensures, c.number_of-in-Err-read_out_slots.ensures)
     (file-by a.state.now a.tree.now a.out.now c.read_head-h.result c.read_head-h.ensures c.if-state-ne-STATE_LENGTH.false c.in_default.ensures
     (Err e.cause) c.read_out_slots.new.out (rw (c.from-3.ensures, c.from-2.ensures) at e.ensures))

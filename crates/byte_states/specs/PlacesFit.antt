@@ -1,5 +1,5 @@
 -- The slots of a byte state by the places that they are read as.
-use Rattle.std.specs.Prelude.{ℕ, ◌+◌, ◌*◌, List, take, drop}
+use Rattle.std.specs.Prelude.{ℕ, Option, Some, None, ◌+◌, ◌*◌, List, take, drop}
 use Rattle.list_spec.specs.Choice.{pick}
 use Rattle.slot_spec.specs.Tree.{slot_length}
 use Rattle.state_spec.specs.Fit.{places}
@@ -16,6 +16,6 @@ slot_at slots i = take slot_length (drop (slot_length * i) slots)
 abbrev pub state_of : StateHead → List ℕ → State
 state_of h slots = state_with h (places_in places slots)
 
--- The least key that may follow a used place which fits, with a key of at least `least`; 0 if it does not fit.
-abbrev pub least_after : (size least : ℕ) → Place → ℕ
-least_after size least p = pick (good_from size least p) (p.node.key + 1) 0
+-- The least key that may follow a used place which fits, with a key of at least `least`.
+abbrev pub least_after : (size least : ℕ) → Place → Option ℕ
+least_after size least p = pick (good_from size least p) (Some (p.node.key + 1)) None

@@ -1,5 +1,5 @@
 -- Whether the slots of a byte state fit: the used ones one after another, the others together.
-use Rattle.std.specs.Prelude.{◌≡◌, refl, Bool, true, false, ◌&&◌, ◌||◌, List, ℕ, zero, suc, ◌+◌, ◌-◌, ◌*◌, ◌≤◌, ◌<◌, eqb, length, take, drop}
+use Rattle.std.specs.Prelude.{◌≡◌, refl, Option, Some, None, Bool, true, false, ◌&&◌, ◌||◌, List, ℕ, zero, suc, ◌+◌, ◌-◌, ◌*◌, ◌≤◌, ◌<◌, eqb, length, take, drop}
 use Rattle.std.proofs.Common.{sym, ◌∙◌, ap, ap₂, subst, arith, length-drop, take-add, le-leb}
 use Rattle.std.proofs.Math.Bool.{and-false, and-eq-true_iff}
 use Rattle.std.specs.Int.Bits.{bit_or}
@@ -73,50 +73,50 @@ module _ (size least : ℕ) (bs : List ℕ) (x : Slot) (e : slot_bytes x ≡ bs)
   sized : length bs ≡ slot_length
   sized = ap length (sym e) ∙ slot-length x
 
-  pub after_none : ((n : Node) → reads ≡ Full n → ⊥) → 0 ≡ least_after size least (place_in bs)
+  pub after_none : ((n : Node) → reads ≡ Full n → ⊥) → None ≡ least_after size least (place_in bs)
   after_none none = rw (read-not-good size bs sized (λ n f. none n (ap (read_slot size 1) e ∙ f)))
 
   module _ (n : Node) (full : reads ≡ Full n) where
     good : (place_good size (place_in bs) ≡ true) × ((place_in bs).node ≡ n)
     good = read-good size bs sized n (ap (read_slot size 1) (sym e) ∙ full)
 
-    pub after-low : n.key < least → 0 ≡ least_after size least (place_in bs)
+    pub after-low : n.key < least → None ≡ least_after size least (place_in bs)
     after-low low = rw (good.0, good.1, lt-leb least n.key low)
 
-    pub after-key : least ≤ n.key → n.key + 1 ≡ least_after size least (place_in bs)
+    pub after-key : least ≤ n.key → Some (n.key + 1) ≡ least_after size least (place_in bs)
     after-key high = rw (good.0, good.1, le-leb least n.key high)
 
 -- ---- the used slots
 -- What the least key after a slot says of its place.
-module _ (size least r : ℕ) (p : Place) (e : r ≡ least_after size least p) where
-  after-unfit : r ≡ 0 → good_from size least p ≡ false
-  after-unfit z = go (good_from size least p) (sym e ∙ z)
+module _ (size least : ℕ) (r : Option ℕ) (p : Place) (e : r ≡ least_after size least p) where
+  after-unfit : ((m : ℕ) → r ≡ Some m → ⊥) → good_from size least p ≡ false
+  after-unfit none = go (good_from size least p) refl e
     where
-      go : (b : Bool) → pick b (p.node.key + 1) 0 ≡ 0 → b ≡ false
-      go true f = let y : ⊥ = omega (arith, f) in absurd y
-      go false f = refl
+      go : (b : Bool) → good_from size least p ≡ b → r ≡ pick b (Some (p.node.key + 1)) None → good_from size least p ≡ false
+      go true g f = absurd (none (p.node.key + 1) f)
+      go false g f = g
 
-  after-fit : (r ≡ 0 → ⊥) → (good_from size least p ≡ true) × (r ≡ p.node.key + 1)
-  after-fit n = go (good_from size least p) refl e
+  after-fit : (m : ℕ) → r ≡ Some m → (good_from size least p ≡ true) × (m ≡ p.node.key + 1)
+  after-fit m is = go (good_from size least p) refl (sym is ∙ e)
     where
-      go : (b : Bool) → good_from size least p ≡ b → r ≡ pick b (p.node.key + 1) 0 → (good_from size least p ≡ true) × (r ≡ p.node.key + 1)
-      go true g f = (g, f)
-      go false g f = absurd (n f)
+      go : (b : Bool) → good_from size least p ≡ b → Some m ≡ pick b (Some (p.node.key + 1)) None → (good_from size least p ≡ true) × (m ≡ p.node.key + 1)
+      go true g f = (g, cc)
+      go false g f = let z : ◌≡◌ {A = ℕ} 0 1 = cc in let y : ⊥ = omega (arith, z) in absurd y
 
 module _ (h : StateHead) (slots : List ℕ) (few : h.waiting ≤ stash_limit) where
   abbrev s : State
   s = state_of h slots
 
-  module _ (i least r : ℕ) (l : LookedAt s i least) (more : i < h.waiting) (e : r ≡ least_after h.size least (place_in (slot_at slots i))) where
+  module _ (i least : ℕ) (r : Option ℕ) (l : LookedAt s i least) (more : i < h.waiting) (e : r ≡ least_after h.size least (place_in (slot_at slots i))) where
     got : r ≡ least_after h.size least (at s i)
     got = e ∙ ap (least_after h.size least) (sym (place-got places i slots (omega (arith, more, few))))
 
-    pub slot-fails : r ≡ 0 → used_fit s ≡ false
-    slot-fails z = used-fails s i least l more (after-unfit h.size least r (at s i) got z)
+    pub slot-fails : ((m : ℕ) → r ≡ Some m → ⊥) → used_fit s ≡ false
+    slot-fails none = used-fails s i least l more (after-unfit h.size least r (at s i) got none)
 
-    pub slot-passes : (r ≡ 0 → ⊥) → LookedAt s (i + 1) r
-    slot-passes n =
-        let f = after-fit h.size least r (at s i) got n in
+    pub slot-passes : (m : ℕ) → r ≡ Some m → LookedAt s (i + 1) m
+    slot-passes m is =
+        let f = after-fit h.size least r (at s i) got m is in
         subst (LookedAt s (i + 1)) (sym f.1) (used-more s i least l more (omega (arith, few)) f.0)
 
   -- ---- all slots

@@ -13,21 +13,20 @@ use slot_spec::{Reading, SLOT_LENGTH};
 use slot_words::load;
 use slots::reading;
 
-// Used slot i is asked whether it is good for a node and its key at least `least`: one more than its key, or 0 if not.
-fn least_after(slots: &[u8], i: usize, size: usize, least: u64) -> u64
+// Used slot i is asked whether it is good for a node and its key at least `least`: one more than its key.
+fn least_after(slots: &[u8], i: usize, size: usize, least: u64) -> Option<u64>
     requires { (i < places) × ((length slots.now ≡ slot_length * places) × (size ≤ 16)) }
     ensures { result ≡ least_after size least (place_in (slot_at slots.now i)) }
 {
     let x = load(slots, SLOT_LENGTH * i);
-    let r = reading(x, size, 1);
-    let Reading::Full(n) = r else {
-        return 0;
+    let Reading::Full(n) = reading(x, size, 1) else {
+        return None;
     };
-    let key = n.key as u64;
+    let key = u64::from(n.key);
     if key < least {
-        return 0;
+        return None;
     }
-    key + 1
+    Some(key + 1)
 }
 
 // Whether the used slots fit, one after another.
@@ -35,20 +34,18 @@ fn used_fit(h: StateHead, slots: &[u8]) -> bool
     requires { (h.waiting ≤ stash_limit) × ((length slots.now ≡ slot_length * places) × (h.size ≤ 16)) }
     ensures { result ≡ used_fit (state_of h slots.now) }
 {
-    let mut least: u64 = 0;
-    let mut i = 0;
-    while i < h.waiting as usize {
-        least = least_after(slots, i, h.size as usize, least);
-        if least == 0 {
+    let mut least = 0;
+    for i in 0..usize::from(h.waiting) {
+        let Some(next) = least_after(slots, i, usize::from(h.size), least) else {
             return false;
-        }
-        i += 1;
+        };
+        least = next;
     }
     true
 }
 
 // Whether slots are all zero bytes: the digits of all first words together, of all second ones and so on, are tested once, in the end.
-// Two slots a turn, so that what a turn costs does not hang on where the compiler puts the loop.
+// Two slots a turn, counted by hand: what a turn costs does not hang then on where the compiler puts the loop.
 fn is_blank(slots: &[u8]) -> bool
     requires { (length slots.now ≤ slot_length * places) × (length slots.now % slot_length ≡ 0) }
     ensures { result ≡ all_zero slots.now }
@@ -79,9 +76,5 @@ pub fn places_fit(h: StateHead, slots: &[u8]) -> bool
     requires { (h.waiting ≤ stash_limit) × ((length slots.now ≡ slot_length * places) × (h.size ≤ 16)) }
     ensures { result ≡ (slots_sound places slots.now && places_fit (state_of h slots.now)) }
 {
-    if !used_fit(h, slots) {
-        return false;
-    }
-    let start = SLOT_LENGTH * (h.waiting as usize);
-    is_blank(&slots[start..])
+    used_fit(h, slots) && is_blank(&slots[SLOT_LENGTH * usize::from(h.waiting)..])
 }

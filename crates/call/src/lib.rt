@@ -36,12 +36,11 @@ pub fn call(state: State, tree: &mut [u8], ticket: &[u8], tape: &[u16], trace: &
         };
     }
     // The row of the waiting nodes, and whether the places fit.
-    let size = state.size as usize;
-    let n = state.count as usize;
+    let size = usize::from(state.size);
+    let n = usize::from(state.count);
     let mut w = [0u8; ROW_LENGTH];
-    let mut least: u64 = 0;
-    let mut i = 0;
-    while i < n {
+    let mut least = 0;
+    for i in 0..n {
         let p = state.places[i];
         if !load_place(&mut w, i, p, size, least) {
             return Called {
@@ -52,11 +51,9 @@ pub fn call(state: State, tree: &mut [u8], ticket: &[u8], tape: &[u16], trace: &
             };
         }
         least = p.node.key as u64 + 1;
-        i += 1;
     }
-    while i < PLACES {
-        let q = state.places[i];
-        if !zero_place(q) {
+    for i in n..PLACES {
+        if !zero_place(state.places[i]) {
             return Called {
                 state,
                 reply: Err(Refusal::Unfit),
@@ -64,7 +61,6 @@ pub fn call(state: State, tree: &mut [u8], ticket: &[u8], tape: &[u16], trace: &
                 peak: 0,
             };
         }
-        i += 1;
     }
     let rounds = rounds_of(state.structure, state.size);
     let draws = 2 * rounds + spare_of(state.structure);
@@ -83,10 +79,8 @@ pub fn call(state: State, tree: &mut [u8], ticket: &[u8], tape: &[u16], trace: &
     let m = r.waiting;
     let end = m.max(n);
     let mut left = state;
-    let mut j = 0;
-    while j < end {
+    for j in 0..end {
         left.places[j] = saved_place(&w, m, j);
-        j += 1;
     }
     left.mark = r.mark;
     left.entries = r.entries;

@@ -74,7 +74,7 @@ returns-in-Err c =
 pub loop-i-init : goal.loop-i-init
 loop-i-init c =
     let s : State = c.args.state in
-    (looked-none s, (loaded-none s.places _ refl zeros-blank, omega arith))
+    (looked-none s, loaded-none s.places _ refl zeros-blank)
 
 pub bounds-state-i : goal.bounds-state-i
 bounds-state-i c = omega (arith, (bounds c.args.state c.head_refusal.ensures c.in_default.not-Err).1)
@@ -82,7 +82,7 @@ bounds-state-i c = omega (arith, (bounds c.args.state c.head_refusal.ensures c.i
 pub load_place-requires : goal.load_place-requires
 load_place-requires c =
     let b = bounds c.args.state c.head_refusal.ensures c.in_default.not-Err in
-    (c.loop-i.invariant.1.0.holds.sized, (omega (arith, b.1), omega (arith, b.0)))
+    (c.loop-i.invariant.1.holds.sized, (omega (arith, b.1), omega (arith, b.0)))
 
 pub returns-then-not-load_place : goal.returns-then-not-load_place
 returns-then-not-load_place c =
@@ -92,7 +92,7 @@ returns-then-not-load_place c =
     unfit s c.head_refusal.ensures c.in_default.not-Err c.args.tree.now c.args.ticket.now
     c.args.tape.now c.args.trace.now
     (used-unfit s
-    (used-fails s l.i l.least l.invariant.0 c.loop-i-test.true (sym u.ensures.0 ∙ c.if-not-load_place.true)))
+    (used-fails s l.i l.least l.invariant.0 (omega (arith, c.loop-i-test.true, c.from-n.ensures)) (sym (rw c.from-size.ensures at u.ensures.0) ∙ c.if-not-load_place.true)))
 
 pub loop-i-preserved : goal.loop-i-preserved
 loop-i-preserved c =
@@ -101,12 +101,9 @@ loop-i-preserved c =
     let l = c.loop-i in
     let u = c.load_place in
     let good = c.if-not-load_place.false in (
-      used-more s l.i l.least l.invariant.0 c.loop-i-test.true (omega (arith, b.1)) (sym u.ensures.0 ∙ good),
-      (
-        loaded-more l.i s.places l.w u.new.w l.invariant.1.0 (omega (arith, b.1))
-            (subst (PlaceLoaded l.i (at s l.i) l.w u.new.w) good u.ensures.1),
-        omega (arith, c.loop-i-test.true),
-      ),
+      used-more s l.i l.least l.invariant.0 (omega (arith, c.loop-i-test.true, c.from-n.ensures)) (omega (arith, b.1)) (sym (rw c.from-size.ensures at u.ensures.0) ∙ good),
+      loaded-more l.i s.places l.w u.new.w l.invariant.1 (omega (arith, b.1, c.loop-i-test.true, c.from-n.ensures))
+          (subst (PlaceLoaded l.i (at s l.i) l.w u.new.w) good u.ensures.1),
     )
 
 pub returns-then-not-zero_place : goal.returns-then-not-zero_place
@@ -115,16 +112,14 @@ returns-then-not-zero_place c =
     let l = c.loop-i-2 in
     unfit s c.head_refusal.ensures c.in_default.not-Err c.args.tree.now c.args.ticket.now
     c.args.tape.now c.args.trace.now
-    (unused-unfit s l.i c.loop-i.least l.invariant.0 l.invariant.1 (omega (arith, c.loop-i-2-test.true))
+    (unused-unfit s l.i c.loop-i.least l.invariant (omega (arith, c.from-n.ensures)) (omega (arith, c.loop-i-2-test.true))
     (sym c.zero_place.ensures ∙ c.if-not-zero_place.true))
 
 pub loop-i-2-preserved : goal.loop-i-2-preserved
 loop-i-2-preserved c =
-    let l = c.loop-i-2 in (
-      unused-more c.args.state l.i c.loop-i.least l.invariant.0 l.invariant.1 (omega (arith, c.loop-i-2-test.true))
-          (sym c.zero_place.ensures ∙ c.if-not-zero_place.false),
-      omega arith,
-    )
+    let l = c.loop-i-2 in
+    unused-more c.args.state l.i c.loop-i.least l.invariant (omega (arith, c.from-n.ensures)) (omega (arith, c.loop-i-2-test.true))
+    (sym c.zero_place.ensures ∙ c.if-not-zero_place.false)
 
 pub rounds_of-rounds-requires : goal.rounds_of-rounds-requires
 rounds_of-rounds-requires c = (bounds c.args.state c.head_refusal.ensures c.in_default.not-Err).0
@@ -135,7 +130,7 @@ call_row-requires c =
       record {
         state = _;
         for = stand c.args.state c.head_refusal.ensures c.in_default.not-Err
-            c.loop-i-2.invariant.0 c.loop-i-2-test.false c.loop-i.invariant.1.0 c.loop-i.invariant.1.1 c.loop-i-test.false;
+            c.loop-i-2.invariant (omega (arith, c.loop-i-2-test.false)) c.loop-i.invariant.1 (omega (arith, c.from-n.ensures)) (omega (arith, c.loop-i-test.false, c.from-n.ensures));
       },
       (f, ap₂ (λ (f d : ℕ). 2 * f + d) f c.spare_of.ensures.0),
     )
@@ -144,7 +139,7 @@ pub returns-in-Err-call_row : goal.returns-in-Err-call_row
 returns-in-Err-call_row c =
     let a = c.args in
     kept a.state a.tree.now a.ticket.now a.tape.now a.trace.now (stand c.args.state c.head_refusal.ensures c.in_default.not-Err
-    c.loop-i-2.invariant.0 c.loop-i-2-test.false c.loop-i.invariant.1.0 c.loop-i.invariant.1.1 c.loop-i-test.false) c.in-Err-call_row.refusal
+    c.loop-i-2.invariant (omega (arith, c.loop-i-2-test.false)) c.loop-i.invariant.1 (omega (arith, c.from-n.ensures)) (omega (arith, c.loop-i-test.false, c.from-n.ensures))) c.in-Err-call_row.refusal
     (rw c.in-Err-call_row.is at c.call_row.ensures)
 
 pub loop-j-preserved : goal.loop-j-preserved
@@ -152,28 +147,26 @@ loop-j-preserved c =
     let s : State = c.args.state in
     let b = bounds c.args.state c.head_refusal.ensures c.in_default.not-Err in
     let st = stand c.args.state c.head_refusal.ensures c.in_default.not-Err
-    c.loop-i-2.invariant.0 c.loop-i-2-test.false c.loop-i.invariant.1.0 c.loop-i.invariant.1.1 c.loop-i-test.false in
+    c.loop-i-2.invariant (omega (arith, c.loop-i-2-test.false)) c.loop-i.invariant.1 (omega (arith, c.from-n.ensures)) (omega (arith, c.loop-i-test.false, c.from-n.ensures)) in
     let l = c.loop-j in
     let r : Ran = c.in-Ok.r in
     let made : CallsAs (head_of c.args.state) _ _ _ _ _ _ _ _ (Ok r) = rw c.in-Ok.is at c.call_row.ensures in
     let sized : length s.places ≡ 101 = search rules in
-    let in-places : c.max-end.result ≤ 101 = omega (arith, c.max-end.ensures, b.1, made.waits.few) in (
-      omega arith,
-      saved-more r.waiting _ made.waits s st.fit sized l.j l.left c.saved_place.result
-          (omega (arith, c.loop-j-test.true, in-places)) l.invariant.1 c.saved_place.ensures,
-    )
+    let in-places : c.max-end.result ≤ 101 = omega (arith, c.max-end.ensures, b.1, made.waits.few, c.from-n.ensures) in
+    saved-more r.waiting _ made.waits s st.fit sized l.j l.left c.saved_place.result
+    (omega (arith, c.loop-j-test.true, in-places)) l.invariant c.saved_place.ensures
 
 pub returns : goal.returns
 returns c =
     let a = c.args in
     let b = bounds c.args.state c.head_refusal.ensures c.in_default.not-Err in
     let st = stand c.args.state c.head_refusal.ensures c.in_default.not-Err
-    c.loop-i-2.invariant.0 c.loop-i-2-test.false c.loop-i.invariant.1.0 c.loop-i.invariant.1.1 c.loop-i-test.false in
+    c.loop-i-2.invariant (omega (arith, c.loop-i-2-test.false)) c.loop-i.invariant.1 (omega (arith, c.from-n.ensures)) (omega (arith, c.loop-i-test.false, c.from-n.ensures)) in
     let l = c.loop-j in
     let r : Ran = c.in-Ok.r in
     let made : CallsAs (head_of c.args.state) _ _ _ _ _ _ _ _ (Ok r) = rw c.in-Ok.is at c.call_row.ensures in
     let sized : length a.state.places ≡ 101 = search rules in
-    let in-places : c.max-end.result ≤ 101 = omega (arith, c.max-end.ensures, b.1, made.waits.few) in
+    let in-places : c.max-end.result ≤ 101 = omega (arith, c.max-end.ensures, b.1, made.waits.few, c.from-n.ensures) in
     changed a.state a.tree.now a.ticket.now a.tape.now a.trace.now st r made
     (saved-all r.waiting _ made.waits a.state st.fit sized l.j l.left r.mark r.entries r.root
-    r.ahead l.invariant.1 (omega arith) (omega (arith, c.max-end.ensures)) (omega (arith, in-places, l.invariant.0)))
+    r.ahead l.invariant (omega (arith, c.loop-j-test.false, c.max-end.ensures)) (omega (arith, c.loop-j-test.false, c.max-end.ensures, c.from-n.ensures)) (omega (arith, in-places)))

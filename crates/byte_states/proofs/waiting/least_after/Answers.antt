@@ -10,18 +10,19 @@ returns-in_default c =
     let a = c.args in
     let l = c.load-x in
     after_none a.size a.least (slot_at a.slots.now a.i) l.result l.ensures
-    (λ n f. c.in_default.not-Full n (c.reading-r.ensures ∙ f))
+    (λ n f. c.in_default.not-Full n (c.reading.ensures ∙ f))
 
 pub returns-then-key-least : goal.returns-then-key-least
 returns-then-key-least c =
     let a = c.args in
     let l = c.load-x in
-    after-low a.size a.least (slot_at a.slots.now a.i) l.result l.ensures (search rules)
-    (sym c.reading-r.ensures ∙ c.in-Full.is) c.if-key-least.true
+    after-low a.size a.least (slot_at a.slots.now a.i) l.result l.ensures c.in-Full.n
+    (sym c.reading.ensures ∙ c.in-Full.is) (rw c.from-key.ensures at c.if-key-least.true)
 
 pub returns : goal.returns
 returns c =
     let a = c.args in
     let l = c.load-x in
-    after-key a.size a.least (slot_at a.slots.now a.i) l.result l.ensures (search rules)
-    (sym c.reading-r.ensures ∙ c.in-Full.is) c.if-key-least.false
+    rw c.from-key.ensures
+    (after-key a.size a.least (slot_at a.slots.now a.i) l.result l.ensures c.in-Full.n
+    (sym c.reading.ensures ∙ c.in-Full.is) (rw c.from-key.ensures at c.if-key-least.false))

@@ -9,11 +9,11 @@ use Rattle.byte_states.specs.PlacesFitLaws.{rest-fits}
 use native.Mathlib.Omega.{arith}
 use Rattle.byte_states.proofs.waiting.places_fit.Goals as goal
 
-pub returns : goal.returns
-returns c =
+pub returns-then-used_fit : goal.returns-then-used_fit
+returns-then-used_fit c =
     let u = c.used_fit in
     let slots = c.args.slots.now in
     let n = slot_length * c.args.h.waiting in
     let whole : take (length slots - n) (drop n slots) ≡ drop n slots = take_all (length slots - n) (drop n slots) (omega (arith, length-drop n slots)) in
-    c.is_blank.ensures ∙ ap all_zero whole
-    ∙ rest-fits c.args.h slots c.requires.0 c.requires.1.0 (sym u.ensures ∙ c.if-not-used_fit.false)
+    (rw c.from.ensures at c.is_blank.ensures) ∙ ap all_zero whole
+    ∙ rest-fits c.args.h slots c.requires.0 c.requires.1.0 (sym u.ensures ∙ c.if-used_fit.true)

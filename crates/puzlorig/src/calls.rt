@@ -61,7 +61,5 @@ pub fn puzlorig_call(
     if !lengths_good(state.len(), tape.len(), trace.len(), res.len()) {
         return 18;
     }
-    u32::from(number_of(answered(
-        state, tree, ticket, tape, trace, res,
-    )))
+    u32::from(number_of(answered(state, tree, ticket, tape, trace, res)))
 }

@@ -33,7 +33,12 @@ pub fn line(reply: Result<Answer, Refusal>, n: usize, trace: &[u16], out: &mut [
     ensures prefix_len { IsPrefixLen result out.new }
     ensures value { (result ≡ length (line_of (to_reply reply) (take n trace.now))) × (out.new ≡ line_of (to_reply reply) (take n trace.now) ++ drop result out.old) }
 {
-    put_line(reply_word(reply), reply_shown(reply), &trace[..n.min(trace.len())], out)
+    put_line(
+        reply_word(reply),
+        reply_shown(reply),
+        &trace[..n.min(trace.len())],
+        out,
+    )
 }
 
 // The line of a refusal with that number, which revealed no leaf.

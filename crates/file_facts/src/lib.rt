@@ -1,8 +1,8 @@
 // What the system knows of the file that a name leads to: which one it is, and its mode.
 #![tactic(auto)]
 
-ghost use Rattle.std.specs.Prelude.{◌≡◌, ◌<◌, length};
-ghost use Rattle.file_facts.specs.Modes.{regular, same_file, permission_bits};
+ghost use Rattle.std.specs.Prelude.{◌≡◌, ◌<◌, length, true, IfSome};
+ghost use Rattle.file_facts.specs.Modes.{there, regular, same_file, permission_bits};
 
 use std::fs::Metadata;
 use std::os::unix::fs::MetadataExt;
@@ -27,12 +27,21 @@ impl From<Metadata> for Facts {
     }
 }
 
+// Whether they are a file's: none has the mode 0.
+pub fn is_there(facts: Facts) -> bool
+    ensures { result ≡ there facts }
+{
+    facts.mode != 0
+}
+
 // None where there is no file. A name that is no text leads to no file that the library can reach.
 pub fn facts_of(files: &impl Files, name: &[u8]) -> Option<Facts>
     requires { length name.now < 4096 }
+    ensures { IfSome result (λ facts. there facts ≡ true) }
 {
     let path = str::from_utf8(name).ok()?;
-    fs::metadata(files, path).ok().map(Facts::from)
+    let facts = Facts::from(fs::metadata(files, path).ok()?);
+    if is_there(facts) { Some(facts) } else { None }
 }
 
 pub fn is_regular(facts: Facts) -> bool
@@ -41,11 +50,11 @@ pub fn is_regular(facts: Facts) -> bool
     facts.mode / 4096 % 16 == 8
 }
 
-// Whether both lead to one file, whatever its mode was.
+// Whether both are one file's, whatever its mode was.
 pub fn are_same(a: Facts, b: Facts) -> bool
     ensures { result ≡ same_file a b }
 {
-    a.device == b.device && a.number == b.number
+    is_there(a) && is_there(b) && a.device == b.device && a.number == b.number
 }
 
 pub fn permissions(facts: Facts) -> u32

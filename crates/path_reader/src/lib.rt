@@ -60,16 +60,17 @@ fn join_reading(
     requires { (length s.old ≡ row_length) × (m < places) × (ascending (keys_of words_format (take m (slots_in s.old))) ≡ true) × Blank m s.old × (size < levels) }
     ensures { ReadingsJoined size held.now (words_format.read size bucket (slot_bytes x) ∷ []) m s.old s.new result }
 {
-    match reading(x, size, bucket) {
-        Reading::Empty => Ok(m),
-        Reading::Full(n) => {
-            if !is_held(held, n.key) && join_slot(s, m, x) {
-                Ok(m + 1)
-            } else {
-                Err(Damage)
-            }
-        }
-        Reading::Bad => Err(Damage),
+    let r = reading(x, size, bucket);
+    let Reading::Full(n) = r else {
+        let Reading::Empty = r else {
+            return Err(Damage);
+        };
+        return Ok(m);
+    };
+    if !is_held(held, n.key) && join_slot(s, m, x) {
+        Ok(m + 1)
+    } else {
+        Err(Damage)
     }
 }
 

@@ -80,7 +80,8 @@ pub fn first_of_each(keys: &[u64], order: &[u16], taken: &mut [u16]) -> usize
     let mut last = None;
     for item in order {
         let key = key_at(keys, *item);
-        if last != Some(key) {
+        let other = last != Some(key);
+        if other {
             taken[n] = *item;
             n += 1;
             last = Some(key);

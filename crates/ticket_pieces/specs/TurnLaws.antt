@@ -1,11 +1,7 @@
 -- What each turn of the loops adds.
-use Rattle.std.specs.Prelude.{◌≡◌, refl, Bool, true, false, List, [], ◌∷◌, ◌++◌, ℕ, suc, ◌+◌, ◌-◌, ◌*◌, ◌/◌, ◌<◌, ◌≤◌, length, take, drop, get_or, set}
-use Rattle.std.proofs.Common.{sym, ◌∙◌, ap, append_assoc, append-nil, arith, take-append-drop, drop_of_length-le, length-append, length-take, length-drop, length-take-le, take_all, take-suc, take-add, take_at, drop_at, get_or-take, get_or-drop}
-use Rattle.std.proofs.lemmas.List.{get_or-replicate}
-use Rattle.std.proofs.lemmas.List.Edits.{sets, sets-eq}
-use Rattle.std.proofs.Math.Seq.{take-length, drop-length}
+use Rattle.std.specs.Prelude.{◌≡◌, refl, Bool, List, [], ◌++◌, ℕ, ◌+◌, ◌-◌, ◌*◌, ◌/◌, ◌<◌, ◌≤◌, length, take, drop, get_or}
+use Rattle.std.proofs.Common.{sym, ◌∙◌, ap, append_assoc, append-nil, arith, take-append-drop, drop_of_length-le, length-append, length-take, length-drop, length-take-le, take_all, take-add, take_at, drop_at}
 use Rattle.list_spec.specs.Choice.{pick}
-use Rattle.slot_laws.specs.WordLaws.{sets-append}
 use Rattle.state_spec.specs.declared.Uses.{Uses}
 use Rattle.state_spec.specs.Ticket.{kind_in, fields_used}
 use Rattle.ticket_copy_spec.specs.Copy.{field_copy, ticket_copy, changed, copied, changed_among, file_copy, changed_in}

@@ -53,7 +53,8 @@ pub fn copy_piece(piece: &[u8], out: &mut [u8]) -> usize
     for i in 0..piece.len() / TICKET_LENGTH {
         let at = TICKET_LENGTH * i;
         let next = at + TICKET_LENGTH;
-        if copy_ticket(&piece[at..next], &mut out[at..next]) {
+        let changed = copy_ticket(&piece[at..next], &mut out[at..next]);
+        if changed {
             count += 1;
         }
     }

@@ -144,30 +144,6 @@ module _ (t : List ℕ) where
       go the_heap = ⊎_elim (λ l. inl (omega arith)) (λ l. inr (omega arith)) h
       go the-queue = ⊎_elim (λ l. inl (omega arith)) (λ l. inr l) h
 
-  -- The same by the numbers that a structure and its kinds do not have.
-  pub no-map-kind : (structure : ℕ) → structure ≡ 1 → (kind_in t ≡ 1 → ⊥) → (kind_in t ≡ 2 → ⊥) → (kind_in t ≡ 3 → ⊥) → asked structure t ≡ None
-  unfolding op_in from_asked
-  no-map-kind structure e x y z = rw (e, ne_eqb (kind_in t) 1 x, ne_eqb (kind_in t) 2 y, ne_eqb (kind_in t) 3 z)
-
-  pub no-stack-kind : (structure : ℕ) → structure ≡ 2 → (kind_in t ≡ 4 → ⊥) → (kind_in t ≡ 5 → ⊥) → asked structure t ≡ None
-  unfolding op_in from_asked
-  no-stack-kind structure e x y = rw (e, ne_eqb (kind_in t) 4 x, ne_eqb (kind_in t) 5 y)
-
-  pub no-heap-kind : (structure : ℕ) → structure ≡ 3 → (kind_in t ≡ 6 → ⊥) → (kind_in t ≡ 7 → ⊥) → asked structure t ≡ None
-  unfolding op_in from_asked
-  no-heap-kind structure e x y = rw (e, ne_eqb (kind_in t) 6 x, ne_eqb (kind_in t) 7 y)
-
-  pub no-queue-kind : (structure : ℕ) → (structure < 1) ⊎ (3 < structure) → (kind_in t ≡ 8 → ⊥) → (kind_in t ≡ 9 → ⊥) → asked structure t ≡ None
-  unfolding op_in from_asked
-  no-queue-kind structure e x y =
-      rw (
-        outside e 1 (omega arith) (omega arith),
-        outside e 2 (omega arith) (omega arith),
-        outside e 3 (omega arith) (omega arith),
-        ne_eqb (kind_in t) 8 x,
-        ne_eqb (kind_in t) 9 y,
-      )
-
 -- The kind is the first byte.
 pub first_byte : (t : List ℕ) → 0 < length t → get_or t 0 0 ≡ kind_in t
 unfolding value

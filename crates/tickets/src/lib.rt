@@ -4,7 +4,7 @@
 ghost use Rattle.std.specs.Prelude.{◌≡◌, eqb, length};
 ghost use Rattle.state_spec.specs.Ticket.{ticket_length, key_in, value_in, out_of_keys};
 ghost use Rattle.operation_spec.specs.Method.{to_op};
-ghost use Rattle.tickets.specs.Asked.{asked};
+ghost use Rattle.tickets.specs.Asked.{asked, map_op, stack_op, heap_op, queue_op};
 
 use operation_spec::Op;
 use slot_words::word;
@@ -38,8 +38,50 @@ pub fn value_in(ticket: &[u8]) -> u64
     word(ticket, 5)
 }
 
-// What a ticket of 13 bytes asks of a map (1), a stack (2), a heap (3) or a queue, if its kind is one of the structure's: of a map 1 get,
-// 2 put, 3 remove; of a stack 4 push, 5 pop; of a heap 6 add, 7 take; of a queue 8 in, 9 out.
+// Kinds 1 get, 2 put, 3 remove of a map.
+fn map_op(kind: u8, key: u32, value: u64) -> Op
+    ensures { result ≡ map_op kind key value }
+{
+    if kind == 1 {
+        return Op::Get(key);
+    }
+    if kind == 2 {
+        return Op::Put(key, value);
+    }
+    Op::Remove(key)
+}
+
+// Kinds 4 push, 5 pop of a stack.
+fn stack_op(kind: u8, value: u64) -> Op
+    ensures { result ≡ stack_op kind value }
+{
+    if kind == 4 {
+        return Op::Push(value);
+    }
+    Op::Pop
+}
+
+// Kinds 6 add, 7 take of a heap.
+fn heap_op(kind: u8, value: u64) -> Op
+    ensures { result ≡ heap_op kind value }
+{
+    if kind == 6 {
+        return Op::Add(value);
+    }
+    Op::Take
+}
+
+// Kinds 8 in, 9 out of a queue.
+fn queue_op(kind: u8, value: u64) -> Op
+    ensures { result ≡ queue_op kind value }
+{
+    if kind == 8 {
+        return Op::Enqueue(value);
+    }
+    Op::Dequeue
+}
+
+// What a ticket of 13 bytes asks of a map (1), a stack (2), a heap (3) or a queue, if its kind is one of the structure's.
 pub fn read_ticket(structure: u8, ticket: &[u8]) -> Option<Op>
     requires { length ticket.now ≡ 13 }
     ensures { result ≡ asked structure ticket.now }
@@ -47,28 +89,30 @@ pub fn read_ticket(structure: u8, ticket: &[u8]) -> Option<Op>
     let kind = ticket[0];
     let key = key_in(ticket);
     let value = value_in(ticket);
-    match structure {
-        1 => match kind {
-            1 => Some(Op::Get(key)),
-            2 => Some(Op::Put(key, value)),
-            3 => Some(Op::Remove(key)),
-            _ => None,
+    match kind {
+        1..=3 => {
+            if structure == 1 {
+                return Some(map_op(kind, key, value));
+            }
+            None
+        }
+        4..=5 => {
+            if structure == 2 {
+                return Some(stack_op(kind, value));
+            }
+            None
+        }
+        6..=7 => {
+            if structure == 3 {
+                return Some(heap_op(kind, value));
+            }
+            None
+        }
+        8..=9 => match structure {
+            1..=3 => None,
+            _ => Some(queue_op(kind, value)),
         },
-        2 => match kind {
-            4 => Some(Op::Push(value)),
-            5 => Some(Op::Pop),
-            _ => None,
-        },
-        3 => match kind {
-            6 => Some(Op::Add(value)),
-            7 => Some(Op::Take),
-            _ => None,
-        },
-        _ => match kind {
-            8 => Some(Op::Enqueue(value)),
-            9 => Some(Op::Dequeue),
-            _ => None,
-        },
+        _ => None,
     }
 }
 

@@ -7,7 +7,8 @@ use Rattle.slot_laws.specs.SlotLaws.{Words}
 use Rattle.slot_spec.specs.Tree.{among}
 use Rattle.slot_spec.specs.declared.Slot.{Slot}
 use Rattle.slot_spec.specs.declared.Node.{Node}
-use Rattle.slot_spec.specs.declared.Reading.TheVariants.{Full}
+use Rattle.slot_spec.specs.declared.Reading.{Reading}
+use Rattle.slot_spec.specs.declared.Reading.TheVariants.{Full, Empty, Bad}
 use Rattle.round_spec.specs.Format.{full}
 use Rattle.round_spec.specs.Round.{keys_of}
 use Rattle.round_spec.specs.Nodes.{words_format}
@@ -19,6 +20,12 @@ use Rattle.path_reader.specs.Joined.{NoneJoined}
 use Rattle.path_reader.proofs.join_reading.Goals as goal
 use Rattle.path_reader.proofs.join_reading.Goals.{else-not-is_held-via-then-not-is_held+else-join_slot, else-not-is_held-via-else-not-is_held}
 
+-- Neither full nor empty.
+only-bad : (r : Reading) → ((x : Node) → r ≡ Full x → ⊥) → (r ≡ Empty → ⊥) → r ≡ Bad
+only-bad (Full n) u v = absurd (u n refl)
+only-bad Empty u v = absurd (v refl)
+only-bad Bad u v = refl
+
 -- A full slot: what it reads as, and whether its key is held.
 module _ (k b : ℕ) (x : Slot) (node : Node) (held : List ℕ) (words : Words x) (reads : read_slot k b (slot_bytes x) ≡ Full node) where
   read_full : words_format.read k b (slot_bytes x) ≡ full x
@@ -27,10 +34,10 @@ module _ (k b : ℕ) (x : Slot) (node : Node) (held : List ℕ) (words : Words x
   held_key : among node.key held ≡ among (words_format.key x) held
   held_key = ap (λ (k : ℕ). among k held) (full-key k b x words node reads)
 
-pub returns-in-Empty : goal.returns-in-Empty
-returns-in-Empty c =
+pub returns-in_default : goal.returns-in_default
+returns-in_default c =
     let a = c.args in
-    let e = empty-reading a.size a.bucket a.x (sym c.reading.ensures ∙ c.in-Empty.is) in
+    let e = empty-reading a.size a.bucket a.x (sym c.reading-r.ensures ∙ c.in-Empty.is) in
     record {
       within = omega arith;
       joined = rw e (reading-empty words_format a.held.now (take a.m (slots_in a.s.now)));
@@ -38,10 +45,10 @@ returns-in-Empty c =
       leaves = λ v. v;
     }
 
-pub returns-in-Bad : goal.returns-in-Bad
-returns-in-Bad c =
+pub returns-in_default-r : goal.returns-in_default-r
+returns-in_default-r c =
     let a = c.args in
-    let e = bad-reading a.size a.bucket a.x (sym c.reading.ensures ∙ c.in-Bad.is) in
+    let e = bad-reading a.size a.bucket a.x (sym c.reading-r.ensures ∙ only-bad c.reading-r.result c.in_default.not-Full c.in_default-r.not-Empty) in
     record { refused = rw e (reading-bad words_format a.held.now (take a.m (slots_in a.s.now))); same = refl }
 
 pub returns-then-join_slot : goal.returns-then-join_slot
@@ -49,7 +56,7 @@ returns-then-join_slot c =
     let a = c.args in
     let waiting : List Slot = take a.m (slots_in a.s.now) in
     let words : Words a.x = search rules in
-    let reads : read_slot a.size a.bucket (slot_bytes a.x) ≡ Full c.in-Full.n = sym c.reading.ensures ∙ c.in-Full.is in
+    let reads : read_slot a.size a.bucket (slot_bytes a.x) ≡ Full c.in-Full.n = sym c.reading-r.ensures ∙ c.in-Full.is in
     let j = c.join_slot in
     let t : j.result ≡ true = c.if-join_slot.true in
     let free : c.is_held.result ≡ false = c.if-not-is_held.true in
@@ -69,7 +76,7 @@ returns-else-not-is_held c =
     let a = c.args in
     let waiting : List Slot = take a.m (slots_in a.s.now) in
     let words : Words a.x = search rules in
-    let reads : read_slot a.size a.bucket (slot_bytes a.x) ≡ Full c.in-Full.n = sym c.reading.ensures ∙ c.in-Full.is in
+    let reads : read_slot a.size a.bucket (slot_bytes a.x) ≡ Full c.in-Full.n = sym c.reading-r.ensures ∙ c.in-Full.is in
     let is-full = read_full a.size a.bucket a.x c.in-Full.n a.held.now words reads in
     elim c.else-not-is_held.branch [
       | else-not-is_held-via-then-not-is_held+else-join_slot w ↦

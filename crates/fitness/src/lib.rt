@@ -28,11 +28,11 @@ pub struct Head {
     pub waiting: u16,
 }
 
-// A number from 1 on, up to a greatest.
-pub fn in_range(n: u8, most: u8) -> bool
+// A number from 1 on, up to a greatest. It is asked wide: a C host's numbers are not cut to a byte.
+pub fn in_range(n: u64, most: u8) -> bool
     ensures { result ≡ in_range n most }
 {
-    0 < n && n <= most
+    0 < n && n <= u64::from(most)
 }
 
 fn zero_link(l: Link) -> bool
@@ -77,8 +77,8 @@ fn head_fits(head: Head) -> bool
     ensures { result ≡ head_fits head.structure head.size head.entries head.waiting head.root head.ahead }
 {
     let size = usize::from(head.size);
-    in_range(head.structure, LARGEST_STRUCTURE)
-        && in_range(head.size, LARGEST_SIZE)
+    in_range(u64::from(head.structure), LARGEST_STRUCTURE)
+        && in_range(u64::from(head.size), LARGEST_SIZE)
         && usize::from(head.entries) < leaves(size)
         && usize::from(head.waiting) <= LIMIT
         && usize::from(head.root.tag) < leaves(size)

@@ -1,4 +1,3 @@
-pub mod Opening
 pub mod LengthLaws
 pub mod OpeningLaws
 pub mod CallLaws

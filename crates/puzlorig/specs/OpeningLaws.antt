@@ -1,5 +1,5 @@
 -- Openings over bytes, check by check.
-use Rattle.std.specs.Prelude.{◌≡◌, Bool, not, ◌&&◌, List, ◌++◌, ℕ, ◌+◌, ◌*◌, ◌%◌, ◌^◌, ◌≤◌, ◌<◌, eqb, drop}
+use Rattle.std.specs.Prelude.{◌≡◌, Result, Ok, Err, Bool, not, ◌&&◌, List, ◌++◌, ℕ, ◌+◌, ◌*◌, ◌%◌, ◌^◌, ◌≤◌, ◌<◌, eqb, drop}
 use Rattle.std.proofs.Math.Path.{refl}
 use Rattle.std.proofs.Common.{sym, ◌∙◌, ap, ap₂, arith, pow_mono, drop_at}
 use Rattle.std.proofs.Math.Bool.{true, false}
@@ -15,7 +15,9 @@ use Rattle.lent_bytes_spec.specs.declared.StateHead.{StateHead}
 use Rattle.lent_bytes_spec.specs.StateBytes.{head_length, state_length, head_bytes, places_bytes, head_for, state_bytes}
 use Rattle.lent_bytes_laws.specs.PlaceLaws.{places-none}
 use Rattle.host_spec.specs.Host.{host_opening, host_opened}
-use Rattle.puzlorig.specs.Opening.{opening_number}
+use Rattle.opening.specs.declared.Unopened.{Unopened}
+use Rattle.opening.specs.declared.Unopened.TheVariants.{UnknownStructure, UnknownSize, TreeLength}
+use Rattle.opening.specs.Number.{opening_number, number_of, found_number}
 
 abbrev numbered : Bool → Bool → Bool → ℕ
 numbered a b c = pick (not a) 11 (pick (not b) 12 (pick (not c) 3 0))
@@ -88,22 +90,24 @@ module _ (structure size : ℕ) (tree : List ℕ) where
       unfolding host_opened
       entry-opens after cleared z e f = rw (eq-eqb (length state) state_length good, opens z, e, f)
 
-module _ (structure size length : ℕ) where
-  pub number-11 : in_range structure largest_structure ≡ false → 11 ≡ opening_number structure size length
-  unfolding opening_number
-  number-11 a = rw a
+-- What a check found, by its number.
+number-some : (cause : Unopened) → number_of cause ≡ 0 → ⊥
+number-some UnknownStructure e = omega (arith, e)
+number-some UnknownSize e = omega (arith, e)
+number-some TreeLength e = omega (arith, e)
 
-  pub number-12 : in_range structure largest_structure ≡ true → in_range size largest_size ≡ false → 12 ≡ opening_number structure size length
-  unfolding opening_number
-  number-12 a b = rw (a, b)
+module _ {number : ℕ} (found : Result Unit Unopened) (e : found_number found ≡ number) where
+  pub found-cause : (cause : Unopened) → found ≡ Err cause → (number_of cause ≡ number) × (number ≡ 0 → ⊥)
+  found-cause cause is =
+      let same : number_of cause ≡ number = sym (ap found_number is) ∙ e in
+      (same, λ z. number-some cause (same ∙ z))
 
-  pub number-3 : in_range structure largest_structure ≡ true → in_range size largest_size ≡ true → (length ≡ tree_length size → ⊥) → 3 ≡ opening_number structure size length
-  unfolding opening_number
-  number-3 a b n = rw (a, b, ne_eqb length (tree_length size) n)
-
-  pub number-0 : in_range structure largest_structure ≡ true → in_range size largest_size ≡ true → length ≡ tree_length size → 0 ≡ opening_number structure size length
-  unfolding opening_number
-  number-0 a b e = rw (a, b, eq-eqb length (tree_length size) e)
+  pub found-none : ((cause : Unopened) → found ≡ Err cause → ⊥) → number ≡ 0
+  found-none none = sym e ∙ go found none
+    where
+      go : (r : Result Unit Unopened) → ((cause : Unopened) → r ≡ Err cause → ⊥) → found_number r ≡ 0
+      go (Ok u) none = refl
+      go (Err cause) none = absurd (none cause refl)
 
 -- A tree can be cleared bucket by bucket.
 pub tree-clears : (size : ℕ) (tree : List ℕ) → size ≤ largest_size → length tree ≡ tree_length size → (length tree < 2 ^ 32) × (length tree % bucket_length ≡ 0)

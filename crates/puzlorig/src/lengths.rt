@@ -1,13 +1,12 @@
 // The lengths in bytes that a host must lend for a structure and size; 0 where there is no such structure or size.
 ghost use Rattle.std.specs.Prelude.{◌≡◌};
-ghost use Rattle.state_spec.specs.Fit.{in_range};
 ghost use Rattle.state_spec.specs.Ticket.{ticket_length};
 ghost use Rattle.lent_bytes_spec.specs.StateBytes.{state_length};
 ghost use Rattle.host_spec.specs.Lengths.{known_store, tree_lent, tape_lent, trace_lent, file_lent};
 ghost use Rattle.host_spec.specs.Result.{result_length};
 
 use call_draws::{draws_of, rounds_of};
-use fitness::{LARGEST_SIZE, LARGEST_STRUCTURE};
+use fitness::{LARGEST_SIZE, LARGEST_STRUCTURE, in_range};
 use host_spec::RESULT_LENGTH;
 use lent_bytes_spec::{NUMBER_LENGTH, STATE_LENGTH};
 use readout_spec::{COUNT_WIDTH, INDEX_WIDTH, VALUE_WIDTH};
@@ -16,23 +15,10 @@ use state_spec::PLACES;
 use tickets::TICKET_LENGTH;
 use tree_paths::tree_length;
 
-// Whether a wide number is one of those from 1 to a greatest.
-pub fn is_known(n: u64, most: u8) -> bool
-    ensures { result ≡ in_range n most }
-{
-    if n == 0 {
-        return false;
-    }
-    n <= most as u64
-}
-
 fn known_store(structure: u64, size: u64) -> bool
     ensures { result ≡ known_store structure size }
 {
-    if !is_known(structure, LARGEST_STRUCTURE) {
-        return false;
-    }
-    is_known(size, LARGEST_SIZE)
+    in_range(structure, LARGEST_STRUCTURE) && in_range(size, LARGEST_SIZE)
 }
 
 pub fn puzlorig_state_length() -> u64
@@ -56,7 +42,7 @@ pub fn puzlorig_result_length() -> u64
 pub fn puzlorig_tree_length(size: u64) -> u64
     ensures { result ≡ tree_lent size }
 {
-    if !is_known(size, LARGEST_SIZE) {
+    if !in_range(size, LARGEST_SIZE) {
         return 0;
     }
     tree_length(size as usize) as u64
@@ -84,7 +70,7 @@ pub fn puzlorig_trace_length(structure: u64, size: u64) -> u64
 pub fn puzlorig_read_out_length(size: u64) -> u64
     ensures { result ≡ file_lent size }
 {
-    if !is_known(size, LARGEST_SIZE) {
+    if !in_range(size, LARGEST_SIZE) {
         return 0;
     }
     let slots = tree_length(size as usize) / SLOT_LENGTH;

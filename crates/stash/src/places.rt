@@ -17,10 +17,7 @@ fn used_fits(p: Place, size: usize, least: u64) -> bool
     requires { size ≤ 16 }
     ensures { result ≡ good_from size least p }
 {
-    if !place_good(size, p) {
-        return false;
-    }
-    least <= p.node.key as u64
+    place_good(size, p) && least <= p.node.key as u64
 }
 
 // A used place is asked whether it fits; if so its node is put into slot i of the row.
@@ -31,8 +28,7 @@ pub fn load_place(w: &mut [u8], i: usize, p: Place, size: usize, least: u64) -> 
     if !used_fits(p, size, least) {
         return false;
     }
-    let node = p.node;
-    put(w, i, words_of(node));
+    put(w, i, words_of(p.node));
     true
 }
 

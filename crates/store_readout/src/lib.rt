@@ -38,8 +38,8 @@ fn closed_mark(mark: u8) -> bool
 fn is_known(structure: u8, size: u8, count: u16) -> bool
     ensures { result ≡ known_numbers structure size count }
 {
-    in_range(structure, LARGEST_STRUCTURE)
-        && in_range(size, LARGEST_SIZE)
+    in_range(u64::from(structure), LARGEST_STRUCTURE)
+        && in_range(u64::from(size), LARGEST_SIZE)
         && usize::from(count) <= PLACES
 }
 

@@ -51,7 +51,7 @@ pub fn read_part(part: &mut [u8]) -> Result<(), Stop> {
 pub fn tree_lent(size: u8) -> usize
     ensures { (result ≡ tree_lent size) × (result ≤ largest_tree) }
 {
-    if in_range(size, LARGEST_SIZE) {
+    if in_range(u64::from(size), LARGEST_SIZE) {
         tree_length(usize::from(size))
     } else {
         0

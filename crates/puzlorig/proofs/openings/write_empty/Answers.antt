@@ -4,6 +4,6 @@ use Rattle.puzlorig.proofs.openings.write_empty.Goals as goal
 
 pub returns : goal.returns
 returns c =
-    let z = c.zero_state in
+    let z = c.fill in
     let w = c.write_head in
-    empty-written c.args.state.now c.args.mark c.args.structure c.args.size c.requires z.new.state w.new.state z.ensures w.ensures
+    empty-written c.args.state.now c.args.mark c.args.structure c.args.size c.requires z.new.self w.new.state (z.ensures.after (λ y e. e)) w.ensures

@@ -3,7 +3,7 @@
 // modulo 256. Prints the walk program's line for each call, and then that of the program `peaks`.
 #![tactic(auto)]
 
-ghost use Rattle.std.specs.Prelude.{◌≤◌, length};
+ghost use Rattle.std.specs.Prelude.{◌≡◌, ◌≤◌, length, IfSome};
 ghost use Rattle.walk_spec.specs.Input.{record_length};
 
 use call_draws::MOST_LEAVES;
@@ -36,6 +36,7 @@ fn damaged_call(
     input: &[u8],
 ) -> Option<(Store, usize)>
     requires { record_length store.state.structure store.state.size ≤ length input.now }
+    ensures { IfSome result (λ left. left.0.state.size ≡ store.state.size) }
 {
     let mut trace = [0u16; MOST_LEAVES];
     let made = call_in(store.state, tree, input, &mut trace);
@@ -52,7 +53,9 @@ fn damaged_call(
 }
 
 // Reads a call and its damage, makes both and prints the call's lines.
-fn read_call(store: Store, before: usize, tree: &mut [u8]) -> Option<(Store, usize)> {
+fn read_call(store: Store, before: usize, tree: &mut [u8]) -> Option<(Store, usize)>
+    ensures { IfSome result (λ left. left.0.state.size ≡ store.state.size) }
+{
     let state = store.state;
     let mut input = [0u8; LONGEST_RECORD];
     whole(read_record(state.structure, state.size, &mut input))?;
@@ -67,10 +70,15 @@ fn read_call(store: Store, before: usize, tree: &mut [u8]) -> Option<(Store, usi
 
 // The calls up to the input's end. A proved loop has to end, and nothing says that an input does: no run uses up the turns.
 fn read_calls(opened: Store, tree: &mut [u8]) {
-    let _ = (0..u64::MAX).try_fold(
-        (opened, 0),
-        |(store, largest), _| read_call(store, largest, tree),
-    );
+    let mut store = opened;
+    let mut largest = 0;
+    for _ in 0..u64::MAX {
+        let Some((left, so_far)) = read_call(store, largest, tree) else {
+            return;
+        };
+        store = left;
+        largest = so_far;
+    }
 }
 
 fn main() {

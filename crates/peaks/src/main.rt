@@ -2,6 +2,8 @@
 // waited and were held at the close of one of its rounds, the largest such number so far, and the limit beyond which a store overflows.
 #![tactic(auto)]
 
+ghost use Rattle.std.specs.Prelude.{◌≡◌, IfSome};
+
 use call_draws::MOST_LEAVES;
 use input_calls::next_call;
 use input_opening::{Store, open_input, print, whole};
@@ -17,7 +19,9 @@ fn print_peak(last: usize, largest: usize) -> bool {
 }
 
 // Reads a call, makes it and prints its line. The store that it leaves and the largest peak so far, if more is to be read.
-fn read_call(store: Store, before: usize, tree: &mut [u8]) -> Option<(Store, usize)> {
+fn read_call(store: Store, before: usize, tree: &mut [u8]) -> Option<(Store, usize)>
+    ensures { IfSome result (λ left. left.0.state.size ≡ store.state.size) }
+{
     let mut trace = [0u16; MOST_LEAVES];
     let made = whole(next_call(store.state, tree, &mut trace))?;
     let largest = before.max(made.peak);
@@ -30,10 +34,15 @@ fn read_call(store: Store, before: usize, tree: &mut [u8]) -> Option<(Store, usi
 
 // The calls up to the input's end. A proved loop has to end, and nothing says that an input does: no run uses up the turns.
 fn read_calls(opened: Store, tree: &mut [u8]) {
-    let _ = (0..u64::MAX).try_fold(
-        (opened, 0),
-        |(store, largest), _| read_call(store, largest, tree),
-    );
+    let mut store = opened;
+    let mut largest = 0;
+    for _ in 0..u64::MAX {
+        let Some((left, so_far)) = read_call(store, largest, tree) else {
+            return;
+        };
+        store = left;
+        largest = so_far;
+    }
 }
 
 fn main() {

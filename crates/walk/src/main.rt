@@ -2,7 +2,7 @@
 // input, makes the calls on a store, and prints a line for each as soon as it has been made.
 #![tactic(auto)]
 
-ghost use Rattle.std.specs.Prelude.{◌≡◌, ◌≤◌, length};
+ghost use Rattle.std.specs.Prelude.{◌≡◌, ◌≤◌, length, IfSome};
 ghost use Rattle.io.specs.Counts.{IsPrefixLen};
 ghost use Rattle.state_spec.specs.Fit.{largest_size};
 ghost use Rattle.walk_spec.specs.Lines.{longest_line};
@@ -40,7 +40,9 @@ fn walk_call(state: State, tree: &mut [u8], input: &[u8], out: &mut [u8]) -> Wal
 }
 
 // Reads a call, in pieces of any length, makes it and prints its line. The store that it leaves, if more is to be read.
-fn read_call(store: Store, tree: &mut [u8]) -> Option<Store> {
+fn read_call(store: Store, tree: &mut [u8]) -> Option<Store>
+    ensures { IfSome result (λ left. left.state.size ≡ store.state.size) }
+{
     let state = store.state;
     let mut input = [0u8; LONGEST_RECORD];
     whole(read_record(state.structure, state.size, &mut input))?;
@@ -57,7 +59,13 @@ fn read_call(store: Store, tree: &mut [u8]) -> Option<Store> {
 
 // The calls up to the input's end. A proved loop has to end, and nothing says that an input does: no run uses up the turns.
 fn read_calls(opened: Store, tree: &mut [u8]) {
-    let _ = (0..u64::MAX).try_fold(opened, |store, _| read_call(store, tree));
+    let mut store = opened;
+    for _ in 0..u64::MAX {
+        let Some(left) = read_call(store, tree) else {
+            return;
+        };
+        store = left;
+    }
 }
 
 fn main() {

@@ -96,7 +96,7 @@ pub fn print_tree(memory: Memory)
         if let Some(i) = next_from(memory, least) {
             let n = memory.nodes[i];
             print_node(n);
-            least = u64::from(n.key) + 1;
+            least = n.key as u64 + 1;
         }
     }
     text(b"\n");

@@ -2,7 +2,7 @@
 // input, makes the calls on a store, and prints a line for each as soon as it has been made.
 #![tactic(auto)]
 
-ghost use Rattle.std.specs.Prelude.{◌≡◌, ◌≤◌, length, IfSome};
+ghost use Rattle.std.specs.Prelude.{◌≡◌, ◌≤◌, length};
 ghost use Rattle.io.specs.Counts.{IsPrefixLen};
 ghost use Rattle.state_spec.specs.Fit.{largest_size};
 ghost use Rattle.walk_spec.specs.Lines.{longest_line};
@@ -39,19 +39,20 @@ fn walk_call(state: State, tree: &mut [u8], input: &[u8], out: &mut [u8]) -> Wal
     }
 }
 
-// Reads a call, in pieces of any length, makes it and prints its line. The store that it leaves, if more is to be read.
-fn read_call(store: Store, tree: &mut [u8]) -> Option<Store>
-    ensures { IfSome result (λ left. left.state.size ≡ store.state.size) }
+// Reads a call, in pieces of any length, makes it and prints its line. None where no more is to be read.
+fn read_call(store: &mut Store, tree: &mut [u8]) -> Option<()>
+    ensures { store.new.state.size ≡ store.old.state.size }
 {
     let state = store.state;
     let mut input = [0u8; LONGEST_RECORD];
     whole(read_record(state.structure, state.size, &mut input))?;
     let mut out = [0u8; LONGEST_LINE];
     let walked = walk_call(state, tree, &input, &mut out);
+    *store = Store {
+        state: walked.state,
+    };
     if print(&out[..walked.length]) {
-        Some(Store {
-            state: walked.state,
-        })
+        Some(())
     } else {
         None
     }
@@ -61,10 +62,9 @@ fn read_call(store: Store, tree: &mut [u8]) -> Option<Store>
 fn read_calls(opened: Store, tree: &mut [u8]) {
     let mut store = opened;
     for _ in 0..u64::MAX {
-        let Some(left) = read_call(store, tree) else {
+        if read_call(&mut store, tree).is_none() {
             return;
-        };
-        store = left;
+        }
     }
 }
 

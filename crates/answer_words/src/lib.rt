@@ -2,10 +2,10 @@
 #![tactic(auto)]
 
 ghost use Rattle.std.specs.Prelude.{◌≡◌};
-ghost use Rattle.call_spec.specs.Reply.{Answered, to_reply};
+ghost use Rattle.call_spec.specs.Reply.{Answered};
 ghost use Rattle.walk_spec.specs.Lines.{reply_word};
 
-use call_spec::Refusal;
+use host_results::Cause;
 use operation_spec::Answer;
 
 fn answer_word(answer: Answer) -> &'static [u8]
@@ -27,8 +27,8 @@ fn answer_word(answer: Answer) -> &'static [u8]
     }
 }
 
-pub fn reply_word(reply: Result<Answer, Refusal>) -> &'static [u8]
-    ensures { result.now ≡ reply_word (to_reply reply) }
+pub fn reply_word<C: Cause>(reply: Result<Answer, C>) -> &'static [u8]
+    ensures { result.now ≡ reply_word (C.told reply) }
 {
     match reply {
         Ok(answer) => answer_word(answer),

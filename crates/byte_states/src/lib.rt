@@ -1,8 +1,8 @@
 // A store's state as lent bytes: its head, and the slots of its waiting places.
 #![tactic(auto)]
 
-ghost use Rattle.std.specs.Prelude.{◌≡◌, ◌++◌, ◌≤◌, length, drop, IfOk};
-ghost use Rattle.lent_bytes_spec.specs.StateBytes.{head_length, head_in, head_bytes, next_key, root_in};
+ghost use Rattle.std.specs.Prelude.{◌≡◌, true, ◌++◌, ◌≤◌, length, drop, IfOk};
+ghost use Rattle.lent_bytes_spec.specs.StateBytes.{head_length, head_in, head_bytes, next_key, root_in, ahead_in, key_fits};
 ghost use Rattle.call_spec.specs.Reply.{refusal_number};
 ghost use Rattle.byte_states.specs.Refusal.{bytes_refusal, core_head};
 
@@ -61,7 +61,7 @@ fn next_key(h: StateHead) -> u64
 }
 
 // The root link. An empty queue's root key is no part of it.
-fn root_of(h: StateHead) -> Link
+pub fn root_of(h: StateHead) -> Link
     ensures { result ≡ root_in h }
 {
     let emptied = h.structure == 4 && h.entries == 0;
@@ -69,6 +69,32 @@ fn root_of(h: StateHead) -> Link
         height: h.height,
         key: if emptied { 0 } else { h.key },
         tag: h.tag,
+    }
+}
+
+// What is known ahead.
+pub fn ahead_of(h: StateHead) -> Ahead
+    requires { key_fits h ≡ true }
+    ensures { result ≡ ahead_in h }
+{
+    Ahead {
+        key: next_key(h) as u32,
+        tag: h.ahead,
+    }
+}
+
+// The head as the core takes it.
+pub fn core_head(h: StateHead) -> Head
+    requires { key_fits h ≡ true }
+    ensures { result ≡ core_head h }
+{
+    Head {
+        structure: h.structure,
+        size: h.size,
+        entries: h.entries,
+        root: root_of(h),
+        ahead: ahead_of(h),
+        waiting: h.waiting,
     }
 }
 
@@ -81,20 +107,10 @@ pub fn head_of(h: StateHead) -> Result<Head, Refusal>
     if h.mark != 0 {
         return Err(Refusal::Closed);
     }
-    let Ok(next) = u32::try_from(next_key(h)) else {
+    if u32::try_from(next_key(h)).is_err() {
         return Err(Refusal::Unfit);
-    };
-    let head = Head {
-        structure: h.structure,
-        size: h.size,
-        entries: h.entries,
-        root: root_of(h),
-        ahead: Ahead {
-            key: next,
-            tag: h.ahead,
-        },
-        waiting: h.waiting,
-    };
+    }
+    let head = core_head(h);
     head_refusal(h.mark, head)?;
     Ok(head)
 }

@@ -3,7 +3,7 @@
 // modulo 256. Prints the walk program's line for each call, and then that of the program `peaks`.
 #![tactic(auto)]
 
-ghost use Rattle.std.specs.Prelude.{◌≤◌, length};
+ghost use Rattle.std.specs.Prelude.{◌≡◌, ◌≤◌, length};
 ghost use Rattle.walk_spec.specs.Input.{record_length};
 
 use call_draws::MOST_LEAVES;
@@ -27,35 +27,32 @@ fn damage(tree: &mut [u8], bytes: [u8; DAMAGE_LENGTH]) {
     tree[at] = tree[at].wrapping_add(amount);
 }
 
-// Makes the call that stands in `input` and prints its lines. The store that it leaves and the largest peak so far, if more is to
-// be read.
-fn damaged_call(
-    store: Store,
-    before: usize,
-    tree: &mut [u8],
-    input: &[u8],
-) -> Option<(Store, usize)>
-    requires { record_length store.state.structure store.state.size ≤ length input.now }
+// Makes the call that stands in `input` and prints its lines. The largest peak so far, if more is to be read.
+fn damaged_call(store: &mut Store, before: usize, tree: &mut [u8], input: &[u8]) -> Option<usize>
+    requires { record_length store.old.state.structure store.old.state.size ≤ length input.now }
+    ensures { store.new.state.size ≡ store.old.state.size }
 {
     let mut trace = [0u16; MOST_LEAVES];
     let made = call_in(store.state, tree, input, &mut trace);
     let largest = before.max(made.peak);
+    *store = Store { state: made.state };
     let mut out = [0u8; LONGEST_LINE];
     let length = line(made.reply, made.leaves, &trace, &mut out);
     let written = print(&out[..length]);
     let length = peak_line(made.peak, largest, &mut out);
     if written && print(&out[..length]) {
-        Some((Store { state: made.state }, largest))
+        Some(largest)
     } else {
         None
     }
 }
 
 // Reads a call and its damage, makes both and prints the call's lines.
-fn read_call(store: Store, before: usize, tree: &mut [u8]) -> Option<(Store, usize)> {
-    let state = store.state;
+fn read_call(store: &mut Store, before: usize, tree: &mut [u8]) -> Option<usize>
+    ensures { store.new.state.size ≡ store.old.state.size }
+{
     let mut input = [0u8; LONGEST_RECORD];
-    whole(read_record(state.structure, state.size, &mut input))?;
+    whole(read_record(store.state.structure, store.state.size, &mut input))?;
     let mut bytes = [0u8; DAMAGE_LENGTH];
     if read_part(&mut bytes).is_err() {
         print_short();
@@ -67,10 +64,14 @@ fn read_call(store: Store, before: usize, tree: &mut [u8]) -> Option<(Store, usi
 
 // The calls up to the input's end. A proved loop has to end, and nothing says that an input does: no run uses up the turns.
 fn read_calls(opened: Store, tree: &mut [u8]) {
-    let _ = (0..u64::MAX).try_fold(
-        (opened, 0),
-        |(store, largest), _| read_call(store, largest, tree),
-    );
+    let mut store = opened;
+    let mut largest = 0;
+    for _ in 0..u64::MAX {
+        let Some(so_far) = read_call(&mut store, largest, tree) else {
+            return;
+        };
+        largest = so_far;
+    }
 }
 
 fn main() {

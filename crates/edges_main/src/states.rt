@@ -1,10 +1,14 @@
 // The state of a case.
+ghost use Rattle.std.specs.Prelude.{◌≡◌};
+
 use super::rows::{byte, key, number, short};
 use slot_spec::{Ahead, Link, Node};
 use state_spec::{Place, State};
 
 // A link under tag 0.
-fn link(height: u8, key: u32) -> Link {
+pub fn link(height: u8, key: u32) -> Link
+    ensures { result ≡ record { height = height; key = key; tag = 0 } }
+{
     Link {
         height,
         key,
@@ -12,18 +16,24 @@ fn link(height: u8, key: u32) -> Link {
     }
 }
 
+// A node of value 0.
+pub fn node(key: u32, tag: u16, left: Link, right: Link) -> Node
+    ensures { result ≡ record { key = key; value = 0; tag = tag; left = left; right = right } }
+{
+    Node {
+        key,
+        tag,
+        left,
+        right,
+        ..Node::default()
+    }
+}
+
 fn places_of(row: &[usize; 128]) -> [Place; 101] {
-    let first = Node {
-        key: key(row, b'n'),
-        tag: short(row, b'g'),
-        left: link(byte(row, b'a'), key(row, b'l')),
-        right: link(byte(row, b'b'), key(row, b'r')),
-        ..Node::default()
-    };
-    let second = Node {
-        key: key(row, b'q'),
-        ..Node::default()
-    };
+    let left = link(byte(row, b'a'), key(row, b'l'));
+    let right = link(byte(row, b'b'), key(row, b'r'));
+    let first = node(key(row, b'n'), short(row, b'g'), left, right);
+    let second = node(key(row, b'q'), 0, Link::default(), Link::default());
     let mut places = [Place::default(); 101];
     places[1] = Place {
         full: second.key != 0,

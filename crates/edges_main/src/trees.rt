@@ -1,8 +1,9 @@
 // The tree that a case is lent.
 use super::rows::{key, number, short};
+use super::states::node;
 use bucket_writer::write_slot;
 use checksums::join;
-use slot_spec::Node;
+use slot_spec::Link;
 
 // Space for a tree of any size, each byte the same.
 pub fn filled(byte: u8) -> [u8; 65536] {
@@ -15,12 +16,13 @@ pub fn put_slot(row: &[usize; 128], tree: &mut [u8]) {
     if tree.len() < at + 32 {
         return;
     }
-    let node = Node {
-        key: key(row, b'V'),
-        tag: short(row, b'G'),
-        ..Node::default()
-    };
-    write_slot(tree, at, node);
+    let n = node(
+        key(row, b'V'),
+        short(row, b'G'),
+        Link::default(),
+        Link::default(),
+    );
+    write_slot(tree, at, n);
 }
 
 // A checksum, by which a tree is seen to be as it was; that of zero bytes is 0.

@@ -5,7 +5,7 @@
 
 mod reasons;
 
-ghost use Rattle.std.specs.Prelude.{◌≡◌, ◌≤◌, length};
+ghost use Rattle.std.specs.Prelude.{◌≡◌, ◌+◌, ◌≤◌, length};
 ghost use Rattle.std.specs.Result.{result_ok};
 ghost use Rattle.io.specs.Counts.{IsPrefixLen};
 ghost use Rattle.named_files.specs.Names.{longest_name, longest_program, longest_addition};
@@ -82,7 +82,8 @@ impl Named<'_> {
     }
 
     // The name that a temporary file beside the name is asked for: the letters at its end are replaced. How long it is.
-    pub fn temp_name(self, out: &mut [u8; LONGEST_TEMP]) -> usize
+    pub fn temp_name(self, out: &mut [u8]) -> usize
+        requires { longest_name + longest_addition ≤ length out.old }
         ensures { IsPrefixLen result out.new }
     {
         let mut text = Text::new(out);

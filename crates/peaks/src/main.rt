@@ -2,6 +2,8 @@
 // waited and were held at the close of one of its rounds, the largest such number so far, and the limit beyond which a store overflows.
 #![tactic(auto)]
 
+ghost use Rattle.std.specs.Prelude.{◌≡◌};
+
 use call_draws::MOST_LEAVES;
 use input_calls::next_call;
 use input_opening::{Store, open_input, print, whole};
@@ -16,13 +18,16 @@ fn print_peak(last: usize, largest: usize) -> bool {
     print(&out[..length])
 }
 
-// Reads a call, makes it and prints its line. The store that it leaves and the largest peak so far, if more is to be read.
-fn read_call(store: Store, before: usize, tree: &mut [u8]) -> Option<(Store, usize)> {
+// Reads a call, makes it and prints its line. The largest peak so far, if more is to be read.
+fn read_call(store: &mut Store, before: usize, tree: &mut [u8]) -> Option<usize>
+    ensures { store.new.state.size ≡ store.old.state.size }
+{
     let mut trace = [0u16; MOST_LEAVES];
     let made = whole(next_call(store.state, tree, &mut trace))?;
     let largest = before.max(made.peak);
+    *store = Store { state: made.state };
     if print_peak(made.peak, largest) {
-        Some((Store { state: made.state }, largest))
+        Some(largest)
     } else {
         None
     }
@@ -30,10 +35,14 @@ fn read_call(store: Store, before: usize, tree: &mut [u8]) -> Option<(Store, usi
 
 // The calls up to the input's end. A proved loop has to end, and nothing says that an input does: no run uses up the turns.
 fn read_calls(opened: Store, tree: &mut [u8]) {
-    let _ = (0..u64::MAX).try_fold(
-        (opened, 0),
-        |(store, largest), _| read_call(store, largest, tree),
-    );
+    let mut store = opened;
+    let mut largest = 0;
+    for _ in 0..u64::MAX {
+        let Some(so_far) = read_call(&mut store, largest, tree) else {
+            return;
+        };
+        largest = so_far;
+    }
 }
 
 fn main() {

@@ -95,17 +95,17 @@ pub fn put_one(memory: Memory, o: OneMade) -> Memory
     }
 }
 
-// The node with the least key from `least` on.
-pub fn next_from(memory: Memory, least: u64) -> Option<Node>
+// The number of the node with the least key from `least` on.
+pub fn next_from(memory: Memory, least: u64) -> Option<usize>
     requires { memory.count ≤ 16 }
+    ensures { IfSome result (λ i. i < memory.count) }
 {
     let mut next = None;
     let mut nearest: u64 = 4294967296;
     for i in 0..memory.count {
-        let n = memory.nodes[i];
-        let key = u64::from(n.key);
+        let key = u64::from(memory.nodes[i].key);
         if key >= least && key < nearest {
-            next = Some(n);
+            next = Some(i);
             nearest = key;
         }
     }

@@ -93,9 +93,10 @@ pub fn print_tree(memory: Memory)
     text(b"\n");
     let mut least: u64 = 0;
     for _ in 0..memory.count {
-        if let Some(n) = next_from(memory, least) {
+        if let Some(i) = next_from(memory, least) {
+            let n = memory.nodes[i];
             print_node(n);
-            least = u64::from(n.key) + 1;
+            least = n.key as u64 + 1;
         }
     }
     text(b"\n");

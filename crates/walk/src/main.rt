@@ -39,17 +39,20 @@ fn walk_call(state: State, tree: &mut [u8], input: &[u8], out: &mut [u8]) -> Wal
     }
 }
 
-// Reads a call, in pieces of any length, makes it and prints its line. The store that it leaves, if more is to be read.
-fn read_call(store: Store, tree: &mut [u8]) -> Option<Store> {
+// Reads a call, in pieces of any length, makes it and prints its line. None where no more is to be read.
+fn read_call(store: &mut Store, tree: &mut [u8]) -> Option<()>
+    ensures { store.new.state.size ≡ store.old.state.size }
+{
     let state = store.state;
     let mut input = [0u8; LONGEST_RECORD];
     whole(read_record(state.structure, state.size, &mut input))?;
     let mut out = [0u8; LONGEST_LINE];
     let walked = walk_call(state, tree, &input, &mut out);
+    *store = Store {
+        state: walked.state,
+    };
     if print(&out[..walked.length]) {
-        Some(Store {
-            state: walked.state,
-        })
+        Some(())
     } else {
         None
     }
@@ -57,7 +60,12 @@ fn read_call(store: Store, tree: &mut [u8]) -> Option<Store> {
 
 // The calls up to the input's end. A proved loop has to end, and nothing says that an input does: no run uses up the turns.
 fn read_calls(opened: Store, tree: &mut [u8]) {
-    let _ = (0..u64::MAX).try_fold(opened, |store, _| read_call(store, tree));
+    let mut store = opened;
+    for _ in 0..u64::MAX {
+        if read_call(&mut store, tree).is_none() {
+            return;
+        }
+    }
 }
 
 fn main() {

@@ -3,13 +3,13 @@
 
 ghost use Rattle.std.specs.Prelude.{◌≡◌, ◌++◌, ◌≤◌, [], length, take, drop};
 ghost use Rattle.io.specs.Counts.{IsPrefixLen};
-ghost use Rattle.call_spec.specs.Reply.{Refused, to_reply};
+ghost use Rattle.call_spec.specs.Reply.{Refused};
 ghost use Rattle.walk_spec.specs.Lines.{line_of, short_line, longest_line, most_leaves};
 ghost use Rattle.walk_laws.specs.LinesLaws.{line_with};
 
 use answer_values::reply_shown;
 use answer_words::reply_word;
-use call_spec::Refusal;
+use host_results::Cause;
 use operation_spec::Answer;
 use text_writer::Text;
 
@@ -28,10 +28,10 @@ fn put_line(word: &[u8], shown: u64, leaves: &[u16], out: &mut [u8]) -> usize
 }
 
 // The line of a call: its reply, and the first n numbers of its trace buffer.
-pub fn line(reply: Result<Answer, Refusal>, n: usize, trace: &[u16], out: &mut [u8]) -> usize
+pub fn line<C: Cause>(reply: Result<Answer, C>, n: usize, trace: &[u16], out: &mut [u8]) -> usize
     requires { (length trace.now ≤ most_leaves) × (longest_line ≤ length out.old) }
     ensures prefix_len { IsPrefixLen result out.new }
-    ensures value { (result ≡ length (line_of (to_reply reply) (take n trace.now))) × (out.new ≡ line_of (to_reply reply) (take n trace.now) ++ drop result out.old) }
+    ensures value { (result ≡ length (line_of (C.told reply) (take n trace.now))) × (out.new ≡ line_of (C.told reply) (take n trace.now) ++ drop result out.old) }
 {
     put_line(
         reply_word(reply),

@@ -45,6 +45,17 @@ const NO_TEXT: i32 = 84;
 #[derive(Clone, Copy, PartialEq, Eq)]
 pub struct Said;
 
+// The name that a temporary file beside a name is asked for: the letters at its end are replaced. How long it is.
+pub fn temp_name(name: &[u8], out: &mut [u8]) -> usize
+    requires { (length name.now ≤ longest_name) × (longest_name + longest_addition ≤ length out.old) }
+    ensures { IsPrefixLen result out.new }
+{
+    let mut text = Text::new(out);
+    text.put(name);
+    text.put(b".XXXXXX");
+    text.end
+}
+
 // The name of a file that a program reads or makes, and the program's own name with a colon and a blank.
 #[derive(Clone, Copy)]
 pub struct Named<'a> {
@@ -81,15 +92,12 @@ impl Named<'_> {
         }
     }
 
-    // The name that a temporary file beside the name is asked for: the letters at its end are replaced. How long it is.
+    // The name that a temporary file beside the name is asked for; see the function.
     pub fn temp_name(self, out: &mut [u8]) -> usize
         requires { longest_name + longest_addition ≤ length out.old }
         ensures { IsPrefixLen result out.new }
     {
-        let mut text = Text::new(out);
-        text.put(self.name);
-        text.put(b".XXXXXX");
-        text.end
+        temp_name(self.name, out)
     }
 
     // Makes the temporary file beside the name.

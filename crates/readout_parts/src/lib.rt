@@ -92,7 +92,13 @@ pub fn put_values(part: &mut [u8], tree: &[u8], waiting: &[u8], taken: &[u16])
 pub fn reported(marks: &[u8]) -> usize
     ensures { (result ≡ length (omitted_by 0 marks.now)) × (result ≤ length marks.now) }
 {
-    marks.iter().filter(|mark| **mark != 0).count()
+    let mut count = 0;
+    for mark in marks {
+        if *mark != 0 {
+            count += 1;
+        }
+    }
+    count
 }
 
 // The report: the place and the reason of each item with a mark.

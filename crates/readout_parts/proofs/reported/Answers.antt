@@ -1,11 +1,21 @@
 -- `readout_parts::reported` meets its contract.
-use Rattle.std.proofs.Common.{◌≡◌, sym, ◌∙◌, not, eqb, count_by, rules}
-use Rattle.std.proofs.lemmas.List.Sums.{count_by-le-length}
-use Rattle.survey_laws.specs.FileLaws.{omitted_count}
+use Rattle.std.proofs.Common.{ap, ◌<◌, length, arith}
+use Rattle.survey_laws.specs.FileLaws.{omitted-skip, omitted-more, omitted-none}
 use Rattle.readout_parts.proofs.reported.Goals as goal
+use Rattle.readout_parts.proofs.reported.Goals.{then-mark-ne0, else-mark-ne0}
+
+pub loop-mark-preserved : goal.loop-mark-preserved
+loop-mark-preserved c =
+    let l = c.loop-mark in
+    let m = c.args.marks.now in
+    let h : l.mark-index < length m = omega arith in
+    elim c.if-mark-ne0.branch [
+      | then-mark-ne0 w ↦ let e = ap length (omitted-more m l.mark-index h w.if-mark-ne0.true) in omega arith
+      | else-mark-ne0 w ↦ let e = ap length (omitted-skip m l.mark-index h w.if-mark-ne0.false) in omega arith
+    ]
 
 pub returns : goal.returns
 returns c =
-    let m = c.args.marks.now in
-    let e : c.count.result ≡ count_by (λ x. not (eqb x 0)) m = search rules in
-    (e ∙ sym (omitted_count 0 m), rw e (count_by-le-length _ m))
+    let l = c.loop-mark in
+    let e = ap length (omitted-none c.args.marks.now l.mark-index (omega arith)) in
+    omega arith

@@ -1,7 +1,7 @@
 // A call over the bytes that a C host lends: tape and trace around the core, and the state that is left.
 #![tactic(auto)]
 
-ghost use Rattle.std.specs.Prelude.{◌≡◌, ◌≤◌, length, drop};
+ghost use Rattle.std.specs.Prelude.{◌≡◌, ◌≤◌, length, drop, IfOk, MatchResult};
 ghost use Rattle.state_spec.specs.Fit.{places};
 ghost use Rattle.stash_laws.specs.Waiting.{waiting_in, Holds};
 ghost use Rattle.stash.specs.Stash.{saved};
@@ -102,9 +102,19 @@ fn head_left(h: StateHead, r: Ran) -> StateHead
 }
 
 // The state that a call leaves which made its rounds, whose waiting slots are as it left them: it gets its new head.
-pub fn leave_state(state: &mut [u8], h: StateHead, r: Ran)
+fn leave_ran(state: &mut [u8], h: StateHead, r: Ran)
     requires { Holds r.waiting (drop head_length state.old) }
     ensures { state.new ≡ state_bytes (saved h.structure h.size r.mark r.entries r.root r.ahead (waiting_in r.waiting (drop head_length state.old))) }
 {
     write_head(state, head_left(h, r));
+}
+
+// The state that a call leaves: one that made its rounds gives it a new head, and one that was refused left it as it came.
+pub fn leave_state(state: &mut [u8], h: StateHead, called: Result<Ran, Refusal>)
+    requires { IfOk called (λ r. Holds r.waiting (drop head_length state.old)) }
+    ensures { MatchResult called (λ r. state.new ≡ state_bytes (saved h.structure h.size r.mark r.entries r.root r.ahead (waiting_in r.waiting (drop head_length state.old)))) (λ _. state.new ≡ state.old) }
+{
+    if let Ok(r) = called {
+        leave_ran(state, h, r);
+    }
 }

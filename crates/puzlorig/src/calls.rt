@@ -42,7 +42,7 @@ fn answered(
         return Err(Refusal::Unfit);
     }
     let r = call_numbers(head, &mut state[HEAD_LENGTH..], tree, ticket, tape, trace)?;
-    leave_state(state, h, r);
+    leave_state(state, h, Ok(r));
     leave_result(res, r.reply, r.leaves, r.peak);
     r.reply
 }

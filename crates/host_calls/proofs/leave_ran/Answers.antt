@@ -1,8 +1,8 @@
--- `host_calls::leave_state` meets its contract.
+-- `host_calls::leave_ran` meets its contract.
 use borrow.Author.Rules.{rules}
 use Rattle.slot_laws.specs.LittleEndianLaws.{bytes-from}
 use Rattle.host_calls.specs.LeftLaws.{state-left}
-use Rattle.host_calls.proofs.leave_state.Goals as goal
+use Rattle.host_calls.proofs.leave_ran.Goals as goal
 
 pub returns : goal.returns
 returns c =
